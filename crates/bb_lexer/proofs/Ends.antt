@@ -1,0 +1,66 @@
+-- Laws of what stands at the end of a line, and of the first line of a text.
+use Rattle.std.proofs.Common.{◌≡◌, ℕ, zero, suc, ◌+◌, ◌-◌, ◌<◌, ◌≤◌, Bool, true, false, cond, not, ◌==◌, List, [], ◌∷◌, ◌++◌, length, take, drop, get_or, refl, ap, sym, Some, None, position, arith, le_trans, add-one, sub-one}
+use Rattle.std.proofs.Math.Seq.{take-suc}
+use Rattle.std.proofs.lemmas.List.Quantifiers.{position-Some}
+use Rattle.std.proofs.lemmas.List.Sums.{prefix_len_passes}
+use Rattle.std.specs.List.{position_or_len}
+use Rattle.std.proofs.lemmas.Bool.{ltb-false, eqb-true}
+use Rattle.meta_model.specs.Text.{newline, end_kept, without_end}
+use Rattle.meta_model.specs.Lines.{pieces}
+
+-- the last character goes
+pub without_end-goes : (p : ℕ → Bool) (xs : List ℕ) (c : ℕ) → p c ≡ true → without_end p (xs ++ c ∷ []) ≡ without_end p xs
+without_end-goes p [] c h = rw h
+without_end-goes p (x ∷ xs) c h = ap (end_kept p x) (without_end-goes p xs c h)
+
+-- or nothing goes
+kept : (p : ℕ → Bool) (x : ℕ) (ys zs : List ℕ) (c : ℕ) → ys ≡ zs ++ c ∷ [] → end_kept p x ys ≡ x ∷ zs ++ c ∷ []
+kept p x ys [] c e = rw e
+kept p x ys (z ∷ zs) c e = rw e
+
+pub without_end-stays : (p : ℕ → Bool) (xs : List ℕ) (c : ℕ) → p c ≡ false → without_end p (xs ++ c ∷ []) ≡ xs ++ c ∷ []
+without_end-stays p [] c h = rw h
+without_end-stays p (x ∷ xs) c h = kept p x (without_end p (xs ++ c ∷ [])) xs c (without_end-stays p xs c h)
+
+-- at the place e of the line
+pub without_end-back : (p : ℕ → Bool) (xs : List ℕ) (e : ℕ) → 0 < e → e ≤ length xs → p (get_or xs (e - 1) 0) ≡ true → without_end p (take (e - 1) xs) ≡ without_end p (take e xs)
+without_end-back p xs zero h k t = absurd (omega arith)
+without_end-back p xs (suc n) h k t = let t' = rw sub-one at t in rw (sub-one, take-suc xs n 0 k, without_end-goes p (take n xs) (get_or xs n 0) t')
+
+pub without_end-here : (p : ℕ → Bool) (xs : List ℕ) (e : ℕ) → 0 < e → e ≤ length xs → p (get_or xs (e - 1) 0) ≡ false → without_end p (take e xs) ≡ take e xs
+without_end-here p xs zero h k t = absurd (omega arith)
+without_end-here p xs (suc n) h k t = let t' = rw sub-one at t in rw (take-suc xs n 0 k, without_end-stays p (take n xs) (get_or xs n 0) t')
+
+-- the first newline ends the first line
+first_line : (bs : List ℕ) (i : ℕ) → i < length bs → (get_or bs i 0 == newline) ≡ true → ((k : ℕ) → k < i → (get_or bs k 0 == newline) ≡ false)
+    → pieces bs ≡ take i bs ∷ pieces (drop (suc i) bs)
+first_line [] i lt at before = absurd (omega arith)
+first_line (b ∷ bs) zero lt at before = rw at
+first_line (b ∷ bs) (suc i) lt at before = rw (before 0 (omega arith), first_line bs i (omega arith) at (λ k h. before (suc k) (omega arith)))
+
+pub pieces-newline : (bs : List ℕ) (i : ℕ) → position (λ b. b == newline) bs ≡ Some i → pieces bs ≡ take i bs ∷ pieces (drop (i + 1) bs)
+pieces-newline bs i e = let h = position-Some (λ b. b == newline) bs i 0 e in rw add-one (first_line bs i h.0 h.1 h.2)
+
+one_line : (b : ℕ) (bs : List ℕ) → ((k : ℕ) → k < suc (length bs) → (get_or (b ∷ bs) k 0 == newline) ≡ false) → pieces (b ∷ bs) ≡ (b ∷ bs) ∷ []
+one_line b [] h = rw (h 0 (omega arith))
+one_line b (c ∷ bs) h = rw (h 0 (omega arith), one_line c bs (λ k lt. h (suc k) (omega arith)))
+
+none_of_cond : (b : Bool) (n : ℕ) → cond b (Some n) None ≡ None → b ≡ false
+none_of_cond true n e = cc
+none_of_cond false n e = refl
+
+false_of_not : (b : Bool) → not b ≡ true → b ≡ false
+false_of_not true e = sym e
+false_of_not false e = refl
+
+none_before : (bs : List ℕ) → position (λ b. b == newline) bs ≡ None → (k : ℕ) → k < length bs → (get_or bs k 0 == newline) ≡ false
+none_before bs e k lt = let h = ltb-false (position_or_len (λ x. x == newline) bs) (length bs) (none_of_cond _ _ e) in
+    false_of_not (get_or bs k 0 == newline) (prefix_len_passes (λ x. not (x == newline)) bs k 0 (le_trans lt h))
+
+pub pieces-last : (bs : List ℕ) → 0 < length bs → position (λ b. b == newline) bs ≡ None → pieces bs ≡ bs ∷ []
+pieces-last [] h e = absurd (omega arith)
+pieces-last (b ∷ bs) h e = one_line b bs (none_before (b ∷ bs) e)
+
+-- the first newline's place has a newline
+pub newline_there : (bs : List ℕ) (i : ℕ) → position (λ b. b == newline) bs ≡ Some i → (i < length bs) × (get_or bs i 0 ≡ newline)
+newline_there bs i e = let h = position-Some (λ b. b == newline) bs i 0 e in (h.0, eqb-true (get_or bs i 0) newline h.1)

@@ -1,0 +1,4 @@
+pub mod Ends
+pub mod Found
+pub mod WholeLines
+pub mod Utf8Texts

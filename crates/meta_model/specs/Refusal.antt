@@ -1,0 +1,23 @@
+-- Why a value is refused, and how refusals are passed on.
+use Rattle.std.specs.Prelude.{ℕ, Bool, true, false, List, Result, Ok, Err, ⊤}
+
+-- There are four causes (own rules): a name is met in its own expansion; more than 64 names would be in expansion at
+-- once, or a text nests references more than 64 deep; an expanded text would have more than 1,048,576 bytes; the passes of
+-- OVERRIDES don't settle. The first names the name that is met, the next two the innermost name in expansion, or the empty
+-- text; the last has the lists of the last two passes.
+pub data Refusal : Type 0 where
+  value_cycle : (name : List ℕ) → Refusal
+  too_deep : (name : List ℕ) → Refusal
+  too_long : (name : List ℕ) → Refusal
+  unstable : (before last : List (List ℕ)) → Refusal
+
+-- what follows, where this is no refusal
+infixl 20 ◌>>=◌
+abbrev pub ◌>>=◌ : {A B : Type 0} → Result A Refusal → (A → Result B Refusal) → Result B Refusal
+Ok a >>= f = f a
+Err refusal >>= f = Err refusal
+
+-- a refusal, unless the test passes
+abbrev pub require : Bool → Refusal → Result ⊤ Refusal
+require true refusal = Ok tt
+require false refusal = Err refusal

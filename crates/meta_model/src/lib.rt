@@ -1,0 +1,42 @@
+//! The language of recipes: its plain values, and the definitions of what its texts mean.
+//!
+//! The definitions stand in `specs/`, one file for each subject, over lists of bytes and the plain values of this crate;
+//! the contracts of the crates that read metadata cite them. Two files of examples try them: each clause there is an
+//! equation whose sides compute to the same. What is proved of the definitions for all texts and entries:
+//!
+//! - each file has statements or a first fault, one meaning alone, and never both (`one_meaning`);
+//! - one more entry changes what all entries give by one step (`step_laws`);
+//! - no entry that a statement adds has the operator `:=` (`entry_laws`);
+//! - the parts of a text have that text, and no reading of it has more references (`reading_laws`);
+//! - an expanded text has at most 1,048,576 bytes, and depends on nothing but what is found for each name
+//!   (`expansion_laws`);
+//! - the winning form of a name is a form, no other beats it, and there is one such form alone (`winning_laws`).
+//!
+//! Beside the language stand what the shell is given of a task and what a clean build of the task gives (`Script`,
+//! `CleanBuild`), as far as a run needs them so far, and how a run ends.
+//!
+//! Which definition is right no proof can say: each one's comment states its rule, and the examples compare it with
+//! answers that were derived from the rules by hand.
+#![tactic(auto)]
+
+mod entry;
+mod event;
+mod facts;
+mod grammar_examples;
+mod laws;
+mod line;
+mod list;
+mod plan;
+mod statement;
+mod value;
+mod value_examples;
+
+pub use entry::{EntryLine, Late, LateLine, Op};
+pub use event::{Avail, Cut, Event, Logged, Status, Why};
+pub use facts::{FactSet, Graph, Node, Package, RecipeFacts, Target, TaskFacts, TaskId};
+pub use laws::{entry_laws, expansion_laws, one_meaning, reading_laws, step_laws, winning_laws};
+pub use line::{Kind, Line, Place, SyntaxFault};
+pub use list::ListOf;
+pub use plan::{Options, Plan, PlanTask};
+pub use statement::Statement;
+pub use value::{Key, KeyLine, Resolved};

@@ -1,0 +1,128 @@
+-- Paths round a folder, and what is held there.
+use Rattle.std.proofs.Common.{◌≡◌, ◌⊎◌, inl, inr, ⊎_elim, ℕ, ◌+◌, ◌<◌, List, [], ◌∷◌, ◌++◌, length, get_or, Some, None, Result, refl, sym, ◌∙◌, ap, subst, arith, append_assoc, length-append}
+use Rattle.std.specs.Prelude.{IsSome}
+use Rattle.std.proofs.lemmas.List.{get_or_default}
+use Rattle.std.proofs.lemmas.Bool.{cases_eq}
+use Rattle.tree_model.specs.declared.entry.Entry.{Entry}
+use Rattle.outside_traits.specs.declared.fault.DiskFault.{DiskFault}
+use Rattle.tree_model.specs.Path.{IsBelow, inside}
+use Rattle.tree_model.specs.Tree.{IsTree}
+use Rattle.outside_traits.specs.Store.{Store, IsFree, IsApart, AgreesApart, IsOpen, ChangesAt}
+use Rattle.outside_traits.specs.Story.{Story}
+use Rattle.outside_traits.specs.Answers.{Lists, Writes, Removes}
+use Rattle.outside_traits.specs.Passes.{Passes}
+use Rattle.outside_traits.proofs.Puts.{path_cases}
+use Rattle.outside_traits.proofs.Runs.{passes_none, passes_so, passes_again}
+use Rattle.outside_traits.proofs.Calls.{then_same, lists_passes, writes_passes, removes_passes}
+use Rattle.outside_traits.proofs.Held.{none_unless}
+use Rattle.outside_traits.proofs.Laid.{HoldsFirst, tree_distinct, tree_level}
+
+-- what stands above a path under the folder
+pub above_under : (folder p q : List ℕ) → IsBelow q (inside folder p) → IsBelow q folder ⊎ ((q ≡ folder) ⊎ ((r : List ℕ) × (q ≡ inside folder r) × IsBelow r p))
+above_under [] p [] below = inr (inl refl)
+above_under [] p (x ∷ q) below =
+    let head : 47 ≡ x = cc (below.1) in
+    let tail : p ≡ q ++ 47 ∷ below.0 = cc (below.1) in
+    inr (inr (q, ap (λ (y : ℕ). y ∷ q) (sym head), (below.0, tail)))
+above_under (f ∷ folder) p [] below = let head : f ≡ 47 = cc (below.1) in inl (folder, ap (λ (y : ℕ). y ∷ folder) head)
+above_under (f ∷ folder) p (x ∷ q) below =
+    let head : f ≡ x = cc (below.1) in
+    let tail : folder ++ 47 ∷ p ≡ q ++ 47 ∷ below.0 = cc (below.1) in
+    ⊎_elim (λ up. inl (up.0, λ i. head i ∷ up.1 i))
+    (λ other. ⊎_elim (λ same. inr (inl (λ i. sym head i ∷ same i))) (λ in_it. inr (inr (in_it.0, (λ i. sym head i ∷ in_it.1 i), in_it.2))) other)
+    (above_under folder p q (below.0, tail))
+
+pub under_same : (folder p q : List ℕ) → inside folder p ≡ inside folder q → p ≡ q
+under_same [] p q same = cc
+under_same (f ∷ folder) p q same = under_same folder p q cc
+
+pub AgreesApart-same : (folder : List ℕ) (i : Store) → AgreesApart folder i i
+AgreesApart-same folder i = record { apart = λ q far. refl }
+
+pub AgreesApart-joins : (folder : List ℕ) (i j k : Store) → AgreesApart folder i j → AgreesApart folder j k → AgreesApart folder i k
+AgreesApart-joins folder i j k first second = record { apart = λ q far. second.apart q far ∙ first.apart q far }
+
+pub AgreesApart-changes : (folder p : List ℕ) (i j : Store) → (IsApart folder p → ⊥) → ChangesAt p i j → AgreesApart folder i j
+AgreesApart-changes folder p i j near change = record { apart = λ q far. change.others q (λ same. near (subst (IsApart folder) same far)) }
+
+pub near_folder : (folder : List ℕ) → IsApart folder folder → ⊥
+near_folder folder far = far.not_folder refl
+
+pub near_above : (folder p : List ℕ) → IsBelow p folder → IsApart folder p → ⊥
+near_above folder p below far = far.not_above below
+
+pub near_under : (folder p : List ℕ) → IsBelow folder p → IsApart folder p → ⊥
+near_under folder p below far = far.not_under below
+
+-- a run that changes nothing apart from the folder
+abbrev pub Stays : List ℕ → Story → Story → Type 0
+Stays folder a b = Passes a b (AgreesApart folder)
+
+pub stays_none : (folder : List ℕ) (a : Story) → Stays folder a a
+stays_none folder a = passes_none a (AgreesApart folder) (AgreesApart-same folder)
+
+pub stays_again : (folder : List ℕ) {a b c : Story} → Stays folder a b → Stays folder b c → Stays folder a c
+stays_again folder first second = passes_again (AgreesApart-joins folder) first second
+
+pub stays_removes : {folder p : List ℕ} {a b c : Story} {T : Type 0} {r : Result T DiskFault} → (IsApart folder p → ⊥) → Stays folder a b → Removes p b c r → Stays folder a c
+stays_removes {folder} {p} near run did = stays_again folder run (passes_so (AgreesApart folder) (removes_passes did) (λ i j change. AgreesApart-changes folder p i j near change))
+
+pub stays_writes : {folder p : List ℕ} {e : Entry} {a b c : Story} {T : Type 0} {r : Result T DiskFault} → (IsApart folder p → ⊥) → Stays folder a b → Writes p e b c r → Stays folder a c
+stays_writes {folder} {p} near run did = stays_again folder run (passes_so (AgreesApart folder) (writes_passes did) (λ i j change. AgreesApart-changes folder p i j near change))
+
+pub stays_lists : {folder p : List ℕ} {a b c : Story} {r : Result (List (List ℕ)) DiskFault} → Stays folder a b → Lists p b c r → Stays folder a c
+stays_lists run did = then_same run (lists_passes did)
+
+-- a folder that is open stays so, where nothing comes to stand at it or above it
+pub open_changes : (folder p : List ℕ) (i j : Store) → IsBelow folder p → ChangesAt p i j → IsOpen folder i → IsOpen folder j
+open_changes folder p i j below change was = record {
+  at = change.others folder (λ same. not_below_itself p (subst (λ (f : List ℕ). IsBelow f p) same below)) ∙ was.at;
+  above = λ q up. change.others q (λ same. not_both (subst (λ (f : List ℕ). IsBelow f folder) same up)) ∙ was.above q up;
+}
+  where
+    not_below_itself : (q : List ℕ) → IsBelow q q → ⊥
+    not_below_itself q itself = let e = ap length itself.1 ∙ length-append q (47 ∷ itself.0) in omega arith
+
+    not_both : IsBelow p folder → ⊥
+    not_both up = let e = ap length below.1 ∙ length-append folder (47 ∷ below.0) in let f = ap length up.1 ∙ length-append p (47 ∷ up.0) in omega arith
+
+module _ (folder : List ℕ) (tree : List (List ℕ × Entry)) (n : ℕ) (fits : n < length tree) (is_tree : IsTree tree) (h : Store) (first : HoldsFirst n folder tree h) (open_at : IsOpen folder h) (item : List ℕ × Entry) (is_item : item ≡ get_or tree n item) where
+  not_first : (q : List ℕ) → ((k : ℕ) → k < n → (get_or tree k item).0 ≡ q → ⊥) → h (inside folder q) ≡ None
+  not_first q far = none_unless (h (inside folder q)) (λ some. let w = first.only q some in far w.0 w.1 (w.2 item))
+
+  -- the next path is free
+  pub next_free : IsFree h (inside folder item.0)
+  next_free = record {
+    above = λ q up. ⊎_elim (λ a. open_at.above q a) (λ other. ⊎_elim (λ same. ap h same ∙ open_at.at) (λ w. ap h w.1 ∙ not_first w.0 (far_above w.0 w.2)) other) (above_under folder item.0 q up);
+    below = λ q down. ap h (down.1 ∙ append_assoc folder (47 ∷ item.0) (47 ∷ down.0)) ∙ not_first (item.0 ++ 47 ∷ down.0) (far_below down.0);
+  }
+    where
+      far_above : (r : List ℕ) → IsBelow r item.0 → (k : ℕ) → k < n → (get_or tree k item).0 ≡ r → ⊥
+      far_above r up k lt same = tree_level tree k n item is_tree (omega arith) fits
+          (subst (λ (x : List ℕ × Entry). IsBelow (get_or tree k item).0 x.0) is_item (subst (λ (s : List ℕ). IsBelow s item.0) (sym same) up))
+
+      far_below : (r : List ℕ) (k : ℕ) → k < n → (get_or tree k item).0 ≡ item.0 ++ 47 ∷ r → ⊥
+      far_below r k lt same = tree_level tree n k item is_tree fits (omega arith)
+          (subst (λ (x : List ℕ × Entry). IsBelow x.0 (get_or tree k item).0) is_item (r, same))
+
+  -- and then one entry more is held
+  pub next_held : (h' : Store) → ChangesAt (inside folder item.0) h h' → h' (inside folder item.0) ≡ Some item.1 → HoldsFirst (n + 1) folder tree h'
+  next_held h' change now = record { each = each; only = only }
+    where
+      each : (k : ℕ) (d : List ℕ × Entry) → k < n + 1 → h' (inside folder (get_or tree k d).0) ≡ Some (get_or tree k d).1
+      each k d lt = elim (cases_eq k n) [
+        | inl same ↦
+            let at_k : get_or tree k d ≡ item = ap (λ (m : ℕ). get_or tree m d) same ∙ get_or_default tree n d item fits ∙ sym is_item in
+            ap (λ (x : List ℕ × Entry). h' (inside folder x.0)) at_k ∙ now ∙ ap (λ (x : List ℕ × Entry). Some x.1) (sym at_k)
+        | inr other ↦
+            let before : k < n = omega arith in
+            change.others (inside folder (get_or tree k d).0) (λ same. tree_distinct tree k n d is_tree before fits
+            (under_same folder (get_or tree k d).0 item.0 same ∙ ap (λ (x : List ℕ × Entry). x.0) (is_item ∙ get_or_default tree n item d fits)))
+            ∙ first.each k d before
+      ]
+
+      only : (q : List ℕ) → IsSome (h' (inside folder q)) → (k : ℕ) × (k < n + 1) × ((d : List ℕ × Entry) → (get_or tree k d).0 ≡ q)
+      only q some = elim (path_cases (inside folder q) (inside folder item.0)) [
+        | inl same ↦ (n, omega arith, λ d. ap (λ (x : List ℕ × Entry). x.0) (get_or_default tree n d item fits ∙ sym is_item) ∙ sym (under_same folder q item.0 same))
+        | inr ne ↦ let w = first.only q (subst IsSome (change.others (inside folder q) ne) some) in (w.0, omega (arith, w.1), w.2)
+      ]

@@ -1,0 +1,33 @@
+-- What each call of a disk did, by its answer.
+use Rattle.std.specs.Prelude.{◌≡◌, ℕ, List, Option, Some, None, Result, Ok, Err}
+use Rattle.tree_model.specs.declared.entry.Entry.{Entry}
+use Rattle.outside_traits.specs.declared.fault.DiskFault.{DiskFault}
+use Rattle.outside_traits.specs.declared.fault.DiskFault.TheVariants.{Failed, Memory}
+use Rattle.outside_traits.specs.Store.{IsListing}
+use Rattle.outside_traits.specs.Story.{Story, looked, synced, put_at}
+
+-- what holds at each answer
+abbrev pub Answers : {T : Type 0} → Result T DiskFault → (T → Type 0) → Type 0 → Type 0 → Type 0
+Answers (Ok v) ok failed memory = ok v
+Answers (Err Failed) ok failed memory = failed
+Answers (Err Memory) ok failed memory = memory
+
+-- a read gives what the path holds, and changes nothing
+pub record Reads (path : List ℕ) (old new : Story) (result : Result (Option Entry) DiskFault) : Type 0 where
+  pub answers : Answers result (λ found. (found ≡ old.held path) × (new ≡ looked old)) (new ≡ looked old) (new ≡ old)
+
+-- a list gives just the held paths that begin with the prefix, and changes nothing
+pub record Lists (prefix : List ℕ) (old new : Story) (result : Result (List (List ℕ)) DiskFault) : Type 0 where
+  pub answers : Answers result (λ paths. IsListing prefix old.held paths × (new ≡ looked old)) (new ≡ looked old) (new ≡ old)
+
+-- after a write the path holds the entry; after a failed one it holds any entry or nothing
+pub record Writes (path : List ℕ) (entry : Entry) (old new : Story) {T : Type 0} (result : Result T DiskFault) : Type 0 where
+  pub answers : Answers result (λ _. new ≡ put_at path (Some entry) old) ((x : Option Entry) × (new ≡ put_at path x old)) (new ≡ old)
+
+-- after a removal the path holds nothing; after a failed one it holds any entry or nothing
+pub record Removes (path : List ℕ) (old new : Story) {T : Type 0} (result : Result T DiskFault) : Type 0 where
+  pub answers : Answers result (λ _. new ≡ put_at path None old) ((x : Option Entry) × (new ≡ put_at path x old)) (new ≡ old)
+
+-- a sync changes nothing that is held
+pub record Syncs (old new : Story) {T : Type 0} (result : Result T DiskFault) : Type 0 where
+  pub answers : Answers result (λ _. new ≡ synced old) (new ≡ looked old) (new ≡ old)

@@ -1,0 +1,6 @@
+pub mod Answers
+pub mod Bench
+pub mod Fault
+pub mod Passes
+pub mod Store
+pub mod Story

@@ -1,0 +1,60 @@
+-- What a device holds, as a function from paths, and how one store differs from another.
+use Rattle.std.specs.Prelude.{◌≡◌, ◌≢◌, ℕ, List, ◌++◌, Option, None, IsSome, Contains, if◌then◌else◌}
+use Rattle.std.specs.Ordering.{nat_cmp}
+use Rattle.std.specs.List.Sorted.{IsStrictlySortedBy}
+use Rattle.std.specs.Cmp.Lexicographic.{slice_cmp}
+use Rattle.std.specs.Str.{bytes_eq}
+use Rattle.tree_model.specs.declared.entry.Entry.{Entry}
+use Rattle.tree_model.specs.Path.{IsBelow, inside}
+use Rattle.tree_model.specs.Tree.{entry_at}
+
+-- what each path holds
+abbrev pub Store : Type 0
+Store = List ℕ → Option Entry
+
+-- no held path is a proper ancestor of another
+abbrev pub IsTreelike : Store → Type 0
+IsTreelike held = (p q : List ℕ) → IsBelow p q → IsSome (held p) → IsSome (held q) → ⊥
+
+-- no held path is a proper ancestor or descendant of p
+pub record IsFree (held : Store) (p : List ℕ) : Type 0 where
+  pub above : (q : List ℕ) → IsBelow q p → held q ≡ None
+  pub below : (q : List ℕ) → IsBelow p q → held q ≡ None
+
+-- the store with this at the path
+abbrev pub put : Store → List ℕ → Option Entry → Store
+put held p x = λ q. if bytes_eq p q then x else held q
+
+-- the new store differs from the old at the path alone
+pub record ChangesAt (p : List ℕ) (old new : Store) : Type 0 where
+  pub others : (q : List ℕ) → q ≢ p → new q ≡ old q
+
+-- a text that begins with the prefix
+abbrev pub BeginsWith : List ℕ → List ℕ → Type 0
+BeginsWith prefix q = (rest : List ℕ) × (q ≡ prefix ++ rest)
+
+-- just the paths with the prefix at which something is held, each once, in byte order
+pub record IsListing {V : Type 0} (prefix : List ℕ) (held : List ℕ → Option V) (paths : List (List ℕ)) : Type 0 where
+  pub ascending : IsStrictlySortedBy (slice_cmp nat_cmp) paths
+  pub are_held : (q : List ℕ) → Contains paths q → BeginsWith prefix q × IsSome (held q)
+  pub all : (q : List ℕ) → BeginsWith prefix q → IsSome (held q) → Contains paths q
+
+-- the path is neither the folder nor above it nor under it
+pub record IsApart (folder q : List ℕ) : Type 0 where
+  pub not_folder : q ≢ folder
+  pub not_above : IsBelow q folder → ⊥
+  pub not_under : IsBelow folder q → ⊥
+
+-- the stores agree on all paths but the folder, those above it and those under it
+pub record AgreesApart (folder : List ℕ) (old new : Store) : Type 0 where
+  pub apart : (q : List ℕ) → IsApart folder q → new q ≡ old q
+
+-- nothing is held at the folder or above it
+pub record IsOpen (folder : List ℕ) (held : Store) : Type 0 where
+  pub at : held folder ≡ None
+  pub above : (q : List ℕ) → IsBelow q folder → held q ≡ None
+
+-- exactly the tree is held under the folder, and nothing at the folder or above it
+pub record HoldsTree (folder : List ℕ) (tree : List (List ℕ × Entry)) (held : Store) : Type 0 where
+  pub entries : (path : List ℕ) → held (inside folder path) ≡ entry_at tree path
+  pub outside : IsOpen folder held

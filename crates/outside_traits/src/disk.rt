@@ -1,0 +1,63 @@
+// The disk: a map from clean paths to entries, none above another.
+ghost use Rattle.std.specs.Prelude.{◌≤◌, List, ℕ, length};
+ghost use Rattle.tree_model.specs.Path.{IsClean};
+ghost use Rattle.outside_traits.specs.Store.{IsFree};
+ghost use Rattle.outside_traits.specs.Story.{Story, IsSound};
+ghost use Rattle.outside_traits.specs.Answers.{Reads, Lists, Writes, Removes, Syncs};
+ghost use Rattle.outside_traits.specs.Fault.{Counts, disk_failed};
+
+use crate::DiskFault;
+use std::alloc::Global;
+use tree_model::{Entry, Texts};
+
+/// A map from clean paths to entries, in which no path is a proper ancestor of another.
+///
+/// What is built is kept on one. Every call answers `Failed` only where the count of faults rose in it, and leaves
+/// the count as it was with any other answer. A call that is refused for want of memory changes nothing. (Own rule:
+/// no part of the BitBake User Manual.)
+pub trait Disk {
+    /// Disks of this type tell what they hold. One over a real folder tells nothing.
+    ghost tells: { Type 0 };
+
+    /// The most bytes of a path that is written. It never changes.
+    ghost reach: { ℕ };
+
+    /// How often the disk has failed, up to 2^64 - 1.
+    ghost faults: { Self → ℕ };
+
+    /// What is held.
+    ghost story: { Self → Story };
+
+    /// What the path holds.
+    fn read(&mut self, alloc: Global, path: &str) -> Result<Option<Entry>, DiskFault>
+        ensures told { tells → Reads path.now (story self.old) (story self.new) result }
+        ensures cause { Counts (faults self.old) (faults self.new) (disk_failed result) };
+
+    /// Puts a whole entry at a path, in place of one that is held there. After `Failed` the path holds any entry or
+    /// nothing.
+    fn write(&mut self, path: &str, entry: &Entry) -> Result<(), DiskFault>
+        requires clean { IsClean path.now }
+        requires within_reach { length path.now ≤ reach }
+        requires free { tells → IsFree (story self.old).held path.now }
+        ensures told { tells → Writes path.now entry.now (story self.old) (story self.new) result }
+        ensures cause { Counts (faults self.old) (faults self.new) (disk_failed result) };
+
+    /// Takes away what the path holds. Ok also where that is nothing. After `Failed` the path holds any entry or
+    /// nothing.
+    fn remove(&mut self, path: &str) -> Result<(), DiskFault>
+        ensures told { tells → Removes path.now (story self.old) (story self.new) result }
+        ensures cause { Counts (faults self.old) (faults self.new) (disk_failed result) };
+
+    /// The held paths that begin with the prefix, in byte order.
+    fn list(&mut self, alloc: Global, prefix: &str) -> Result<Texts, DiskFault>
+        ensures told { tells → Lists prefix.now (story self.old) (story self.new) result }
+        ensures cause { Counts (faults self.old) (faults self.new) (disk_failed result) };
+
+    /// Makes all that is held durable. What a crash may leave isn't told yet.
+    fn sync(&mut self) -> Result<(), DiskFault>
+        ensures told { tells → Syncs (story self.old) (story self.new) result }
+        ensures cause { Counts (faults self.old) (faults self.new) (disk_failed result) };
+
+    /// What is held stands at clean paths, none above another.
+    ghost sound: { (disk : Self) → tells → IsSound (story disk) };
+}

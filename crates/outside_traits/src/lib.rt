@@ -1,0 +1,23 @@
+//! The devices that the program is handed: layers of metadata, a disk, benches and a sink.
+//!
+//! Each is a trait. Its ghost members say what an object holds, where its type tells that: objects in memory do, those
+//! over real folders, `sh` and standard output don't (there `tells` has no proof). Each object has a count of faults
+//! that never falls. A call answers that its device failed only where that count rose in the call, so code that is
+//! generic over the trait can't invent a failure.
+//!
+//! `put_tree` makes a folder of any disk exactly a tree.
+#![tactic(auto)]
+
+mod bench;
+mod disk;
+mod fault;
+mod layers;
+mod sink;
+mod trees;
+
+pub use bench::{Bench, Taken};
+pub use disk::Disk;
+pub use fault::{BenchFault, DiskFault, ReadFault, SinkFault};
+pub use layers::Layers;
+pub use sink::Sink;
+pub use trees::put_tree;

@@ -1,0 +1,100 @@
+// A folder of a disk becomes a tree.
+ghost use Rattle.std.specs.Prelude.{◌≡◌, ◌≤◌, ℕ, List, None, length, All, OnOk, IfOk};
+ghost use Rattle.tree_model.specs.Path.{IsClean, inside};
+ghost use Rattle.tree_model.specs.Tree.{IsTree};
+ghost use Rattle.outside_traits.specs.Store.{AgreesApart, HoldsTree, IsOpen};
+ghost use Rattle.outside_traits.specs.Passes.{Passes};
+ghost use Rattle.outside_traits.specs.Fault.{Counts, disk_failed};
+
+use crate::{Disk, DiskFault};
+use std::alloc::Global;
+use tree_model::{Entry, Mem, Text, Tree};
+
+/// Makes the folder hold exactly the tree, whatever was held there, and nothing at the folder's own path or above it.
+/// What is in the way is removed first. Only the folder's path, those above it and those under it change, also where
+/// the call is refused.
+///
+/// The folder is relative to the disk. `Failed` comes only where the disk's count of faults rose. (Own rule.)
+pub fn put_tree<D: Disk>(
+    alloc: Global,
+    disk: &mut D,
+    folder: &str,
+    tree: &Tree,
+) -> Result<(), DiskFault>
+    requires clean { All (λ e. IsClean (inside folder.now e.0)) tree.now }
+    requires within_reach { All (λ e. length (inside folder.now e.0) ≤ D.reach) tree.now }
+    ensures held { D.tells → OnOk result (HoldsTree folder.now tree.now (D.story disk.new).held) }
+
+    // Whatever it answers.
+    ensures others { D.tells → Passes (D.story disk.old) (D.story disk.new) (AgreesApart folder.now) }
+    ensures cause { Counts (D.faults disk.old) (D.faults disk.new) (disk_failed result) }
+{
+    clear_above(disk, folder)?;
+    clear_under(alloc, disk, folder)?;
+    fill(alloc, disk, folder, tree.entries())
+}
+
+/// Removes what stands at the folder or above it.
+fn clear_above<D: Disk>(disk: &mut D, folder: &str) -> Result<(), DiskFault>
+    ensures open { D.tells → OnOk result (IsOpen folder.now (D.story disk.new).held) }
+    ensures others { D.tells → Passes (D.story disk.old) (D.story disk.new) (AgreesApart folder.now) }
+    ensures cause { Counts (D.faults disk.old) (D.faults disk.new) (disk_failed result) }
+{
+    disk.remove(folder)?;
+    let bytes = folder.as_bytes();
+    for i in 0..bytes.len() {
+        if bytes[i] == b'/' {
+            disk.remove(&folder[..i])?;
+        }
+    }
+    Ok(())
+}
+
+/// Removes what stands under the folder.
+fn clear_under<D: Disk>(alloc: Global, disk: &mut D, folder: &str) -> Result<(), DiskFault>
+    requires { D.tells → IsOpen folder.now (D.story disk.old).held }
+    ensures open { D.tells → IsOpen folder.now (D.story disk.new).held }
+    ensures under { D.tells → OnOk result ((q : List ℕ) → (D.story disk.new).held (inside folder.now q) ≡ None) }
+    ensures others { D.tells → Passes (D.story disk.old) (D.story disk.new) (AgreesApart folder.now) }
+    ensures cause { Counts (D.faults disk.old) (D.faults disk.new) (disk_failed result) }
+{
+    let prefix = joined(alloc, folder, "")?;
+    let paths = disk.list(alloc, prefix.as_str())?;
+    for path in paths.as_slice() {
+        disk.remove(path.as_str())?;
+    }
+    Ok(())
+}
+
+/// Writes the tree under a folder that holds nothing.
+fn fill<D: Disk>(
+    alloc: Global,
+    disk: &mut D,
+    folder: &str,
+    tree: &[(Text, Entry)],
+) -> Result<(), DiskFault>
+    requires tree { IsTree tree.now }
+    requires clean { All (λ e. IsClean (inside folder.now e.0)) tree.now }
+    requires within_reach { All (λ e. length (inside folder.now e.0) ≤ D.reach) tree.now }
+    requires open { D.tells → IsOpen folder.now (D.story disk.old).held }
+    requires under { D.tells → (q : List ℕ) → (D.story disk.old).held (inside folder.now q) ≡ None }
+    ensures held { D.tells → OnOk result (HoldsTree folder.now tree.now (D.story disk.new).held) }
+    ensures others { D.tells → Passes (D.story disk.old) (D.story disk.new) (AgreesApart folder.now) }
+    ensures cause { Counts (D.faults disk.old) (D.faults disk.new) (disk_failed result) }
+{
+    for (path, entry) in tree {
+        let full = joined(alloc, folder, path.as_str())?;
+        disk.write(full.as_str(), entry)?;
+    }
+    Ok(())
+}
+
+/// The path of a place in a folder.
+fn joined(alloc: Global, folder: &str, path: &str) -> Result<Text, Mem>
+    ensures { IfOk result (λ whole. whole ≡ inside folder.now path.now) }
+{
+    let mut whole = Text::from_str(alloc, folder)?;
+    whole.push_str("/")?;
+    whole.push_str(path)?;
+    Ok(whole)
+}

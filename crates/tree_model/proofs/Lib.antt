@@ -1,0 +1,9 @@
+pub mod EditLemmas
+pub mod FolderLemmas
+pub mod HashLemmas
+pub mod LawLemmas
+pub mod ManifestLemmas
+pub mod OrderLemmas
+pub mod OverlayLemmas
+pub mod PathLemmas
+pub mod TreeLemmas

@@ -1,0 +1,10 @@
+pub mod Bytes
+pub mod Folder
+pub mod Hash
+pub mod Manifest
+pub mod Overlay
+pub mod Path
+pub mod Reach
+pub mod Refusal
+pub mod Size
+pub mod Tree
