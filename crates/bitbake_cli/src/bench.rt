@@ -1,0 +1,235 @@
+// A folder in which `sh` runs scripts.
+ghost use Rattle.std.specs.Prelude.{[], Ok, None, true};
+
+use crate::faults::{is_memory, one_more};
+use crate::folder::{
+    Item, Part, is_too_long, join, list_items, look, open_up, put_entry, read_entry,
+};
+use outside_traits::{Bench, BenchFault, Taken};
+use std::alloc::{AllocError, Global};
+use std::env::VarError;
+use std::fs::File;
+use std::io::ErrorKind;
+use std::os::unix::process::ExitStatusExt;
+use std::process::{Command, ExitStatus, Processes, Stdio};
+use std::rt::{Env, Files};
+use std::{env, fs, io};
+use tree_model::{Entry, Size, Tree, TreeFault};
+
+/// The part of a bench in which the script runs, and whose tree is its output.
+const WORK: &str = "work";
+
+/// The parts of a bench, each with the shell variable that has its place.
+const PARTS: [(&str, &str); 3] = [
+    (WORK, "WORKDIR"),
+    ("deps", "DEPSDIR"),
+    ("files", "FILESDIR"),
+];
+
+/// The only variable that a script has from the program's own environment.
+const SEARCH_PATH: &str = "PATH";
+
+/// A folder `build/bench/K` of the current folder, which is made at first use.
+///
+/// Scripts run in its folder `work`, by the `sh` that the search path names, with an empty standard input; what they
+/// write goes to its file `log`. It tells nothing.
+#[derive(Drop)]
+pub struct ShBench<R> {
+    rt: R,
+    folder: String,
+    faults: u64,
+}
+
+impl<R> ShBench<R> {
+    ghost use Rattle.outside_traits.specs.Fault.{Counts, bench_failed};
+
+    /// Counts the fault where a call of the system failed.
+    fn count<T: Drop>(&mut self, done: io::Result<T>) -> Result<T, BenchFault>
+        ensures { Counts self.old.faults self.new.faults (bench_failed result) }
+    {
+        match done {
+            Ok(value) => Ok(value),
+            Err(error) if is_memory(&error) => Err(BenchFault::Memory),
+            Err(_) => {
+                self.faults = one_more(self.faults);
+                Err(BenchFault::Failed)
+            }
+        }
+    }
+}
+
+impl<R: Files<File = File> + Env + Processes + AllocGlobal + Clone + Drop> ShBench<R> {
+    /// The bench of a number, without a fault so far.
+    pub fn new(rt: R, number: u32) -> Result<Self, AllocError> {
+        let folder = format!(in rt.alloc(); "build/bench/{number}")?;
+        Ok(ShBench {
+            rt,
+            folder,
+            faults: 0,
+        })
+    }
+
+    /// The place of a part of the bench, from the current folder.
+    fn place(&self, part: &str) -> io::Result<String> {
+        join(self.rt.alloc(), self.folder.as_str(), part)
+    }
+
+    /// The place of a part of the bench, from the root of the system.
+    fn whole_place(&self, part: &str) -> io::Result<String> {
+        let here = env::current_dir(&self.rt)?;
+        let bench = join(
+            self.rt.alloc(),
+            here.as_path().as_str(),
+            self.folder.as_str(),
+        )?;
+        join(self.rt.alloc(), bench.as_str(), part)
+    }
+
+    fn try_clear(&self) -> io::Result<()> {
+        let folder = self.folder.as_str();
+        match look(&self.rt, folder)? {
+            Some(metadata) if metadata.is_dir() => remove_folder(&self.rt, folder)?,
+            Some(_) => fs::remove_file(&self.rt, folder)?,
+            None => {}
+        }
+        for (part, _) in PARTS {
+            fs::create_dir_all(&self.rt, self.place(part)?.as_str())?;
+        }
+        Ok(())
+    }
+
+    fn try_run(&self, script: &str) -> io::Result<u32> {
+        let file = self.whole_place("script")?;
+        fs::write(&self.rt, file.as_str(), script)?;
+        let log = File::create(&self.rt, self.place("log")?.as_str())?;
+        let mut command = Command::new(self.rt.alloc(), "sh")?;
+        command.arg(file.as_str())?;
+        command.current_dir(self.whole_place(WORK)?.as_str())?;
+        self.set_variables(&mut command)?;
+        command.stdin(Stdio::null());
+        command.stdout(log.try_clone()?);
+        command.stderr(log);
+        Ok(status_of(command.status(&self.rt)?))
+    }
+
+    /// Gives the script the places of the bench's parts and the search path, and no other variable.
+    fn set_variables(&self, command: &mut Command) -> io::Result<()> {
+        command.env_clear();
+        match env::var(&self.rt, SEARCH_PATH) {
+            Ok(path) => {
+                command.env(SEARCH_PATH, path.as_str())?;
+            }
+            Err(VarError::NotPresent) => {}
+            Err(VarError::OutOfMemory) => return Err(io::Error::from(AllocError)),
+            Err(VarError::NotUnicode) => return Err(io::Error::from(ErrorKind::InvalidData)),
+        }
+        for (part, variable) in PARTS {
+            command.env(variable, self.whole_place(part)?.as_str())?;
+        }
+        Ok(())
+    }
+
+    /// The tree of the work folder, or `None` where it exceeds the limit. That is told by the number and the lengths
+    /// of its entries, before a byte of a file is read.
+    fn try_take(&self, max: &Size) -> io::Result<Option<Tree>> {
+        let work = self.place(WORK)?;
+        match list_items(&self.rt, &Part::opened(work.as_str()), max.entries) {
+            Ok(Some(items)) if is_within(&items, max) => self.read_items(work.as_str(), items, max),
+            Ok(_) => Ok(None),
+            Err(error) if is_too_long(&error) => Ok(None),
+            Err(error) => Err(error),
+        }
+    }
+
+    /// Reads what was found in the work folder, and no more of it than the limit, also where it grew meanwhile.
+    fn read_items(&self, root: &str, items: Vec<Item>, max: &Size) -> io::Result<Option<Tree>> {
+        let mut entries = Vec::new(self.rt.alloc());
+        let mut room = max.bytes;
+        for item in items {
+            let whole = join(self.rt.alloc(), root, item.path.as_str())?;
+            open_up(&self.rt, whole.as_str(), &item.metadata)?;
+            let limit = max.largest.min(room);
+            let Some(entry) = read_entry(&self.rt, whole.as_str(), &item.metadata, limit)? else {
+                return Ok(None);
+            };
+            let Some(left) = room.checked_sub(entry.len() as u64) else {
+                return Ok(None);
+            };
+            room = left;
+            entries.push((item.path, entry))?;
+        }
+        match Tree::from_entries(entries) {
+            Ok(tree) => Ok(Some(tree)),
+            Err(TreeFault::Memory) => Err(io::Error::from(AllocError)),
+            Err(_) => Ok(None),
+        }
+    }
+}
+
+impl<R: Files<File = File> + Env + Processes + AllocGlobal + Clone + Drop> Bench for ShBench<R> {
+    ghost use Rattle.outside_traits.specs.Bench.{Workplace};
+
+    ghost tells = { ⊥ };
+
+    ghost gives = { λ _ _ _. Ok [] };
+
+    ghost place = { λ _. record { laid = []; cleared = true; output = None; runs = [] } };
+
+    ghost faults = { λ s. s.faults };
+
+    fn clear(&mut self, _alloc: Global) -> Result<(), BenchFault> {
+        let done = self.try_clear();
+        self.count(done)
+    }
+
+    fn put(&mut self, _alloc: Global, path: &str, entry: &Entry) -> Result<(), BenchFault> {
+        let done = put_entry(&self.rt, self.folder.as_str(), path, entry);
+        self.count(done)
+    }
+
+    fn run(&mut self, _alloc: Global, script: &str) -> Result<u32, BenchFault> {
+        let done = self.try_run(script);
+        self.count(done)
+    }
+
+    fn take(&mut self, _alloc: Global, max: Size) -> Result<Taken, BenchFault> {
+        let taken = self.try_take(&max);
+        match self.count(taken)? {
+            Some(tree) => Ok(Taken::Tree(tree)),
+            None => Ok(Taken::TooLarge),
+        }
+    }
+}
+
+/// Removes a folder with all that it holds. Folders in it that the owner may not change are opened up first.
+fn remove_folder<R: Files + AllocGlobal + Clone + Drop>(rt: &R, folder: &str) -> io::Result<()> {
+    match fs::remove_dir_all(rt, folder) {
+        Err(error) if error.kind() == ErrorKind::PermissionDenied => {
+            list_items(rt, &Part::opened(folder), u64::MAX)?;
+            fs::remove_dir_all(rt, folder)
+        }
+        done => done,
+    }
+}
+
+/// Whether the sum of the lengths, and each of them, is within the limit.
+fn is_within(items: &[Item], max: &Size) -> bool {
+    let mut bytes = 0u64;
+    for item in items {
+        let length = item.metadata.len();
+        bytes = bytes.saturating_add(length);
+        if length > max.largest {
+            return false;
+        }
+    }
+    bytes <= max.bytes
+}
+
+/// The status of a script: what `sh` gave, or 128 and the number of the signal that ended it.
+fn status_of(status: ExitStatus) -> u32 {
+    match (status.code(), status.signal()) {
+        (Some(code), _) => code.unsigned_abs(),
+        (None, Some(signal)) => signal.unsigned_abs().saturating_add(128),
+        (None, None) => u32::MAX,
+    }
+}

@@ -1,0 +1,258 @@
+// The folder `build`.
+ghost use Rattle.std.specs.Prelude.{None};
+
+use crate::faults::{is_memory, one_more};
+use crate::folder::{
+    Part, is_empty, is_entry, is_reached, join, list_items, look, look_through, no_memory,
+    put_entry, read_entry,
+};
+use outside_traits::{Disk, DiskFault};
+use std::alloc::{AllocError, Global};
+use std::collections::BTreeSet;
+use std::fs::OpenFile;
+use std::io::ErrorKind;
+use std::rt::Files;
+use std::{fs, io};
+use tree_model::{Entry, Texts, is_below, is_clean};
+
+/// The folder that is the disk.
+const ROOT: &str = "build";
+
+/// The folder in it that the benches have: no part of the disk.
+const BENCHES: &str = "bench";
+
+/// The folder above the root, where the root's own name stands.
+const HERE: &str = ".";
+
+/// The files and links of the folder `build` of the current folder, without those in its folder `bench`.
+///
+/// Nothing stands below a link, so no call reaches through one. A folder without files or links is nothing: where
+/// one stands in the way of an entry it goes, and with the last entry of a folder the folder itself goes. What is
+/// neither file, folder nor link is nothing too. It tells nothing.
+#[derive(Drop)]
+pub struct FolderDisk<R> {
+    folder: BuildFolder<R>,
+    faults: u64,
+}
+
+/// The folder, and what is to be synced of it.
+#[derive(Drop)]
+struct BuildFolder<R> {
+    rt: R,
+
+    /// The files and folders that were changed since the last sync, by their paths from the current folder.
+    changed: BTreeSet<String>,
+
+    /// The folders that a sync of this object has made durable, and their names with them.
+    settled: BTreeSet<String>,
+}
+
+impl<R> FolderDisk<R> {
+    ghost use Rattle.outside_traits.specs.Fault.{Counts, disk_failed};
+
+    /// Counts the fault where a call of the system failed.
+    fn count<T: Drop>(&mut self, done: io::Result<T>) -> Result<T, DiskFault>
+        ensures { Counts self.old.faults self.new.faults (disk_failed result) }
+    {
+        match done {
+            Ok(value) => Ok(value),
+            Err(error) if is_memory(&error) => Err(DiskFault::Memory),
+            Err(_) => {
+                self.faults = one_more(self.faults);
+                Err(DiskFault::Failed)
+            }
+        }
+    }
+}
+
+impl<R: AllocGlobal> FolderDisk<R> {
+    /// The folder as it is, without a fault or a change so far.
+    pub fn new(rt: R) -> Self {
+        let changed = BTreeSet::new(rt.alloc());
+        let settled = BTreeSet::new(rt.alloc());
+        FolderDisk {
+            folder: BuildFolder {
+                rt,
+                changed,
+                settled,
+            },
+            faults: 0,
+        }
+    }
+}
+
+impl<R: Files + AllocGlobal + Clone + Drop> Disk for FolderDisk<R> {
+    ghost use Rattle.outside_traits.specs.Story.{Story};
+
+    ghost tells = { ⊥ };
+
+    ghost reach = { 4096 };
+
+    ghost faults = { λ s. s.faults };
+
+    ghost story = { λ _. record { held = λ _. None } };
+
+    ghost sound = { λ _ told. absurd told };
+
+    fn read(&mut self, _alloc: Global, path: &str) -> Result<Option<Entry>, DiskFault> {
+        let found = self.folder.read(path);
+        self.count(found)
+    }
+
+    fn write(&mut self, path: &str, entry: &Entry) -> Result<(), DiskFault> {
+        let done = self.folder.write(path, entry);
+        self.count(done)
+    }
+
+    fn remove(&mut self, path: &str) -> Result<(), DiskFault> {
+        let done = self.folder.remove(path);
+        self.count(done)
+    }
+
+    fn list(&mut self, alloc: Global, prefix: &str) -> Result<Texts, DiskFault> {
+        let paths = self.folder.list(alloc, prefix);
+        self.count(paths)
+    }
+
+    fn sync(&mut self) -> Result<(), DiskFault> {
+        let done = self.folder.sync();
+        self.count(done)
+    }
+}
+
+impl<R: Files + AllocGlobal + Clone + Drop> BuildFolder<R> {
+    /// Whether an entry can stand at a path: a clean one, outside the benches, that has only folders above it.
+    fn is_open(&self, path: &str) -> io::Result<bool> {
+        if !is_clean(path) || is_below(BENCHES, path) {
+            return Ok(false);
+        }
+        is_reached(&self.rt, ROOT, path)
+    }
+
+    fn read(&self, path: &str) -> io::Result<Option<Entry>> {
+        if !self.is_open(path)? {
+            return Ok(None);
+        }
+        let whole = join(self.rt.alloc(), ROOT, path)?;
+        match look(&self.rt, whole.as_str())? {
+            Some(metadata) if is_entry(&metadata) => {
+                read_entry(&self.rt, whole.as_str(), &metadata, u64::MAX)
+            }
+            _ => Ok(None),
+        }
+    }
+
+    fn write(&mut self, path: &str, entry: &Entry) -> io::Result<()> {
+        if is_below(BENCHES, path) {
+            return Err(io::Error::from(ErrorKind::InvalidInput));
+        }
+        let whole = join(self.rt.alloc(), ROOT, path)?;
+        self.note_above(whole.as_str())?;
+        if let Entry::File { exec: _, bytes: _ } = entry {
+            note(&mut self.changed, self.rt.alloc(), whole.as_str())?;
+        }
+        put_entry(&self.rt, ROOT, path, entry)
+    }
+
+    fn remove(&mut self, path: &str) -> io::Result<()> {
+        if !self.is_open(path)? {
+            return Ok(());
+        }
+        let whole = join(self.rt.alloc(), ROOT, path)?;
+        match look(&self.rt, whole.as_str())? {
+            Some(metadata) if is_entry(&metadata) => {
+                self.note_above(whole.as_str())?;
+                fs::remove_file(&self.rt, whole.as_str())?;
+                self.remove_empty_above(whole.as_str())
+            }
+            _ => Ok(()),
+        }
+    }
+
+    fn list(&self, alloc: Global, prefix: &str) -> io::Result<Texts> {
+        let part = Part {
+            root: ROOT,
+            prefix,
+            hidden: BENCHES,
+            opens: false,
+        };
+        let mut paths = Texts::new(alloc);
+        for item in list_items(&self.rt, &part, u64::MAX)?.into_iter().flatten() {
+            paths.push(item.path).map_err(no_memory)?;
+        }
+        Ok(paths)
+    }
+
+    fn sync(&mut self) -> io::Result<()> {
+        for path in &self.changed {
+            if sync_place(&self.rt, path.as_str())? {
+                note(&mut self.settled, self.rt.alloc(), path.as_str())?;
+            }
+        }
+        self.changed.clear();
+        Ok(())
+    }
+
+    /// Removes the folders above a path, from the nearest on, up to one that isn't empty or is the root.
+    fn remove_empty_above(&mut self, path: &str) -> io::Result<()> {
+        let mut folder = above(path);
+        for _ in 0..u64::MAX {
+            if folder == ROOT || !is_empty(&self.rt, folder) {
+                break;
+            }
+            self.note_above(folder)?;
+            fs::remove_dir(&self.rt, folder)?;
+            self.settled.remove(folder);
+            folder = above(folder);
+        }
+        Ok(())
+    }
+
+    /// Notes the folder above a path as changed. The folders above that one are noted as far as they are not known to
+    /// be durable: they may be new, or left by a process that didn't come to its sync.
+    fn note_above(&mut self, path: &str) -> io::Result<()> {
+        let mut folder = above(path);
+        for _ in 0..u64::MAX {
+            let is_new = note(&mut self.changed, self.rt.alloc(), folder)?;
+            if !is_new || folder == HERE || self.settled.contains(folder) {
+                break;
+            }
+            folder = above(folder);
+        }
+        Ok(())
+    }
+}
+
+/// The folder above a path, from the current folder.
+fn above(path: &str) -> &str {
+    match path.rsplit_once('/') {
+        Some((folder, _)) => folder,
+        None => HERE,
+    }
+}
+
+/// Adds a path to a set, and says whether it wasn't in it.
+fn note(paths: &mut BTreeSet<String>, alloc: Global, path: &str) -> Result<bool, AllocError> {
+    if paths.contains(path) {
+        return Ok(false);
+    }
+    paths.insert(String::from_str(alloc, path)?)?;
+    Ok(true)
+}
+
+/// Makes what stands at a path durable, a file with its bytes and a folder with its names, and says whether it is a
+/// folder. A link is durable with its folder; the root may be a link to a folder.
+fn sync_place<R: Files>(rt: &R, path: &str) -> io::Result<bool> {
+    let found = if path == ROOT {
+        look_through(rt, path)?
+    } else {
+        look(rt, path)?
+    };
+    match found {
+        Some(metadata) if metadata.is_file() || metadata.is_dir() => {
+            fs::open(rt, path)?.sync_all()?;
+            Ok(metadata.is_dir())
+        }
+        _ => Ok(false),
+    }
+}

@@ -1,0 +1,384 @@
+// Files, links and folders of a real file system, by paths inside a root folder.
+ghost use Rattle.std.specs.Prelude.{◌≤◌, IfOk, IfSome, length};
+
+use std::alloc::Global;
+use std::fs::{Metadata, OpenFile, OpenOptions, Permissions};
+use std::io::{ErrorKind, Read, Write};
+use std::os::unix::fs::{MetadataExt, OpenOptionsExt, PermissionsExt, symlink};
+use std::rt::Files;
+use std::{fs, io};
+use tree_model::{Bytes, Entry, Mem, Text, is_below, is_clean};
+
+/// What Linux answers to a path with more bytes than it can name.
+const NAME_TOO_LONG: i32 = 36;
+
+/// The owner's bit that makes a file executable.
+const OWNER_RUNS: u32 = 0o100;
+
+const OWNER_READS: u32 = 0o400;
+
+/// An error of the system's kind for want of memory.
+pub fn no_memory(_: Mem) -> io::Error {
+    io::Error::from(ErrorKind::OutOfMemory)
+}
+
+/// Whether an error says that nothing stands at the path.
+fn is_absent(error: &io::Error) -> bool {
+    matches!(error.kind(), ErrorKind::NotFound | ErrorKind::NotADirectory) || is_too_long(error)
+}
+
+/// Whether an error says that the system can't name so long a path. A name that isn't UTF-8 has an error of the
+/// same kind and no number of the system's.
+pub fn is_too_long(error: &io::Error) -> bool {
+    error.raw_os_error() == Some(NAME_TOO_LONG)
+}
+
+/// The path of a place in a folder; the empty path is the folder itself.
+pub fn join(alloc: Global, folder: &str, path: &str) -> io::Result<String> {
+    let mut whole = String::from_str(alloc, folder)?;
+    if !folder.is_empty() && !path.is_empty() {
+        whole.push('/')?;
+    }
+    whole.push_str(path)?;
+    Ok(whole)
+}
+
+/// The metadata of what stands at a path itself, or `None` where that is nothing. Follows no link at its end.
+pub fn look<R: Files>(rt: &R, path: &str) -> io::Result<Option<Metadata>> {
+    match fs::symlink_metadata(rt, path) {
+        Ok(metadata) => Ok(Some(metadata)),
+        Err(error) if is_absent(&error) => Ok(None),
+        Err(error) => Err(error),
+    }
+}
+
+/// Whether it is a file or a link that has this metadata.
+pub fn is_entry(metadata: &Metadata) -> bool {
+    metadata.is_file() || metadata.is_symlink()
+}
+
+/// The metadata of what a path leads to through links, or `None` where that is nothing. A link that leads nowhere, or
+/// round in a circle, leads to nothing.
+pub fn look_through<R: Files>(rt: &R, path: &str) -> io::Result<Option<Metadata>> {
+    match fs::metadata(rt, path) {
+        Ok(metadata) => Ok(Some(metadata)),
+        Err(error) if is_absent(&error) || error.kind() == ErrorKind::FilesystemLoop => Ok(None),
+        Err(error) => Err(error),
+    }
+}
+
+/// Whether a file stands at a path, or a link that leads to one.
+pub fn leads_to_file<R: Files>(rt: &R, path: &str) -> io::Result<bool> {
+    match look_through(rt, path)? {
+        Some(metadata) => Ok(metadata.is_file()),
+        None => Ok(false),
+    }
+}
+
+/// Whether all that a path has above it, inside the root, are folders and no links to folders.
+pub fn is_reached<R: Files + AllocGlobal>(rt: &R, root: &str, path: &str) -> io::Result<bool> {
+    match path.rsplit_once('/') {
+        Some((above, _)) => is_folder(rt, root, above),
+        None => Ok(true),
+    }
+}
+
+/// Whether the path and all that it has above it, inside the root, are folders and no links to folders.
+fn is_folder<R: Files + AllocGlobal>(rt: &R, root: &str, path: &str) -> io::Result<bool> {
+    let mut whole = String::from_str(rt.alloc(), root)?;
+    for part in path.split('/') {
+        whole.push('/')?;
+        whole.push_str(part)?;
+        match look(rt, whole.as_str())? {
+            Some(metadata) if metadata.is_dir() => {}
+            _ => return Ok(false),
+        }
+    }
+    Ok(true)
+}
+
+/// What a file has, or `None` where that is more than `max` bytes. Reads at most one byte more than `max`.
+pub fn read_bytes<R: Files + AllocGlobal>(rt: &R, path: &str, max: u64) -> io::Result<Option<Bytes>>
+    ensures { IfOk result (λ found. IfSome found (λ bytes. length bytes ≤ max)) }
+{
+    let file = fs::open(rt, path)?;
+    if file.metadata()?.len() > max {
+        return Ok(None);
+    }
+    let mut bytes = Vec::new(rt.alloc());
+    file.take(max.saturating_add(1)).read_to_end(&mut bytes)?;
+    if bytes.len() as u64 > max {
+        return Ok(None);
+    }
+    Ok(Some(Bytes::from_vec(bytes)))
+}
+
+/// The entry at a path with this metadata, or `None` where its length is above `max`: a file or a link.
+pub fn read_entry<R: Files + AllocGlobal>(
+    rt: &R,
+    path: &str,
+    metadata: &Metadata,
+    max: u64,
+) -> io::Result<Option<Entry>> {
+    if metadata.is_symlink() {
+        return read_link(rt, path, max);
+    }
+    let exec = metadata.mode() & OWNER_RUNS != 0;
+    match read_bytes(rt, path, max)? {
+        Some(bytes) => Ok(Some(Entry::File { exec, bytes })),
+        None => Ok(None),
+    }
+}
+
+fn read_link<R: Files + AllocGlobal>(rt: &R, path: &str, max: u64) -> io::Result<Option<Entry>> {
+    let place = fs::read_link(rt, path)?;
+    let target = place.as_path().as_str();
+    if target.len() as u64 > max {
+        return Ok(None);
+    }
+    Ok(Some(Entry::Link {
+        target: Text::from_str(rt.alloc(), target).map_err(no_memory)?,
+    }))
+}
+
+/// Lets the owner read a file, or read, write and enter a folder, where its mode forbids that.
+pub fn open_up<R: Files>(rt: &R, path: &str, metadata: &Metadata) -> io::Result<()> {
+    let wanted = if metadata.is_dir() {
+        0o700
+    } else {
+        OWNER_READS
+    };
+    let mode = metadata.mode() & 0o7777;
+    if metadata.is_symlink() || mode & wanted == wanted {
+        return Ok(());
+    }
+    fs::set_permissions(rt, path, Permissions::from_mode(mode | wanted))
+}
+
+/// Opens a folder up, and says whether it is one.
+fn open_folder<R: Files>(rt: &R, path: &str) -> io::Result<bool> {
+    match look(rt, path)? {
+        Some(metadata) if metadata.is_dir() => {
+            open_up(rt, path, &metadata)?;
+            Ok(true)
+        }
+        _ => Ok(false),
+    }
+}
+
+/// Puts an entry at a path inside the root, in place of a file or link that stands there, or of a folder under which
+/// no file or link stands. Makes the folders above it where they are missing; a file or link there is an error.
+pub fn put_entry<R: Files + AllocGlobal + Clone + Drop>(
+    rt: &R,
+    root: &str,
+    path: &str,
+    entry: &Entry,
+) -> io::Result<()> {
+    fs::create_dir_all(rt, root)?;
+    if let Some((above, _)) = path.rsplit_once('/') {
+        make_folders(rt, root, above)?;
+    }
+    let whole = join(rt.alloc(), root, path)?;
+    clear_place(rt, whole.as_str())?;
+    match entry {
+        Entry::File { exec, bytes } => make_file(rt, whole.as_str(), *exec, bytes.as_slice()),
+        Entry::Link { target } => symlink(rt, target.as_str(), whole.as_str()),
+    }
+}
+
+/// Makes a folder inside the root, and those above it.
+fn make_folders<R: Files + AllocGlobal>(rt: &R, root: &str, path: &str) -> io::Result<()> {
+    let mut whole = String::from_str(rt.alloc(), root)?;
+    for part in path.split('/') {
+        whole.push('/')?;
+        whole.push_str(part)?;
+        make_folder(rt, whole.as_str())?;
+    }
+    Ok(())
+}
+
+/// Makes a folder where none stands. What is neither file, folder nor link gives way to it.
+fn make_folder<R: Files>(rt: &R, path: &str) -> io::Result<()> {
+    if let Some(metadata) = look(rt, path)? {
+        if metadata.is_dir() {
+            return Ok(());
+        }
+        if is_entry(&metadata) {
+            return Err(io::Error::from(ErrorKind::NotADirectory));
+        }
+        fs::remove_file(rt, path)?;
+    }
+    fs::create_dir(rt, path)
+}
+
+/// Removes what stands at a path, unless it is a folder under which a file or a link stands.
+fn clear_place<R: Files + AllocGlobal + Clone + Drop>(rt: &R, path: &str) -> io::Result<()> {
+    match look(rt, path)? {
+        Some(metadata) if metadata.is_dir() => {
+            if list_items(rt, &Part::whole(path), 0)?.is_none() {
+                return Err(io::Error::from(ErrorKind::DirectoryNotEmpty));
+            }
+            fs::remove_dir_all(rt, path)
+        }
+        Some(_) => fs::remove_file(rt, path),
+        None => Ok(()),
+    }
+}
+
+/// Makes a file where nothing stands, whatever the process's mask of modes.
+fn make_file<R: Files>(rt: &R, path: &str, exec: bool, bytes: &[u8]) -> io::Result<()> {
+    let mode = if exec { 0o755 } else { 0o644 };
+    let mut file = OpenOptions::new()
+        .write(true)
+        .create_new(true)
+        .mode(mode)
+        .open(rt, path)?;
+    file.set_permissions(Permissions::from_mode(mode))?;
+    file.write_all(bytes)
+}
+
+/// Whether nothing at all stands in a folder. One that can't be read is taken as not empty.
+pub fn is_empty<R: Files + AllocGlobal + Clone + Drop>(rt: &R, folder: &str) -> bool {
+    match fs::read_dir(rt, folder) {
+        Ok(mut entries) => entries.next().is_none(),
+        Err(_) => false,
+    }
+}
+
+/// A part of a real folder: what stands at the paths inside `root` that begin with `prefix`. The folder `hidden` of
+/// the root isn't entered. Where `opens` is set, folders that the owner may not read are opened up, and a root that is
+/// a link has nothing.
+#[derive(Clone, Copy)]
+pub struct Part<'a> {
+    pub root: &'a str,
+    pub prefix: &'a str,
+    pub hidden: &'a str,
+    pub opens: bool,
+}
+
+impl<'a> Part<'a> {
+    /// All of a folder.
+    pub fn whole(root: &'a str) -> Self {
+        Part {
+            root,
+            prefix: "",
+            hidden: "",
+            opens: false,
+        }
+    }
+
+    /// All of a folder, which is opened up with the folders in it.
+    pub fn opened(root: &'a str) -> Self {
+        Part {
+            root,
+            prefix: "",
+            hidden: "",
+            opens: true,
+        }
+    }
+}
+
+/// A file or a link, by its path inside the root.
+#[derive(Drop)]
+pub struct Item {
+    pub path: Text,
+    pub metadata: Metadata,
+}
+
+/// What a walk has found, and the folders that it has still to enter.
+#[derive(Drop)]
+struct Walk {
+    items: Vec<Item>,
+    folders: Vec<String>,
+}
+
+/// The files and links of a part, in the order of their paths' bytes, or `None` where they are more than `max`.
+/// Follows no link, passes over what is neither file, folder nor link, and enters no folder whose path doesn't begin
+/// as the prefix does.
+pub fn list_items<R: Files + AllocGlobal + Clone + Drop>(
+    rt: &R,
+    part: &Part<'_>,
+    max: u64,
+) -> io::Result<Option<Vec<Item>>> {
+    let mut walk = Walk {
+        items: Vec::new(rt.alloc()),
+        folders: Vec::new(rt.alloc()),
+    };
+    if let Some(folder) = first_folder(rt, part)? {
+        walk.folders.push(folder)?;
+    }
+    for _ in 0..u64::MAX {
+        let Some(folder) = walk.folders.pop() else {
+            break;
+        };
+        enter(rt, part, folder.as_str(), max, &mut walk)?;
+        if walk.items.len() as u64 > max {
+            return Ok(None);
+        }
+    }
+    walk.items
+        .sort_by(|a, b| a.path.as_str().cmp(b.path.as_str()))?;
+    Ok(Some(walk.items))
+}
+
+/// The folder in which all paths with the prefix stand, if there is such a folder.
+fn first_folder<R: Files + AllocGlobal>(rt: &R, part: &Part<'_>) -> io::Result<Option<String>> {
+    let Some((folder, _)) = part.prefix.rsplit_once('/') else {
+        return Ok(Some(String::new(rt.alloc())));
+    };
+    let hidden = folder == part.hidden || is_below(part.hidden, folder);
+    if hidden || !is_clean(folder) || !is_folder(rt, part.root, folder)? {
+        return Ok(None);
+    }
+    Ok(Some(String::from_str(rt.alloc(), folder)?))
+}
+
+/// Adds what stands in a folder, until more than `max` items are found.
+fn enter<R: Files + AllocGlobal + Clone + Drop>(
+    rt: &R,
+    part: &Part<'_>,
+    folder: &str,
+    max: u64,
+    walk: &mut Walk,
+) -> io::Result<()> {
+    let whole = join(rt.alloc(), part.root, folder)?;
+    if part.opens && !open_folder(rt, whole.as_str())? {
+        return Ok(());
+    }
+    let entries = match fs::read_dir(rt, whole.as_str()) {
+        Ok(entries) => entries,
+        Err(error) if is_absent(&error) && !is_too_long(&error) => return Ok(()),
+        Err(error) => return Err(error),
+    };
+    for entry in entries {
+        let entry = entry?;
+        let path = join(rt.alloc(), folder, entry.file_name())?;
+        if !path.as_str().starts_with(part.prefix) {
+            continue;
+        }
+        match entry.metadata() {
+            Ok(metadata) => add(path, metadata, part, walk)?,
+            Err(error) if error.kind() == ErrorKind::NotFound => {}
+            Err(error) => return Err(error),
+        }
+        if walk.items.len() as u64 > max {
+            break;
+        }
+    }
+    Ok(())
+}
+
+/// Adds a file or a link to what is found, and a folder to those that are still to enter.
+fn add(path: String, metadata: Metadata, part: &Part<'_>, walk: &mut Walk) -> io::Result<()> {
+    if metadata.is_dir() {
+        if path.as_str() != part.hidden {
+            walk.folders.push(path)?;
+        }
+    } else if is_entry(&metadata) {
+        walk.items.push(Item {
+            path: Text::from_string(path),
+            metadata,
+        })?;
+    }
+    Ok(())
+}

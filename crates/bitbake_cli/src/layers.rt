@@ -1,0 +1,105 @@
+// The current folder, without `build`.
+ghost use Rattle.std.specs.Prelude.{None};
+
+use crate::faults::{is_memory, one_more};
+use crate::folder::{Part, is_reached, leads_to_file, list_items, no_memory, read_bytes};
+use outside_traits::{Layers, ReadFault};
+use std::alloc::Global;
+use std::io;
+use std::rt::Files;
+use tree_model::{Bytes, Texts, is_below, is_clean};
+
+/// The current folder, which is the root of the layers.
+const HERE: &str = ".";
+
+/// Where what is built is kept: no part of the layers.
+const BUILT: &str = "build";
+
+/// The files of the current folder, without those in its folder `build`.
+///
+/// A link that leads to a file counts as that file. A linked folder isn't entered, by `read` no more than by `list`,
+/// so links can't lead round in a circle. It tells nothing.
+#[derive(Drop)]
+pub struct FolderLayers<R> {
+    rt: R,
+    faults: u64,
+}
+
+impl<R> FolderLayers<R> {
+    ghost use Rattle.std.specs.Prelude.{◌≡◌, IfOk, IsErrOf, Ok};
+    ghost use Rattle.outside_traits.specs.Fault.{Counts, read_failed};
+
+    /// The current folder, without a fault so far.
+    pub fn new(rt: R) -> Self {
+        FolderLayers { rt, faults: 0 }
+    }
+
+    /// Counts the fault where a call of the system failed.
+    fn count<T: Drop>(&mut self, done: io::Result<T>) -> Result<T, ReadFault>
+        ensures cause { Counts self.old.faults self.new.faults (read_failed result) }
+        ensures value { IfOk result (λ value. done ≡ Ok value) }
+        ensures not_long { IsErrOf result ReadFault.TooLong → ⊥ }
+    {
+        match done {
+            Ok(value) => Ok(value),
+            Err(error) if is_memory(&error) => Err(ReadFault::Memory),
+            Err(_) => {
+                self.faults = one_more(self.faults);
+                Err(ReadFault::Failed)
+            }
+        }
+    }
+}
+
+impl<R: Files + AllocGlobal + Clone + Drop> FolderLayers<R> {
+    /// Whether a file stands at a path, or a link that leads to one.
+    fn try_find(&self, path: &str) -> io::Result<bool> {
+        if !is_clean(path) || is_below(BUILT, path) || !is_reached(&self.rt, HERE, path)? {
+            return Ok(false);
+        }
+        leads_to_file(&self.rt, path)
+    }
+
+    fn try_list(&self, alloc: Global, prefix: &str) -> io::Result<Texts> {
+        let part = Part {
+            root: HERE,
+            prefix,
+            hidden: BUILT,
+            opens: false,
+        };
+        let mut paths = Texts::new(alloc);
+        for item in list_items(&self.rt, &part, u64::MAX)?.into_iter().flatten() {
+            if item.metadata.is_file() || leads_to_file(&self.rt, item.path.as_str())? {
+                paths.push(item.path).map_err(no_memory)?;
+            }
+        }
+        Ok(paths)
+    }
+}
+
+impl<R: Files + AllocGlobal + Clone + Drop> Layers for FolderLayers<R> {
+    ghost tells = { ⊥ };
+
+    ghost files = { λ _ _. None };
+
+    ghost faults = { λ s. s.faults };
+
+    ghost clean = { λ _ told. absurd told };
+
+    fn read(&mut self, _alloc: Global, path: &str, max: u64) -> Result<Option<Bytes>, ReadFault> {
+        let found = self.try_find(path);
+        if !self.count(found)? {
+            return Ok(None);
+        }
+        let bytes = read_bytes(&self.rt, path, max);
+        match self.count(bytes)? {
+            Some(bytes) => Ok(Some(bytes)),
+            None => Err(ReadFault::TooLong),
+        }
+    }
+
+    fn list(&mut self, alloc: Global, prefix: &str) -> Result<Texts, ReadFault> {
+        let paths = self.try_list(alloc, prefix);
+        self.count(paths)
+    }
+}

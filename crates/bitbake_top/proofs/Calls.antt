@@ -1,0 +1,193 @@
+-- What a call comes to.
+use Rattle.std.proofs.Common.{◌≡◌, inl, inr, ◌∙◌, ap, sym, subst, refl, ℕ, ◌-◌, ◌<◌, Bool, true, false, List, [], ◌∷◌, ◌++◌, arith, length, map, get_or, set, Result, Ok, Err}
+use Rattle.std.specs.Prelude.{IsOk, Option, Some}
+use Rattle.std.proofs.lemmas.Bool.{false≢true}
+use Rattle.std.proofs.lemmas.List.{append-nil, get_or-map, get_or-set_same, length-map, length-set, map-set}
+use Rattle.outside_traits.specs.Fault.{Rose}
+use Rattle.outside_traits.specs.Store.{Store}
+use Rattle.meta_model.specs.declared.event.Why.{Why}
+use Rattle.meta_model.specs.declared.event.Cut.TheVariants as cut
+use Rattle.meta_model.specs.declared.event.Event.{Event}
+use Rattle.meta_model.specs.declared.event.Event.TheVariants as event
+use Rattle.meta_model.specs.declared.event.Logged.{Logged}
+use Rattle.meta_model.specs.declared.event.Status.{Status}
+use Rattle.meta_model.specs.declared.event.Status.TheVariants as status
+use Rattle.bitbake_top.specs.declared.find.FindFault.{FindFault}
+use Rattle.bitbake_top.specs.declared.find.FindFault.TheVariants as find
+use Rattle.meta_model.specs.CleanBuild.{Entries}
+use Rattle.bitbake_top.specs.Status.{not_built}
+use Rattle.bitbake_top.specs.Recipe.{IsRecipe, closing, opening, recipe_path}
+use Rattle.bitbake_top.specs.Hello.{IsHello, IsNotBuilt}
+use Rattle.bitbake_top.specs.Report.{PrintsCall, WritesCallFront, call_text}
+use Rattle.bitbake_top.specs.Run.{AreLegal, AreUnchanged, Closes, Concludes, ConcludesAll, ConcludesRun, DidRun, IsUnchanged, IsUnreached, RanLast, RanRun, RanTales, RefusedAs, Runs, SomeRose, Succeeds, clean_task, labels_of, tale_of}
+use Rattle.bitbake_top.proofs.Texts.{same_end, same_front}
+
+-- the names of the plan's tasks, where the one word is the recipe's name
+pub labels_are : (words : List (List ℕ)) (name : List ℕ) → words ≡ name ∷ [] → labels_of words ≡ labels_of (name ∷ [])
+labels_are words name is = ap labels_of is
+
+-- the tales of a run of the one recipe are legal
+pub legal_run : (words : List (List ℕ)) (files : List ℕ → Option (List ℕ)) (gives : List ℕ → Entries → Result Entries ℕ) (told : Type 0) (name body folder : List ℕ) (held : Store) (tales : List (List Logged)) (s : Status)
+    → IsHello words files name body → DidRun told (clean_task gives body) folder held tales s → AreLegal words files gives tales
+legal_run words files gives told name body folder held [] s hello did = tt
+legal_run words files gives told name body folder held (tale ∷ more) s hello did = (did.0, (name, body, hello, did.1.0))
+
+pub tales_ran : (words : List (List ℕ)) (files : List ℕ → Option (List ℕ)) (name body : List ℕ) (tales : List (List Logged)) (before now : Runs)
+    → IsHello words files name body → RanRun before now body tales → RanTales words files tales before now
+tales_ran words files name body [] before now hello ran = ran
+tales_ran words files name body (tale ∷ more) before now hello ran = (name, body, hello, ran)
+
+-- the status of a run is one of a call
+pub concludes_call : (tales : List (List Logged)) (s : Status) → ConcludesRun tales s → ConcludesAll tales s
+concludes_call [] s c = inr (inr (inl c))
+concludes_call (tale ∷ more) s c = c
+
+-- NotBuilt comes of one fault alone
+pub refused_not_built : (fault : FindFault) (s : Status) → RefusedAs fault s → s ≡ not_built → fault ≡ find.NotBuilt
+refused_not_built find.NotBuilt s r e = refl
+refused_not_built find.Failed s r e = let h : status.ReadFault ≡ not_built = sym r ∙ e in cc
+refused_not_built find.Memory s r e = let h : status.OutOfMemory ≡ not_built = sym r ∙ e in cc
+
+-- all of a text is a front of it
+pub front_anyway : (base now : List ℕ) (labels : List (List ℕ)) (threads : ℕ) (tales : List (List Logged)) (s : Status) (failed : Bool) → PrintsCall base now labels threads tales s failed → WritesCallFront base now labels threads tales
+front_anyway base now labels threads tales s true prints = prints.front
+front_anyway base now labels threads tales s false prints =
+    (tales, s, inr refl, record { front = call_text labels threads tales s; rest = []; cut = sym (append-nil (call_text labels threads tales s)); written = prints.whole })
+
+-- where the count of the one that is put back rose, that of one of the list did
+pub some_rose : {B : Type 0} (f : B → ℕ) (xs : List B) (i : ℕ) (x y : B) → i < length xs → x ≡ get_or xs i x → Rose (f x) (f y) → SomeRose (map f xs) (map f (set xs i y))
+some_rose f xs i x y lt is rose =
+    let before : get_or (map f xs) i 0 ≡ f x = get_or-map f xs i x 0 lt ∙ ap f (sym is) in
+    let lt_set : i < length (set xs i y) = subst (λ n. i < n) (sym (length-set xs i y)) lt in
+    let now : get_or (map f (set xs i y)) i 0 ≡ f y = get_or-map f (set xs i y) i y 0 lt_set ∙ ap f (get_or-set_same xs i y y lt) in
+    let P : ℕ → Type 0 = λ n. Rose n (get_or (map f (set xs i y)) i 0) in
+    let Q : ℕ → Type 0 = λ n. Rose (f x) n in
+    (i, subst (λ n. i < n) (sym (length-map xs f)) lt, subst P (sym before) (subst Q (sym now) rose))
+
+-- the one of the list has the function that all have
+pub gives_at : {B X : Type 0} (f : B → X) (xs : List B) (i : ℕ) (x : B) (v : X) → i < length xs → x ≡ get_or xs i x → ((k : ℕ) (d : B) → k < length xs → f (get_or xs k d) ≡ v) → f x ≡ v
+gives_at f xs i x v lt is all = ap f is ∙ all i x lt
+
+-- of the benches only the one that is put back ran
+pub ran_last : {B : Type 0} (runs : B → Runs) (words : List (List ℕ)) (files : List ℕ → Option (List ℕ)) (tales : List (List Logged)) (benches : List B) (i : ℕ) (x y : B)
+    → i ≡ length benches - 1 → i < length benches → x ≡ get_or benches i x → RanTales words files tales (runs x) (runs y) → RanLast words files tales (map runs benches) (map runs (set benches i y))
+ran_last runs words files tales benches i x y at lt is ran =
+    let last : length (map runs benches) - 1 ≡ i = ap (λ n. n - 1) (length-map benches runs) ∙ sym at in
+    let same : get_or (map runs benches) (length (map runs benches) - 1) [] ≡ runs x = ap (λ n. get_or (map runs benches) n []) last ∙ get_or-map runs benches i x [] lt ∙ ap runs (sym is) in
+    let P : Runs → Type 0 = λ r. RanTales words files tales r (runs y) in
+    record {
+      runs = runs y;
+      only_last = map-set runs benches i y ∙ ap (λ n. set (map runs benches) n (runs y)) (sym last);
+      by_tales = subst P (sym same) ran;
+    }
+
+-- the event that closes a tale
+abbrev closing_in : List Logged → Event
+closing_in [] = event.Ended 0
+closing_in (a ∷ []) = event.Ended 0
+closing_in (a ∷ b ∷ more) = b.event
+
+one_closing : (tale : List Logged) (c d : Event) → tale ≡ tale_of c → tale ≡ tale_of d → c ≡ d
+one_closing tale c d e f = ap closing_in (sym e ∙ f)
+
+-- a recipe has one body
+one_body : (file a b : List ℕ) → IsRecipe file a → IsRecipe file b → a ≡ b
+one_body file a b first second = same_front a b closing (same_end opening (a ++ closing) (b ++ closing) (sym first.form ∙ second.form))
+
+some_same : (a b : List ℕ) → Some a ≡ Some b → a ≡ b
+some_same a b e = cc
+
+-- the one recipe of words and files has one name and one body
+one_hello : (words : List (List ℕ)) (files : List ℕ → Option (List ℕ)) (n b m c : List ℕ) → IsHello words files n b → IsHello words files m c → b ≡ c
+one_hello words files n b m c first second =
+    let names : n ≡ m = (let e : n ∷ [] ≡ m ∷ [] = sym first.one_word ∙ second.one_word in cc) in
+    let same_file : first.at.file ≡ second.at.file = some_same first.at.file second.at.file (sym first.at.held ∙ ap (λ (x : List ℕ). files (recipe_path x)) names ∙ second.at.held) in
+    one_body second.at.file b c (subst (λ (f : List ℕ). IsRecipe f b) same_file first.at.recipe) second.at.recipe
+
+not_ok_and_err : (r : Result Entries Why) (why : Why) → IsOk r → r ≡ Err why → ⊥
+not_ok_and_err (Ok tree) why ok e = cc
+not_ok_and_err (Err w) why ok e = false≢true ok
+
+-- Ok comes of a task that ended
+ended_by : (clean : Result Entries Why) (closing : Event) (s : Status) → Closes clean closing → Concludes closing s → s ≡ status.Ok → IsOk clean
+ended_by clean (event.Ended task) s closes c e = closes.1
+ended_by clean (event.Failed task why) s closes c e = elim c [ inl h ↦ (let w : status.TaskFailed ≡ status.Ok = sym h ∙ e in cc) | inr h ↦ (let w : status.WriteFault ≡ status.Ok = sym h ∙ e in cc) ]
+ended_by clean (event.Broke task cut.Memory) s closes c e = elim c [ inl h ↦ (let w : status.OutOfMemory ≡ status.Ok = sym h ∙ e in cc) | inr h ↦ (let w : status.WriteFault ≡ status.Ok = sym h ∙ e in cc) ]
+ended_by clean (event.Broke task cut.Bench) s closes c e = elim c [ inl h ↦ (let w : status.BenchFault ≡ status.Ok = sym h ∙ e in cc) | inr h ↦ (let w : status.WriteFault ≡ status.Ok = sym h ∙ e in cc) ]
+ended_by clean (event.Broke task cut.Fault) s closes c e = elim c [ inl h ↦ (let w : status.DiskFault ≡ status.Ok = sym h ∙ e in cc) | inr h ↦ (let w : status.WriteFault ≡ status.Ok = sym h ∙ e in cc) ]
+ended_by clean (event.Found task) s closes c e = absurd closes
+ended_by clean (event.Restored task) s closes c e = absurd closes
+ended_by clean (event.Started task seat) s closes c e = absurd closes
+
+unreached_not_ok : (s : Status) → IsUnreached s → s ≡ status.Ok → ⊥
+unreached_not_ok s (inl h) e = let w : not_built ≡ status.Ok = sym h ∙ e in cc
+unreached_not_ok s (inr (inl h)) e = let w : status.ReadFault ≡ status.Ok = sym h ∙ e in cc
+unreached_not_ok s (inr (inr (inl h))) e = let w : status.WriteFault ≡ status.Ok = sym h ∙ e in cc
+unreached_not_ok s (inr (inr (inr h))) e = let w : status.OutOfMemory ≡ status.Ok = sym h ∙ e in cc
+
+-- under Ok the clean build succeeds
+pub succeeds : (words : List (List ℕ)) (files : List ℕ → Option (List ℕ)) (gives : List ℕ → Entries → Result Entries ℕ) (tales : List (List Logged)) (s : Status)
+    → AreLegal words files gives tales → ConcludesAll tales s → s ≡ status.Ok → Succeeds words files gives
+succeeds words files gives [] s legal c e = absurd (unreached_not_ok s c e)
+succeeds words files gives (tale ∷ more) s legal c e =
+    let name = legal.1.0 in
+    let body = legal.1.1 in
+    let is_legal = legal.1.3 in
+    let same : is_legal.0 ≡ c.1.0 = one_closing tale is_legal.0 c.1.0 is_legal.1 c.1.1 in
+    record {
+      name = name;
+      body = body;
+      hello = legal.1.2;
+      clean = ended_by (clean_task gives body) c.1.0 s (subst (Closes (clean_task gives body)) same is_legal.2) c.1.2 e;
+    }
+
+-- which answers are ruled out
+pub record Excluded (words : List (List ℕ)) (files : List ℕ → Option (List ℕ)) (s : Status) : Type 0 where
+  pub not_built_so : s ≡ not_built → IsNotBuilt words files
+  pub read : s ≡ status.ReadFault → ⊥
+  pub disk : s ≡ status.DiskFault → ⊥
+  pub bench : s ≡ status.BenchFault → ⊥
+  pub write : s ≡ status.WriteFault → ⊥
+  pub memory : s ≡ status.OutOfMemory → ⊥
+
+ok_by : (words : List (List ℕ)) (files : List ℕ → Option (List ℕ)) (clean : Result Entries Why) (closing : Event) (s : Status) → Excluded words files s → IsOk clean → Closes clean closing → Concludes closing s → s ≡ status.Ok
+ok_by words files clean (event.Ended task) s ex ok closes c = elim c [ inl h ↦ h | inr h ↦ absurd (ex.write h) ]
+ok_by words files clean (event.Failed task why) s ex ok closes c = absurd (not_ok_and_err clean why ok closes.1)
+ok_by words files clean (event.Broke task cut.Memory) s ex ok closes c = elim c [ inl h ↦ absurd (ex.memory h) | inr h ↦ absurd (ex.write h) ]
+ok_by words files clean (event.Broke task cut.Bench) s ex ok closes c = elim c [ inl h ↦ absurd (ex.bench h) | inr h ↦ absurd (ex.write h) ]
+ok_by words files clean (event.Broke task cut.Fault) s ex ok closes c = elim c [ inl h ↦ absurd (ex.disk h) | inr h ↦ absurd (ex.write h) ]
+ok_by words files clean (event.Found task) s ex ok closes c = absurd closes
+ok_by words files clean (event.Restored task) s ex ok closes c = absurd closes
+ok_by words files clean (event.Started task seat) s ex ok closes c = absurd closes
+
+-- where the clean build succeeds and nothing else may be answered, the answer is Ok
+pub must_be_ok : (words : List (List ℕ)) (files : List ℕ → Option (List ℕ)) (gives : List ℕ → Entries → Result Entries ℕ) (tales : List (List Logged)) (s : Status)
+    → AreLegal words files gives tales → ConcludesAll tales s → Excluded words files s → Succeeds words files gives → s ≡ status.Ok
+must_be_ok words files gives [] s legal c ex good =
+    elim c [
+      | inl h ↦ absurd (ex.not_built_so h good.name good.body good.hello)
+      | inr (inl h) ↦ absurd (ex.read h)
+      | inr (inr (inl h)) ↦ absurd (ex.write h)
+      | inr (inr (inr h)) ↦ absurd (ex.memory h)
+    ]
+must_be_ok words files gives (tale ∷ more) s legal c ex good =
+    let name = legal.1.0 in
+    let body = legal.1.1 in
+    let is_legal = legal.1.3 in
+    let same : is_legal.0 ≡ c.1.0 = one_closing tale is_legal.0 c.1.0 is_legal.1 c.1.1 in
+    let bodies : good.body ≡ body = one_hello words files good.name good.body name body good.hello legal.1.2 in
+    ok_by words files (clean_task gives body) c.1.0 s ex
+    (subst (λ (b : List ℕ). IsOk (clean_task gives b)) bodies good.clean)
+    (subst (Closes (clean_task gives body)) same is_legal.2) c.1.2
+
+-- an unchanged count didn't rise
+pub unchanged_rose : (before now : ℕ) → IsUnchanged before now → Rose before now → ⊥
+unchanged_rose before now same rose = let e = same.same in let b = same.below in omega arith
+
+pub unchanged_some : (before now : List ℕ) → AreUnchanged before now → SomeRose before now → ⊥
+unchanged_some before now same rose =
+    let k = rose.0 in
+    let e : get_or now k 0 ≡ get_or before k 0 = ap (λ (l : List ℕ). get_or l k 0) same.same in
+    let b = same.below k 0 rose.1 in
+    let r = rose.2 in
+    omega arith

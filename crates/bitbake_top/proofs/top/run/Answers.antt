@@ -1,0 +1,28 @@
+use Rattle.std.proofs.Common.{ap, sym, subst, ℕ, List}
+use Rattle.std.specs.Prelude.{Err}
+use Rattle.meta_model.specs.declared.event.Logged.{Logged}
+use Rattle.bitbake_top.specs.Recipe.{work_folder}
+use Rattle.bitbake_top.specs.Report.{PrintsCall}
+use Rattle.bitbake_top.specs.Run.{labels_of, threads}
+use Rattle.bitbake_top.proofs.Calls.{labels_are, legal_run, refused_not_built, tales_ran}
+use Rattle.bitbake_top.proofs.top.run.Goals as goal
+
+pub returns-in-Ok-clause-legal : goal.returns-in-Ok-clause-legal
+returns-in-Ok-clause-legal g c l b =
+    legal_run c.args.words.now (g.L.Layers.files c.args.layers.now) (g.B.Bench.gives c.args.bench.now) g.D.Disk.tells c.in-Ok.plan.recipe.name c.in-Ok.plan.recipe.body (work_folder c.in-Ok.plan.recipe.name) (g.D.Disk.story c.run_plan.new.disk).held c.run_plan.result.tales.items c.run_plan.result.status (c.in-Ok.ensures.found l) (c.run_plan.ensures.did b)
+
+pub returns-in-Ok-clause-text : goal.returns-in-Ok-clause-text
+returns-in-Ok-clause-text g c told =
+    subst (λ (labels : List (List ℕ)). PrintsCall (g.W.Sink.written c.args.printer.now.sink) (g.W.Sink.written c.run_plan.new.printer.sink) labels threads c.run_plan.result.tales.items c.run_plan.result.status c.run_plan.new.printer.failed)
+    (sym (labels_are c.args.words.now c.in-Ok.plan.recipe.name c.in-Ok.ensures.words)) (c.run_plan.ensures.text told)
+
+pub returns-in-Ok-clause-runs : goal.returns-in-Ok-clause-runs
+returns-in-Ok-clause-runs g c l b =
+    tales_ran c.args.words.now _ c.in-Ok.plan.recipe.name c.in-Ok.plan.recipe.body c.run_plan.result.tales.items _ _ (c.in-Ok.ensures.found l) (c.run_plan.ensures.ran b)
+
+pub returns-in-Err-clause-text : goal.returns-in-Err-clause-text
+returns-in-Err-clause-text g c told =
+    subst (λ (tales : List (List Logged)). PrintsCall (g.W.Sink.written c.args.printer.now.sink) (g.W.Sink.written c.refuse.new.printer.sink) (labels_of c.args.words.now) threads tales c.refuse.result c.refuse.new.printer.failed) (sym c.new.ensures.items) (c.refuse.ensures.text told _)
+
+pub returns-in-Err-clause-not_built : goal.returns-in-Err-clause-not_built
+returns-in-Err-clause-not_built g c e = c.in-Err.ensures.not_built (ap Err (refused_not_built c.in-Err.fault c.refuse.result c.refuse.ensures.status e))

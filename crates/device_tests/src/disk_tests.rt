@@ -1,0 +1,106 @@
+// Disks in memory.
+ghost use Rattle.std.specs.Prelude.{◌≡◌, ◌≤◌, All, IfOk, IsTrue};
+ghost use Rattle.tree_model.specs.Path.{IsClean, inside};
+
+use crate::samples::tree_files;
+use outside_mem::{FailDisk, MemDisk};
+use outside_traits::{Disk, DiskFault, put_tree};
+use std::alloc::Global;
+use std::test::Fail;
+use tree_model::{Mem, Text, Tree, TreeFault, is_clean};
+
+/// A disk with an old output and one of another task.
+fn sample(alloc: Global) -> Result<MemDisk, TreeFault> {
+    MemDisk::new(
+        alloc,
+        tree_files(alloc, "work/other/kept", "work/hello/old")?,
+    )
+}
+
+fn tree(alloc: Global) -> Result<Tree, TreeFault> {
+    Tree::from_entries(tree_files(alloc, "b/c", "a")?)
+}
+
+/// The path of a place in a folder.
+fn joined(alloc: Global, folder: &str, path: &str) -> Result<Text, Mem>
+    ensures { IfOk result (λ whole. whole ≡ inside folder.now path.now) }
+{
+    let mut whole = Text::from_str(alloc, folder)?;
+    whole.push_str("/")?;
+    whole.push_str(path)?;
+    Ok(whole)
+}
+
+/// Whether each path of the tree is clean behind the folder.
+fn fits(alloc: Global, folder: &str, tree: &Tree) -> Result<bool, Mem>
+    ensures { IfOk result (λ fits. IsTrue fits → All (λ e. IsClean (inside folder.now e.0)) tree.now) }
+{
+    for (path, _) in tree.entries() {
+        let whole = joined(alloc, folder, path.as_str())?;
+        if !is_clean(whole.as_str()) {
+            return Ok(false);
+        }
+    }
+    Ok(true)
+}
+
+/// Puts the tree into the folder, syncs, and gives the paths that are held then, each with a space behind it.
+fn publish<D: Disk>(
+    alloc: Global,
+    disk: &mut D,
+    folder: &str,
+    tree: &Tree,
+) -> Result<Text, DiskFault>
+    requires reach { 4096 ≤ D.reach }
+    requires clean { All (λ e. IsClean (inside folder.now e.0)) tree.now }
+{
+    put_tree(alloc, disk, folder, tree)?;
+    disk.sync()?;
+    held_paths(alloc, disk)
+}
+
+/// The paths that are held, each with a space behind it.
+fn held_paths<D: Disk>(alloc: Global, disk: &mut D) -> Result<Text, DiskFault> {
+    let mut all = Text::new(alloc);
+    for path in disk.list(alloc, "")?.as_slice() {
+        if disk.read(alloc, path.as_str())?.is_some() {
+            all.push_str(path.as_str())?;
+            all.push_str(" ")?;
+        }
+    }
+    Ok(all)
+}
+
+const PUBLISHED: &str = "work/hello/a work/hello/b/c work/other/kept ";
+
+#[test]
+fn disk_tells(rt: HostRuntime) -> Result<(), Fail> {
+    let alloc = rt.alloc();
+    let tree = tree(alloc)?;
+    let mut disk = sample(alloc)?;
+    assert!(rt; fits(alloc, "work/hello", &tree)?);
+    let found = publish(alloc, &mut disk, "work/hello", &tree)?;
+    assert_eq!(rt; found.as_str(), PUBLISHED);
+    assert_eq!(rt; disk.held().len(), 3);
+    Ok(())
+}
+
+/// A run makes 11 calls: it removes two paths that are in the way and what is listed under the folder, writes two
+/// entries, syncs, lists and reads three. It fails at each of them, and the next run is through.
+#[test]
+fn fail_disk_fails(rt: HostRuntime) -> Result<(), Fail> {
+    let alloc = rt.alloc();
+    let tree = tree(alloc)?;
+    assert!(rt; fits(alloc, "work/hello", &tree)?);
+    for which in 0..=12 {
+        let mut disk = FailDisk::new(sample(alloc)?, which);
+        let first = publish(alloc, &mut disk, "work/hello", &tree);
+        assert_eq!(rt; first.is_err(), 1 <= which && which <= 11);
+        if which <= 11 {
+            let second = publish(alloc, &mut disk, "work/hello", &tree)?;
+            assert_eq!(rt; second.as_str(), PUBLISHED);
+        }
+        assert_eq!(rt; disk.into_disk().held().len(), 3);
+    }
+    Ok(())
+}

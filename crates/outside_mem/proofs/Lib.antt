@@ -1,0 +1,4 @@
+pub mod Files
+pub mod Listing
+pub mod Needles
+pub mod Trees

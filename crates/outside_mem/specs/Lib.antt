@@ -1,0 +1,5 @@
+pub mod Layers
+pub mod Plan
+pub mod Scripts
+pub mod Spends
+pub mod Told

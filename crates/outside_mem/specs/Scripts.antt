@@ -1,0 +1,23 @@
+-- What a table of rules makes of a script. (Own rule.)
+use Rattle.std.specs.Prelude.{ℕ, Bool, List, [], ◌∷◌, ◌||◌, nat_eq, Option, Some, None, Result, Ok, Err, find, if◌then◌else◌}
+use Rattle.std.specs.List.{starts_with}
+use Rattle.outside_traits.specs.Bench.{Entries, Gives}
+use Rattle.outside_mem.specs.declared.script_table.Rule.{Rule}
+
+-- whether the needle stands somewhere in the text
+abbrev pub stands_in : List ℕ → List ℕ → Bool
+stands_in needle [] = starts_with nat_eq [] needle
+stands_in needle (b ∷ text) = starts_with nat_eq (b ∷ text) needle || stands_in needle text
+
+-- the first rule whose needle stands in the script
+abbrev pub rule_for : List Rule → List ℕ → Option Rule
+rule_for rules script = find (λ rule. stands_in rule.needle script) rules
+
+-- what a rule gives: its tree where its status is 0, and else a failure with that status; with no rule the empty tree
+abbrev pub outcome_of : Option Rule → Result Entries ℕ
+outcome_of None = Ok []
+outcome_of (Some rule) = if nat_eq rule.status 0 then Ok rule.puts else Err rule.status
+
+-- what a script gives by the rules. The tree that it runs over isn't looked at yet.
+abbrev pub gives_by : List Rule → Gives
+gives_by rules script tree = outcome_of (rule_for rules script)

@@ -1,0 +1,131 @@
+// A disk in memory of which one call fails.
+ghost use Rattle.std.specs.Prelude.{◌≡◌, ◌≤◌, length};
+ghost use Rattle.tree_model.specs.Path.{IsClean};
+ghost use Rattle.outside_traits.specs.Answers.{Lists, Reads, Removes, Syncs, Writes};
+ghost use Rattle.outside_traits.specs.Fault.{Counts, disk_failed};
+ghost use Rattle.outside_traits.specs.Store.{IsFree};
+ghost use Rattle.outside_mem.specs.Spends.{Spends};
+
+use crate::MemDisk;
+use crate::plan::count_fault;
+use outside_traits::{Disk, DiskFault};
+use std::alloc::Global;
+use tree_model::{Entry, Texts};
+
+/// A disk that fails just one call.
+#[derive(Drop)]
+pub struct FailDisk {
+    disk: MemDisk,
+    left: u64,
+    faults: u64,
+}
+
+impl FailDisk {
+    ghost use Rattle.outside_mem.specs.Told.{disk_of, fail_disk_faults, left_of};
+
+    /// The disk, of which the call with the number `which` fails, from 1. With 0 none does.
+    pub fn new(disk: MemDisk, which: u64) -> FailDisk
+        ensures disk { disk_of result ≡ disk }
+        ensures left { left_of result ≡ which }
+        ensures fresh { fail_disk_faults result ≡ 0 }
+    {
+        FailDisk {
+            disk,
+            left: which,
+            faults: 0,
+        }
+    }
+
+    /// The disk as it is now.
+    pub fn into_disk(self) -> MemDisk
+        ensures { result ≡ disk_of self }
+    {
+        self.disk
+    }
+
+    /// Counts a call, and a fault where it is the one that fails.
+    fn fails(&mut self) -> bool
+        ensures disk { disk_of self.new ≡ disk_of self.old }
+        ensures spends { Spends (left_of self.old) (left_of self.new) result }
+        ensures cause { Counts (fail_disk_faults self.old) (fail_disk_faults self.new) result }
+    {
+        let fails = self.left == 1;
+        self.left = self.left.saturating_sub(1);
+        if fails {
+            count_fault(&mut self.faults);
+        }
+        fails
+    }
+}
+
+impl Disk for FailDisk {
+    ghost use Rattle.outside_mem.specs.Told.{disk_of, fail_disk_faults, left_of, story_of};
+
+    ghost tells = { Unit {0} };
+
+    ghost reach = { 4096 };
+
+    ghost faults = { fail_disk_faults };
+
+    ghost story = { λ d. story_of (disk_of d) };
+
+    ghost sound = { λ d told. d.disk.sound };
+
+    fn read(&mut self, alloc: Global, path: &str) -> Result<Option<Entry>, DiskFault>
+        ensures told { Reads path.now (story_of (disk_of self.old)) (story_of (disk_of self.new)) result }
+        ensures cause { Counts (fail_disk_faults self.old) (fail_disk_faults self.new) (disk_failed result) }
+        ensures spends { Spends (left_of self.old) (left_of self.new) (disk_failed result) }
+    {
+        if self.fails() {
+            return Err(DiskFault::Failed);
+        }
+        self.disk.read(alloc, path)
+    }
+
+    fn write(&mut self, path: &str, entry: &Entry) -> Result<(), DiskFault>
+        requires clean { IsClean path.now }
+        requires within_reach { length path.now ≤ 4096 }
+        requires free { IsFree (story_of (disk_of self.old)).held path.now }
+        ensures told { Writes path.now entry.now (story_of (disk_of self.old)) (story_of (disk_of self.new)) result }
+        ensures cause { Counts (fail_disk_faults self.old) (fail_disk_faults self.new) (disk_failed result) }
+        ensures spends { Spends (left_of self.old) (left_of self.new) (disk_failed result) }
+    {
+        if self.fails() {
+            return Err(DiskFault::Failed);
+        }
+        self.disk.write(path, entry)
+    }
+
+    fn remove(&mut self, path: &str) -> Result<(), DiskFault>
+        ensures told { Removes path.now (story_of (disk_of self.old)) (story_of (disk_of self.new)) result }
+        ensures cause { Counts (fail_disk_faults self.old) (fail_disk_faults self.new) (disk_failed result) }
+        ensures spends { Spends (left_of self.old) (left_of self.new) (disk_failed result) }
+    {
+        if self.fails() {
+            return Err(DiskFault::Failed);
+        }
+        self.disk.remove(path)
+    }
+
+    fn list(&mut self, alloc: Global, prefix: &str) -> Result<Texts, DiskFault>
+        ensures told { Lists prefix.now (story_of (disk_of self.old)) (story_of (disk_of self.new)) result }
+        ensures cause { Counts (fail_disk_faults self.old) (fail_disk_faults self.new) (disk_failed result) }
+        ensures spends { Spends (left_of self.old) (left_of self.new) (disk_failed result) }
+    {
+        if self.fails() {
+            return Err(DiskFault::Failed);
+        }
+        self.disk.list(alloc, prefix)
+    }
+
+    fn sync(&mut self) -> Result<(), DiskFault>
+        ensures told { Syncs (story_of (disk_of self.old)) (story_of (disk_of self.new)) result }
+        ensures cause { Counts (fail_disk_faults self.old) (fail_disk_faults self.new) (disk_failed result) }
+        ensures spends { Spends (left_of self.old) (left_of self.new) (disk_failed result) }
+    {
+        if self.fails() {
+            return Err(DiskFault::Failed);
+        }
+        self.disk.sync()
+    }
+}
