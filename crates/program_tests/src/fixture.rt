@@ -8,13 +8,19 @@ use tree_model::{Bytes, Entry, Text, Tree};
 /// The lines of the example's recipe.
 pub const HELLO: &str = "do_build() {\n    echo hello > hello.txt\n}\naddtask build\n";
 
+/// The word that names it.
+pub const HELLO_ALONE: &[&str] = &["hello"];
+
+/// The files of the example.
+pub const EXAMPLE: &[(&str, &str)] = &[("recipes/hello.bb", HELLO)];
+
 /// A project, what its one script does, and which calls of its devices fail. Calls are counted from 1; 0 is none.
 #[derive(Clone, Copy)]
-pub struct Project<'a> {
-    pub files: &'a [(&'a str, &'a str)],
-    pub words: &'a [&'a str],
-    pub needle: &'a str,
-    pub output: &'a str,
+pub struct Project {
+    pub words: &'static [&'static str],
+    pub files: &'static [(&'static str, &'static str)],
+    pub needle: &'static str,
+    pub output: &'static str,
     pub status: u32,
     pub layers_fail: u64,
     pub disk_fail: u64,
@@ -22,13 +28,18 @@ pub struct Project<'a> {
     pub sink_fail: u64,
 }
 
-impl Project<'_> {
-    /// The example, whose script writes the one file, over devices that don't fail.
-    pub fn hello() -> Project<'static> {
+impl Project {
+    /// The words and files, and a script that writes the one file where the text stands in it, over devices that don't
+    /// fail.
+    pub fn of(
+        words: &'static [&'static str],
+        files: &'static [(&'static str, &'static str)],
+        needle: &'static str,
+    ) -> Project {
         Project {
-            files: &[("recipes/hello.bb", HELLO)],
-            words: &["hello"],
-            needle: "echo hello > hello.txt",
+            words,
+            files,
+            needle,
             output: "hello\n",
             status: 0,
             layers_fail: 0,
@@ -36,6 +47,11 @@ impl Project<'_> {
             bench_fail: 0,
             sink_fail: 0,
         }
+    }
+
+    /// The example.
+    pub fn hello() -> Project {
+        Project::of(HELLO_ALONE, EXAMPLE, "echo hello > hello.txt")
     }
 }
 

@@ -1,5 +1,5 @@
 // One recipe with one task.
-use crate::fixture::{HELLO, Left, Project, call};
+use crate::fixture::{EXAMPLE, HELLO, HELLO_ALONE, Left, Project, call};
 use std::process::Abort;
 use std::test::Fail;
 
@@ -72,12 +72,14 @@ fn bench_fails(rt: HostRuntime) -> Result<(), Fail> {
 
 #[test]
 fn failing_script_is_named(rt: HostRuntime) -> Result<(), Fail> {
-    let mut project = Project::hello();
-    project.files = &[(
-        "recipes/hello.bb",
-        "do_build() {\n    exit 3\n}\naddtask build\n",
-    )];
-    project.needle = "    exit 3\n";
+    let mut project = Project::of(
+        &["hello"],
+        &[(
+            "recipes/hello.bb",
+            "do_build() {\n    exit 3\n}\naddtask build\n",
+        )],
+        "    exit 3\n",
+    );
     project.status = 3;
     let left = call(&rt, &project)?;
     check(
@@ -126,81 +128,159 @@ fn hello_on_a_failing_disk(rt: HostRuntime) -> Result<(), Fail> {
     Ok(())
 }
 
-// Words and files that are in no form that is built: nothing is written to the disk, and no bench runs.
+/// A name of 253 bytes.
+const LONG: &str =
+    "n23456789012345678901234567890123456789012345678901234567890123456789012345678901234567890123456789012345678901234567890123456789012345678901234567890123456789012345678901234567890123456789012345678901234567890123456789012345678901234567890123456789012x";
+
+/// Whether the words and files are in no form that is built: nothing is written to the disk, and no bench runs.
+fn is_refused(
+    rt: &HostRuntime,
+    words: &'static [&'static str],
+    files: &'static [(&'static str, &'static str)],
+) -> Result<bool, Fail> {
+    let left = call(rt, &Project::of(words, files, ""))?;
+    Ok(left.code == 3 && left.text.as_str() == "fault 3 NotBuilt\n" && left.held.as_str() == BEFORE)
+}
+
 #[test]
-fn other_forms_are_not_built(rt: HostRuntime) -> Result<(), Fail> {
-    let longest =
-        "n23456789012345678901234567890123456789012345678901234567890123456789012345678901234567890123456789012345678901234567890123456789012345678901234567890123456789012345678901234567890123456789012345678901234567890123456789012345678901234567890123456789012x";
-    let words: [&[&str]; 9] = [
-        &[],
-        &["hello", "hello"],
-        &["-hello"],
-        &["."],
-        &[".."],
-        &[""],
-        &["hel/lo"],
-        &["other"],
-        &[longest],
-    ];
-    for list in words {
-        let mut project = Project::hello();
-        project.words = list;
-        let left = call(&rt, &project)?;
-        check(&rt, &left, 3, "fault 3 NotBuilt\n", BEFORE);
-    }
-    let files: [&[(&str, &str)]; 12] = [
-        &[],
-        &[("recipes/hello.bb", HELLO), ("recipes/a.bb", HELLO)],
-        &[("recipes/hello.bb", HELLO), ("conf/bitbake.conf", "")],
-        &[("recipes/hello.bb", HELLO), ("classes/base.bbclass", "")],
-        &[("recipes/sub/hello.bb", HELLO)],
-        &[("recipes/hello.bb", "")],
-        &[("recipes/hello.bb", "do_build() {\n}\n}\naddtask build\n")],
-        &[("recipes/hello.bb", "do_build() {\n\n}\naddtask build")],
-        &[("recipes/hello.bb", "do_build() {\n a \n}\naddtask build\n")],
-        &[("recipes/hello.bb", "do_build() {\n a\r\n}\naddtask build\n")],
-        &[(
-            "recipes/hello.bb",
-            "do_build() {\n ${A}\n}\naddtask build\n",
-        )],
-        &[("recipes/hello.bb", "do_build() {\n}\naddtask build\n\n")],
-    ];
-    for list in files {
-        let mut project = Project::hello();
-        project.files = list;
-        let left = call(&rt, &project)?;
-        check(&rt, &left, 3, "fault 3 NotBuilt\n", BEFORE);
-    }
+fn other_words_are_not_built(rt: HostRuntime) -> Result<(), Fail> {
+    assert!(rt; is_refused(&rt, &[], EXAMPLE)?);
+    assert!(rt; is_refused(&rt, &["hello", "hello"], EXAMPLE)?);
+    assert!(rt; is_refused(&rt, &["-hello"], EXAMPLE)?);
+    assert!(rt; is_refused(&rt, &["."], EXAMPLE)?);
+    assert!(rt; is_refused(&rt, &[".."], EXAMPLE)?);
+    assert!(rt; is_refused(&rt, &[""], EXAMPLE)?);
+    assert!(rt; is_refused(&rt, &["hel/lo"], EXAMPLE)?);
+    assert!(rt; is_refused(&rt, &["other"], EXAMPLE)?);
+    assert!(rt; is_refused(&rt, &[LONG], EXAMPLE)?);
     Ok(())
+}
+
+#[test]
+fn other_files_are_not_built(rt: HostRuntime) -> Result<(), Fail> {
+    assert!(rt; is_refused(&rt, HELLO_ALONE, &[])?);
+    assert!(rt;
+        is_refused(
+            &rt,
+            HELLO_ALONE,
+            &[("recipes/hello.bb", HELLO), ("recipes/a.bb", HELLO)]
+        )?
+    );
+    assert!(rt;
+        is_refused(
+            &rt,
+            HELLO_ALONE,
+            &[("recipes/hello.bb", HELLO), ("conf/bitbake.conf", "")]
+        )?
+    );
+    assert!(rt;
+        is_refused(
+            &rt,
+            HELLO_ALONE,
+            &[("recipes/hello.bb", HELLO), ("classes/base.bbclass", "")]
+        )?
+    );
+    assert!(rt; is_refused(&rt, HELLO_ALONE, &[("recipes/sub/hello.bb", HELLO)])?);
+    Ok(())
+}
+
+#[test]
+fn other_recipes_are_not_built(rt: HostRuntime) -> Result<(), Fail> {
+    assert!(rt; is_refused(&rt, HELLO_ALONE, &[("recipes/hello.bb", "")])?);
+    assert!(rt;
+        is_refused(
+            &rt,
+            HELLO_ALONE,
+            &[("recipes/hello.bb", "do_build() {\n}\n}\naddtask build\n")]
+        )?
+    );
+    assert!(rt;
+        is_refused(
+            &rt,
+            HELLO_ALONE,
+            &[("recipes/hello.bb", "do_build() {\n\n}\naddtask build")]
+        )?
+    );
+    assert!(rt;
+        is_refused(
+            &rt,
+            HELLO_ALONE,
+            &[("recipes/hello.bb", "do_build() {\n a \n}\naddtask build\n")]
+        )?
+    );
+    assert!(rt;
+        is_refused(
+            &rt,
+            HELLO_ALONE,
+            &[("recipes/hello.bb", "do_build() {\n a\r\n}\naddtask build\n")]
+        )?
+    );
+    assert!(rt;
+        is_refused(
+            &rt,
+            HELLO_ALONE,
+            &[(
+                "recipes/hello.bb",
+                "do_build() {\n ${A}\n}\naddtask build\n"
+            )]
+        )?
+    );
+    assert!(rt;
+        is_refused(
+            &rt,
+            HELLO_ALONE,
+            &[("recipes/hello.bb", "do_build() {\n}\naddtask build\n\n")]
+        )?
+    );
+    Ok(())
+}
+
+/// Whether the files are in the form that is built, where the script is any.
+fn is_built(
+    rt: &HostRuntime,
+    files: &'static [(&'static str, &'static str)],
+) -> Result<bool, Fail> {
+    let left = call(rt, &Project::of(HELLO_ALONE, files, "do_build() {"))?;
+    Ok(left.code == 0 && left.held.as_str() == BUILT)
 }
 
 // What is no metadata may stand beside the recipe; an empty body and a lone dollar are fine.
 #[test]
 fn accepted_forms_are_built(rt: HostRuntime) -> Result<(), Fail> {
-    let files: [&[(&str, &str)]; 4] = [
-        &[
-            ("recipes/hello.bb", HELLO),
-            ("README", "x"),
-            ("recipe/a.bb", "x"),
-            ("confx", "y"),
-        ],
-        &[("recipes/hello.bb", "do_build() {\n}\naddtask build\n")],
-        &[(
-            "recipes/hello.bb",
-            "do_build() {\n$a $\n $(b) {c}\n}\naddtask build\n",
-        )],
-        &[(
-            "recipes/hello.bb",
-            "do_build() {\n\n }\n}}\n}\naddtask build\n",
-        )],
-    ];
-    for list in files {
-        let mut project = Project::hello();
-        project.files = list;
-        project.needle = "do_build() {";
-        let left = call(&rt, &project)?;
-        assert_eq!(rt; left.code, 0, "with the text {}", left.text.as_str());
-        assert_eq!(rt; left.held.as_str(), BUILT);
-    }
+    assert!(rt;
+        is_built(
+            &rt,
+            &[
+                ("recipes/hello.bb", HELLO),
+                ("README", "x"),
+                ("recipe/a.bb", "x"),
+                ("confx", "y")
+            ]
+        )?
+    );
+    assert!(rt;
+        is_built(
+            &rt,
+            &[("recipes/hello.bb", "do_build() {\n}\naddtask build\n")]
+        )?
+    );
+    assert!(rt;
+        is_built(
+            &rt,
+            &[(
+                "recipes/hello.bb",
+                "do_build() {\n$a $\n $(b) {c}\n}\naddtask build\n"
+            )]
+        )?
+    );
+    assert!(rt;
+        is_built(
+            &rt,
+            &[(
+                "recipes/hello.bb",
+                "do_build() {\n\n }\n}}\n}\naddtask build\n"
+            )]
+        )?
+    );
     Ok(())
 }
