@@ -181,6 +181,93 @@ fi
 } </dev/null | :
 holds "standard output without a reader" test "$(cat "$room/status")" -eq 7
 
+project limit
+recipe hello 'dd if=/dev/zero of=big bs=1048576 count=16'
+runs "$bitbake" hello
+wants "an output at its limit" 0 "$done_text"
+holds "what it has" test "$(wc -c <build/work/hello/do_build/big)" -eq 16777216
+recipe hello 'dd if=/dev/zero of=big bs=1048576 count=16; printf x >> big'
+runs "$bitbake" hello
+wants "an output beyond its limit" 1 "$plan
+failed hello:do_build too large
+fault 1 failed: hello:do_build"
+
+# What stood in the work folder before, and all kinds of outputs.
+project old
+recipe hello 'echo hello > file'
+mkdir build && echo "in the way" >build/work
+runs "$bitbake" hello
+wants "a file where the work folder should be" 0 "$done_text"
+holds "the output in its place" test "$(cat build/work/hello/do_build/file)" = hello
+rm build/work/hello/do_build/file
+for folder in hello/do_build hello/do_build/file hello/do_other other/do_build; do
+    mkdir -p "build/work/$folder" && echo old >"build/work/$folder/old"
+done
+runs "$bitbake" hello
+wants "old outputs" 0 "$done_text"
+holds "old outputs are gone" test "$(find build/work/hello/do_build)" = 'build/work/hello/do_build
+build/work/hello/do_build/file'
+holds "other folders stay" test -f build/work/hello/do_other/old -a -f build/work/other/do_build/old
+holds "nothing is left in the benches" test -z "$(find build/bench/*/deps -not -type d)"
+
+project kinds
+recipe hello 'mkdir -p deep/er empty/too; mkfifo pipe
+    echo run > deep/er/program; chmod 755 deep/er/program; echo read > deep/text; chmod 654 deep/text
+    ln -s deep/text link; ln -s nowhere dangling; ln -s deep folder; echo in > -'
+for turn in first second; do
+    runs "$bitbake" hello
+    wants "outputs of all kinds, $turn" 0 "$done_text"
+    holds "what stands there, $turn" test "$(cd build/work/hello/do_build && find . -not -type d | LC_ALL=C sort | tr '\n' ' ')" = './- ./dangling ./deep/er/program ./deep/text ./folder ./link '
+    holds "their bytes, $turn" test "$(cd build/work/hello/do_build && cat deep/er/program ./- deep/text)" = 'run
+in
+read'
+    holds "the executable bit, $turn" test -x build/work/hello/do_build/deep/er/program -a ! -x build/work/hello/do_build/deep/text
+    holds "links, $turn" test "$(cd build/work/hello/do_build && readlink link dangling folder | tr '\n' ' ')" = 'deep/text nowhere deep '
+    holds "no empty folders, $turn" test ! -e build/work/hello/do_build/empty
+done
+
+project bytes
+recipe hello 'touch "$(printf '"'x\\377'"')"'
+runs "$bitbake" hello
+wants "an output whose name is no text" 5 "$plan
+broke hello:do_build bench
+fault 5 bench"
+recipe hello 'echo hello > hello.txt'
+runs "$bitbake" hello
+wants "the bench after it" 0 "$done_text"
+touch "$(printf 'x\377')"
+runs "$bitbake" hello
+wants "a file whose name is no text" 6 "fault 6 read"
+
+# What the recipe's file has.
+project statements
+printf '# a comment\nSUMMARY = "not used"\ndo_build() {\n\techo hello > hello.txt\n}\n\naddtask build\n' >recipes/hello.bb
+runs "$bitbake" hello
+wants "a name with capital letters" 3 "fault 3 NotBuilt"
+printf '# a comment\n\nsummary = "not used" \ngreeting = \\\n  "also"\ndo_build() {\n\techo hello > hello.txt\n}\n\naddtask build\n' >recipes/hello.bb
+runs "$bitbake" hello
+wants "comments, blanks and assignments" 0 "$done_text"
+for line in 'A = b' 'python do_x() {' 'fakeroot do_build() {' 'A = "b"c"' 'do_x = "b"'; do
+    case $line in
+        python*) kind=Python ;;
+        fakeroot*) kind=Fakeroot ;;
+        'A = "b"c"') kind=OneInnerQuote ;;
+        *) kind=BadLine ;;
+    esac
+    printf '\n%s\n' "$line" >recipes/hello.bb
+    runs "$bitbake" hello
+    case $line in
+        do_x*) wants "a plain task variable" 3 "fault 3 NotBuilt" ;;
+        *) wants "the line $line" 3 "fault 3 recipes/hello.bb:2: $kind" ;;
+    esac
+done
+printf '\n\nA = "\377"\n' >recipes/hello.bb
+runs "$bitbake" hello
+wants "a file that isn't UTF-8" 3 "fault 3 recipes/hello.bb:3: NotUtf8"
+printf 'do_build() {\n    true\n' >recipes/hello.bb
+runs "$bitbake" hello
+wants "a function that isn't closed" 3 "fault 3 recipes/hello.bb:1: OpenFunction"
+
 project locked
 recipe hello 'mkdir shut; echo a > shut/a; echo b > shut/b; chmod 000 shut/a; chmod 100 shut'
 if [ "$(id -u)" -ne 0 ]; then

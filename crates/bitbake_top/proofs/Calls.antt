@@ -16,11 +16,15 @@ use Rattle.bitbake_top.specs.declared.find.FindFault.{FindFault}
 use Rattle.bitbake_top.specs.declared.find.FindFault.TheVariants as find
 use Rattle.meta_model.specs.CleanBuild.{Entries}
 use Rattle.bitbake_top.specs.Status.{not_built}
-use Rattle.bitbake_top.specs.Recipe.{IsRecipe, closing, opening, recipe_path}
-use Rattle.bitbake_top.specs.Hello.{IsHello, IsNotBuilt}
-use Rattle.bitbake_top.specs.Report.{PrintsCall, WritesCallFront, call_text}
-use Rattle.bitbake_top.specs.Run.{AreLegal, AreUnchanged, Closes, Concludes, ConcludesAll, ConcludesRun, DidRun, IsUnchanged, IsUnreached, RanLast, RanRun, RanTales, RefusedAs, Runs, SomeRose, Succeeds, clean_task, labels_of, tale_of}
-use Rattle.bitbake_top.proofs.Texts.{same_end, same_front}
+use Rattle.meta_model.specs.declared.line.Kind.TheVariants.{Recipe}
+use Rattle.meta_model.specs.declared.line.SyntaxFault.{SyntaxFault}
+use Rattle.meta_model.specs.declared.statement.Statement.{Statement}
+use Rattle.meta_model.specs.declared.statement.Statement.TheVariants as statement
+use Rattle.meta_model.specs.Statements.{statements}
+use Rattle.bitbake_top.specs.Recipe.{IsForm, IsRecipe, IsTaskFunction, recipe_path}
+use Rattle.bitbake_top.specs.Hello.{IsFaulty, IsHello, IsNotBuilt, IsRefusal, fault_status}
+use Rattle.bitbake_top.specs.Report.{PrintsCall, WritesCallFront, WritesFront, fault_text, report}
+use Rattle.bitbake_top.specs.Run.{AreLegal, AreUnchanged, Closes, Concludes, ConcludesAll, ConcludesRun, DidRun, IsFileFault, IsUnchanged, IsUnreached, RanLast, RanRun, RanTales, RefusedAs, Runs, SomeRose, Succeeds, clean_task, first_word, labels_of, tale_of}
 
 -- the names of the plan's tasks, where the one word is the recipe's name
 pub labels_are : (words : List (List ℕ)) (name : List ℕ) → words ≡ name ∷ [] → labels_of words ≡ labels_of (name ∷ [])
@@ -43,16 +47,54 @@ concludes_call [] s c = inr (inr (inl c))
 concludes_call (tale ∷ more) s c = c
 
 -- NotBuilt comes of one fault alone
-pub refused_not_built : (fault : FindFault) (s : Status) → RefusedAs fault s → s ≡ not_built → fault ≡ find.NotBuilt
-refused_not_built find.NotBuilt s r e = refl
-refused_not_built find.Failed s r e = let h : status.ReadFault ≡ not_built = sym r ∙ e in cc
-refused_not_built find.Memory s r e = let h : status.OutOfMemory ≡ not_built = sym r ∙ e in cc
+pub refused_not_built : (words : List (List ℕ)) (fault : FindFault) (s : Status) → RefusedAs words fault s → s ≡ not_built → fault ≡ find.NotBuilt
+refused_not_built words find.NotBuilt s r e = refl
+refused_not_built words find.Failed s r e = let h : status.ReadFault ≡ not_built = sym r ∙ e in cc
+refused_not_built words find.Memory s r e = let h : status.OutOfMemory ≡ not_built = sym r ∙ e in cc
+refused_not_built words (find.Faulty line w) s (inl r) e = let h : fault_status (first_word words) line w ≡ not_built = sym r ∙ e in cc
+refused_not_built words (find.Faulty line w) s (inr r) e = let h : status.OutOfMemory ≡ not_built = sym r ∙ e in cc
+
+-- a fault at a place comes of the file's fault alone
+pub refused_file : (words : List (List ℕ)) (files : List ℕ → Option (List ℕ)) (fault : FindFault) (s : Status) → RefusedAs words fault s → IsFileFault s → IsRefusal words files fault → IsFaulty words files s
+refused_file words files find.NotBuilt s (inl r) f refusal = let h : not_built ≡ fault_status f.0 f.1 f.2 = sym r ∙ f.3 in cc
+refused_file words files find.NotBuilt s (inr r) f refusal = let h : status.OutOfMemory ≡ fault_status f.0 f.1 f.2 = sym r ∙ f.3 in cc
+refused_file words files find.Failed s r f refusal = let h : status.ReadFault ≡ fault_status f.0 f.1 f.2 = sym r ∙ f.3 in cc
+refused_file words files find.Memory s r f refusal = let h : status.OutOfMemory ≡ fault_status f.0 f.1 f.2 = sym r ∙ f.3 in cc
+refused_file words files (find.Faulty line w) s (inr r) f refusal = let h : status.OutOfMemory ≡ fault_status f.0 f.1 f.2 = sym r ∙ f.3 in cc
+refused_file words files (find.Faulty line w) s (inl r) f refusal = record {
+  name = refusal.0;
+  line = line;
+  wrong = w;
+  one_word = refusal.1;
+  name_is = refusal.2.0;
+  at = refusal.2.1;
+  status = r ∙ ap (λ (ws : List (List ℕ)). fault_status (first_word ws) line w) refusal.1;
+}
+
+concluded_file : (closing : Event) (s : Status) → Concludes closing s → IsFileFault s → ⊥
+concluded_file (event.Ended task) s c f = elim c [ inl h ↦ (let w : status.Ok ≡ fault_status f.0 f.1 f.2 = sym h ∙ f.3 in cc) | inr h ↦ (let w : status.WriteFault ≡ fault_status f.0 f.1 f.2 = sym h ∙ f.3 in cc) ]
+concluded_file (event.Failed task why) s c f = elim c [ inl h ↦ (let w : status.TaskFailed ≡ fault_status f.0 f.1 f.2 = sym h ∙ f.3 in cc) | inr h ↦ (let w : status.WriteFault ≡ fault_status f.0 f.1 f.2 = sym h ∙ f.3 in cc) ]
+concluded_file (event.Broke task cut.Memory) s c f = elim c [ inl h ↦ (let w : status.OutOfMemory ≡ fault_status f.0 f.1 f.2 = sym h ∙ f.3 in cc) | inr h ↦ (let w : status.WriteFault ≡ fault_status f.0 f.1 f.2 = sym h ∙ f.3 in cc) ]
+concluded_file (event.Broke task cut.Bench) s c f = elim c [ inl h ↦ (let w : status.BenchFault ≡ fault_status f.0 f.1 f.2 = sym h ∙ f.3 in cc) | inr h ↦ (let w : status.WriteFault ≡ fault_status f.0 f.1 f.2 = sym h ∙ f.3 in cc) ]
+concluded_file (event.Broke task cut.Fault) s c f = elim c [ inl h ↦ (let w : status.DiskFault ≡ fault_status f.0 f.1 f.2 = sym h ∙ f.3 in cc) | inr h ↦ (let w : status.WriteFault ≡ fault_status f.0 f.1 f.2 = sym h ∙ f.3 in cc) ]
+concluded_file (event.Found task) s c f = c
+concluded_file (event.Restored task) s c f = c
+concluded_file (event.Started task seat) s c f = c
+
+-- a run ends with no fault of a file
+pub ran_file : (tales : List (List Logged)) (s : Status) → ConcludesRun tales s → IsFileFault s → ⊥
+ran_file [] s c f = let h : status.WriteFault ≡ fault_status f.0 f.1 f.2 = sym c ∙ f.3 in cc
+ran_file (tale ∷ more) s c f = concluded_file c.1.0 s c.1.2 f
 
 -- all of a text is a front of it
-pub front_anyway : (base now : List ℕ) (labels : List (List ℕ)) (threads : ℕ) (tales : List (List Logged)) (s : Status) (failed : Bool) → PrintsCall base now labels threads tales s failed → WritesCallFront base now labels threads tales
-front_anyway base now labels threads tales s true prints = prints.front
-front_anyway base now labels threads tales s false prints =
-    (tales, s, inr refl, record { front = call_text labels threads tales s; rest = []; cut = sym (append-nil (call_text labels threads tales s)); written = prints.whole })
+all_is_front : (base now text : List ℕ) → now ≡ base ++ text → WritesFront base now text
+all_is_front base now text whole = record { front = text; rest = []; cut = sym (append-nil text); written = whole }
+
+-- whatever happens, a front was written
+pub front_anyway : (base now : List ℕ) (labels : List (List ℕ)) (threads : ℕ) (tales : List (List Logged)) (s : Status) (failed : Bool) → ConcludesAll tales s → PrintsCall base now labels threads tales s failed → WritesCallFront base now labels threads tales s
+front_anyway base now labels threads tales s true fits prints = prints.front
+front_anyway base now labels threads [] s false fits prints = inl (all_is_front base now (fault_text s) prints.whole)
+front_anyway base now labels threads (tale ∷ tales) s false fits prints = (s, inl refl, (fits, all_is_front base now (report labels threads tale s) prints.whole))
 
 -- where the count of the one that is put back rose, that of one of the list did
 pub some_rose : {B : Type 0} (f : B → ℕ) (xs : List B) (i : ℕ) (x y : B) → i < length xs → x ≡ get_or xs i x → Rose (f x) (f y) → SomeRose (map f xs) (map f (set xs i y))
@@ -90,9 +132,39 @@ closing_in (a ∷ b ∷ more) = b.event
 one_closing : (tale : List Logged) (c d : Event) → tale ≡ tale_of c → tale ≡ tale_of d → c ≡ d
 one_closing tale c d e f = ap closing_in (sym e ∙ f)
 
+-- a function has one body
+one_function : (s : Statement) (a b : List ℕ) → IsTaskFunction s a → IsTaskFunction s b → a ≡ b
+one_function (statement.Function name body) a b first second = sym first.1 ∙ second.1
+one_function (statement.Assign export name op text) a b first second = absurd first
+one_function (statement.Flag name flag op text) a b first second = absurd first
+one_function (statement.Export name) a b first second = absurd first
+one_function (statement.Unset name) a b first second = absurd first
+one_function (statement.UnsetFlag name flag) a b first second = absurd first
+one_function (statement.Include path) a b first second = absurd first
+one_function (statement.Require path) a b first second = absurd first
+one_function (statement.Inherit names) a b first second = absurd first
+one_function (statement.ExportFunctions names) a b first second = absurd first
+one_function (statement.AddTask names after before) a b first second = absurd first
+one_function (statement.DelTask names) a b first second = absurd first
+
+-- statements have one body
+one_form : (list : List (ℕ × Statement)) (a b : List ℕ) → IsForm list a → IsForm list b → a ≡ b
+one_form [] a b first second = absurd first
+one_form (x ∷ []) a b first second = absurd first
+one_form (x ∷ y ∷ []) a b first second = one_function x.1 a b first.0 second.0
+one_form (x ∷ y ∷ z ∷ rest) a b first second = one_form (y ∷ z ∷ rest) a b first.1 second.1
+
+abbrev okay : List (ℕ × Statement) → Result (List (ℕ × Statement)) (ℕ × SyntaxFault)
+okay a = Ok a
+
+same_list : (a b : List (ℕ × Statement)) → okay a ≡ okay b → a ≡ b
+same_list a b e = cc
+
 -- a recipe has one body
 one_body : (file a b : List ℕ) → IsRecipe file a → IsRecipe file b → a ≡ b
-one_body file a b first second = same_front a b closing (same_end opening (a ++ closing) (b ++ closing) (sym first.form ∙ second.form))
+one_body file a b first second =
+    let lists : first.list ≡ second.list = same_list first.list second.list (sym first.statements ∙ second.statements) in
+    one_form second.list a b (subst (λ (l : List (ℕ × Statement)). IsForm l a) lists first.form) second.form
 
 some_same : (a b : List ℕ) → Some a ≡ Some b → a ≡ b
 some_same a b e = cc
@@ -123,7 +195,8 @@ unreached_not_ok : (s : Status) → IsUnreached s → s ≡ status.Ok → ⊥
 unreached_not_ok s (inl h) e = let w : not_built ≡ status.Ok = sym h ∙ e in cc
 unreached_not_ok s (inr (inl h)) e = let w : status.ReadFault ≡ status.Ok = sym h ∙ e in cc
 unreached_not_ok s (inr (inr (inl h))) e = let w : status.WriteFault ≡ status.Ok = sym h ∙ e in cc
-unreached_not_ok s (inr (inr (inr h))) e = let w : status.OutOfMemory ≡ status.Ok = sym h ∙ e in cc
+unreached_not_ok s (inr (inr (inr (inl h)))) e = let w : status.OutOfMemory ≡ status.Ok = sym h ∙ e in cc
+unreached_not_ok s (inr (inr (inr (inr f)))) e = let w : fault_status f.0 f.1 f.2 ≡ status.Ok = sym f.3 ∙ e in cc
 
 -- under Ok the clean build succeeds
 pub succeeds : (words : List (List ℕ)) (files : List ℕ → Option (List ℕ)) (gives : List ℕ → Entries → Result Entries ℕ) (tales : List (List Logged)) (s : Status)
@@ -141,9 +214,21 @@ succeeds words files gives (tale ∷ more) s legal c e =
       clean = ended_by (clean_task gives body) c.1.0 s (subst (Closes (clean_task gives body)) same is_legal.2) c.1.2 e;
     }
 
+fault_or_list : (a : List (ℕ × Statement)) (b : ℕ × SyntaxFault) → okay a ≡ Err b → ⊥
+fault_or_list a b e = cc
+
+-- a file with statements has no fault
+no_fault : (words : List (List ℕ)) (files : List ℕ → Option (List ℕ)) (n b : List ℕ) (s : Status) → IsHello words files n b → IsFaulty words files s → ⊥
+no_fault words files n b s hello faulty =
+    let names : n ≡ faulty.name = (let e : n ∷ [] ≡ faulty.name ∷ [] = sym hello.one_word ∙ faulty.one_word in cc) in
+    let same_file : hello.at.file ≡ faulty.at.file = some_same hello.at.file faulty.at.file (sym hello.at.held ∙ ap (λ (x : List ℕ). files (recipe_path x)) names ∙ faulty.at.held) in
+    fault_or_list hello.at.recipe.list (faulty.line, faulty.wrong)
+    (sym hello.at.recipe.statements ∙ ap (statements Recipe) same_file ∙ faulty.at.fault)
+
 -- which answers are ruled out
 pub record Excluded (words : List (List ℕ)) (files : List ℕ → Option (List ℕ)) (s : Status) : Type 0 where
   pub not_built_so : s ≡ not_built → IsNotBuilt words files
+  pub file : IsFileFault s → IsFaulty words files s
   pub read : s ≡ status.ReadFault → ⊥
   pub disk : s ≡ status.DiskFault → ⊥
   pub bench : s ≡ status.BenchFault → ⊥
@@ -165,10 +250,11 @@ pub must_be_ok : (words : List (List ℕ)) (files : List ℕ → Option (List �
     → AreLegal words files gives tales → ConcludesAll tales s → Excluded words files s → Succeeds words files gives → s ≡ status.Ok
 must_be_ok words files gives [] s legal c ex good =
     elim c [
-      | inl h ↦ absurd (ex.not_built_so h good.name good.body good.hello)
+      | inl h ↦ absurd ((ex.not_built_so h).no_hello good.name good.body good.hello)
       | inr (inl h) ↦ absurd (ex.read h)
       | inr (inr (inl h)) ↦ absurd (ex.write h)
-      | inr (inr (inr h)) ↦ absurd (ex.memory h)
+      | inr (inr (inr (inl h))) ↦ absurd (ex.memory h)
+      | inr (inr (inr (inr f))) ↦ absurd (no_fault words files good.name good.body s good.hello (ex.file f))
     ]
 must_be_ok words files gives (tale ∷ more) s legal c ex good =
     let name = legal.1.0 in

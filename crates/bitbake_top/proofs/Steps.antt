@@ -1,5 +1,5 @@
 -- What a run of the one task comes to: its tale, its status and its text.
-use Rattle.std.proofs.Common.{◌≡◌, inl, inr, ◌∙◌, ap, sym, subst, refl, ℕ, Bool, true, false, List, [], ◌∷◌, ◌++◌, arith, append_assoc, Result, Ok}
+use Rattle.std.proofs.Common.{◌≡◌, ◌⊎◌, inl, inr, length, ◌∙◌, ap, sym, subst, refl, ℕ, Bool, true, false, List, [], ◌∷◌, ◌++◌, arith, append_assoc, Result, Ok}
 use Rattle.std.specs.Prelude.{IsOk, codes}
 use Rattle.std.specs.Fmt.{digits}
 use Rattle.std.proofs.lemmas.Bool.{false≢true}
@@ -17,9 +17,10 @@ use Rattle.bitbake_top.specs.declared.attempt.Attempt.TheVariants as attempt
 use Rattle.bitbake_top.specs.declared.ending.Ending.{Ending}
 use Rattle.bitbake_top.specs.declared.ending.Ending.TheVariants as ending
 use Rattle.meta_model.specs.CleanBuild.{Entries}
-use Rattle.bitbake_top.specs.Report.{Prints, PrintsCall, WritesFront, call_text, end_text, event_line, event_lines, plan_text, report}
-use Rattle.bitbake_top.specs.Run.{Concludes, ConcludesRun, DidAttempt, DidRun, closing_of, ending_after, ending_at_last, ending_text, status_of_ending, tale_of}
-use Rattle.bitbake_top.proofs.Written.{front_of_both}
+use Rattle.bitbake_top.specs.Recipe.{recipe_path}
+use Rattle.bitbake_top.specs.Report.{Prints, PrintsCall, WritesFront, end_text, event_line, event_lines, fault_text, place_line, plan_text, report}
+use Rattle.bitbake_top.proofs.Said.{place_is}
+use Rattle.bitbake_top.specs.Run.{Concludes, ConcludesAll, ConcludesRun, DidAttempt, DidRun, closing_of, ending_after, ending_at_last, ending_text, status_of_ending, tale_of}
 
 -- the status after an attempt, by whether the sink failed before the last line and by the end
 abbrev pub status_by : Attempt → Bool → Bool → Status
@@ -120,15 +121,15 @@ run_text label a f =
     ∙ ap (λ (l : List ℕ). p ++ (event_lines (label ∷ []) (tale_of (closing_of a)) ++ l)) (end_is label a f)
     ∙ ap (λ (l : List ℕ). l ++ (event_lines (label ∷ []) (tale_of (closing_of a)) ++ end_text (label ∷ []) (tale_of (closing_of a)) (status_of_ending (ending_after a f)))) plan_is
 
--- a text that is a call's, or a front of one
-pub prints_call : (base now text : List ℕ) (labels : List (List ℕ)) (threads : ℕ) (tales : List (List Logged)) (s t : Status) (failed : Bool)
-    → Prints base now text failed → text ≡ call_text labels threads tales t → (failed ≡ false → s ≡ t) → PrintsCall base now labels threads tales s failed
-prints_call base now text labels threads tales s t true prints is same = record {
+-- a text that is a fault's, or a front of it
+pub prints_fault : (base now text : List ℕ) (labels : List (List ℕ)) (threads : ℕ) (s t : Status) (failed : Bool)
+    → Prints base now text failed → text ≡ fault_text t → s ≡ t → PrintsCall base now labels threads [] s failed
+prints_fault base now text labels threads s t true prints is same = record {
   whole = tt;
-  front = (tales, t, inr refl, subst (WritesFront base now) is prints.front);
+  front = inl (subst (WritesFront base now) (is ∙ ap fault_text (sym same)) prints.front);
 }
-prints_call base now text labels threads tales s t false prints is same = record {
-  whole = prints.whole ∙ ap (λ (l : List ℕ). base ++ l) (is ∙ ap (call_text labels threads tales) (sym (same refl)));
+prints_fault base now text labels threads s t false prints is same = record {
+  whole = prints.whole ∙ ap (λ (l : List ℕ). base ++ l) (is ∙ ap fault_text (sym same));
   front = tt;
 }
 
@@ -141,13 +142,38 @@ at_last_same ending.Bench = refl
 at_last_same ending.Write = refl
 at_last_same ending.Memory = refl
 
+-- with a failed sink the last line leaves the status, or makes it the sink's
+at_last_or_sink : (e : Ending) → (status_of_ending (ending_at_last e true) ≡ status_of_ending e) ⊎ (status_of_ending (ending_at_last e true) ≡ status.WriteFault)
+at_last_or_sink ending.Built = inr refl
+at_last_or_sink ending.Failed = inr refl
+at_last_or_sink ending.Disk = inl refl
+at_last_or_sink ending.Bench = inl refl
+at_last_or_sink ending.Write = inl refl
+at_last_or_sink ending.Memory = inl refl
+
+-- the status before the last line fits the tale
+met_fits : (a : Attempt) (f : Bool) → ConcludesAll (tale_of (closing_of a) ∷ []) (status_of_ending (ending_after a f))
+met_fits a f = (refl, (closing_of a, refl, subst (Concludes (closing_of a)) (ap status_of_ending (at_last_same (ending_after a f))) (concludes a f false)))
+
+-- a text that is a run's, or a front of it
+prints_run : (base now text label : List ℕ) (a : Attempt) (f g : Bool) → Prints base now text g
+    → text ≡ report (label ∷ []) 4 (tale_of (closing_of a)) (status_of_ending (ending_after a f)) → PrintsCall base now (label ∷ []) 4 (tale_of (closing_of a) ∷ []) (status_by a f g) g
+prints_run base now text label a f true prints is = record {
+  whole = tt;
+  front = (status_of_ending (ending_after a f), at_last_or_sink (ending_after a f), (met_fits a f, subst (WritesFront base now) is prints.front));
+}
+prints_run base now text label a f false prints is = record {
+  whole = prints.whole ∙ ap (λ (l : List ℕ). base ++ l) (is ∙ ap (report (label ∷ []) 4 (tale_of (closing_of a))) (sym (ap status_of_ending (at_last_same (ending_after a f)))));
+  front = tt;
+}
+
 pub run_prints : (base now label : List ℕ) (a : Attempt) (f g : Bool) (tales : List (List Logged)) (s : Status) → tales ≡ tale_of (closing_of a) ∷ [] → s ≡ status_by a f g
     → Prints base now (((([] ++ codes "plan 1 tasks, 4 threads\n") ++ event_line label (event.Started 0 0)) ++ event_line label (closing_of a)) ++ ending_text label (ending_after a f)) g
     → PrintsCall base now (label ∷ []) 4 tales s g
 run_prints base now label a f g tales s tales_is s_is prints =
-    prints_call base now _ (label ∷ []) 4 tales s (status_of_ending (ending_after a f)) g prints
-    (run_text label a f ∙ ap (λ (t : List (List Logged)). call_text (label ∷ []) 4 t (status_of_ending (ending_after a f))) (sym tales_is))
-    (λ ok. s_is ∙ ap (λ (b : Bool). status_of_ending (ending_at_last (ending_after a f) b)) ok ∙ ap status_of_ending (at_last_same (ending_after a f)))
+    subst (λ (t : List (List Logged)). PrintsCall base now (label ∷ []) 4 t s g) (sym tales_is)
+    (subst (λ (x : Status). PrintsCall base now (label ∷ []) 4 (tale_of (closing_of a) ∷ []) x g) (sym s_is)
+    (prints_run base now _ label a f g prints (run_text label a f)))
 
 -- the same, of the texts and values that the code has
 pub run_printed : (base now label text : List ℕ) (a : Attempt) (f g : Bool) (tales : List (List Logged)) (s : Status) (closing : Event) (e : Ending) → text ≡ label → tales ≡ tale_of (closing_of a) ∷ [] → s ≡ status_by a f g
@@ -161,19 +187,14 @@ run_printed base now label text a f g tales s closing e text_is tales_is s_is cl
     (subst (λ (x : List ℕ). Prints base now (((([] ++ codes "plan 1 tasks, 4 threads\n") ++ event_line x (event.Started 0 0)) ++ event_line x closing) ++ ending_text x e) g) text_is prints)))
 
 -- the plan's line failed
-pub plan_failed : (base now : List ℕ) (labels : List (List ℕ)) (label : List ℕ) (tales : List (List Logged)) (s : Status) (failed : Bool) → labels ≡ label ∷ [] → tales ≡ [] → failed ≡ true
+pub plan_failed : (base now : List ℕ) (labels : List (List ℕ)) (label : List ℕ) (tales : List (List Logged)) (s : Status) (failed : Bool) → labels ≡ label ∷ [] → tales ≡ [] → s ≡ status.WriteFault → failed ≡ true
     → Prints base now ([] ++ codes "plan 1 tasks, 4 threads\n") failed → PrintsCall base now labels 4 tales s failed
-plan_failed base now labels label tales s true labels_is none is prints = record {
-  whole = tt;
-  front = (
-    [] ∷ [],
-    status.WriteFault,
-    inl none,
-    subst (λ (l : List (List ℕ)). WritesFront base now (call_text l 4 ([] ∷ []) status.WriteFault)) (sym labels_is)
-        (front_of_both base now (plan_text 1 4) [] (subst (WritesFront base now) plan_is prints.front)),
-  );
-}
-plan_failed base now labels label tales s false labels_is none is prints = absurd (false≢true is)
+plan_failed base now labels label tales s true labels_is none sink is prints =
+    subst (λ (t : List (List Logged)). PrintsCall base now labels 4 t s true) (sym none) (record {
+      whole = tt;
+      front = inr (sink, subst (λ (l : List (List ℕ)). WritesFront base now (plan_text (length l) 4)) (sym labels_is) (subst (WritesFront base now) plan_is prints.front));
+    })
+plan_failed base now labels label tales s false labels_is none sink is prints = absurd (false≢true is)
 
 -- a sink that didn't fail has its count
 pub counts_none : (n : ℕ) (failed : Bool) → failed ≡ false → Counts n n failed
@@ -184,3 +205,12 @@ counts_none n false is = record { later = omega arith; rose = tt; stayed = refl 
 pub prints_none : (base : List ℕ) (failed : Bool) → failed ≡ false → Prints base base [] failed
 prints_none base true is = absurd (false≢true (sym is))
 prints_none base false is = record { whole = sym (append-nil base); front = tt }
+
+-- the line of a fault at a place is printed
+pub place_printed : (base now file kind word text name : List ℕ) (line : ℕ) (labels : List (List ℕ)) (detail : List (List ℕ)) (failed : Bool) → file ≡ recipe_path word → text ≡ file → name ≡ kind → detail ≡ []
+    → Prints base now ([] ++ place_line text line name) failed → PrintsCall base now labels 4 [] (status.Metadata file line kind detail) failed
+place_printed base now file kind word text name line labels detail failed file_is text_is name_is none prints =
+    prints_fault base now _ labels 4 (status.Metadata file line kind detail) (status.Metadata file line kind []) failed prints
+    (ap (λ (t : List ℕ). place_line t line name) text_is ∙ ap (λ (n : List ℕ). place_line file line n) name_is
+    ∙ subst (λ (f : List ℕ). place_line f line kind ≡ fault_text (status.Metadata f line kind [])) (sym file_is) (place_is word kind line))
+    (ap (λ (d : List (List ℕ)). status.Metadata file line kind d) none)

@@ -1,9 +1,12 @@
 -- The recipes that are built, and their scripts.
-use Rattle.std.specs.Prelude.{◌≡◌, ◌≢◌, ◌<◌, ◌≤◌, ◌⊎◌, ◌==◌, ◌||◌, ◌&&◌, ℕ, Bool, List, [], ◌∷◌, ◌++◌, Option, IsTrue, All, length, codes, nat_le, MatchOption}
+use Rattle.std.specs.Prelude.{◌≡◌, ◌≢◌, ◌<◌, ◌≤◌, ◌⊎◌, ◌==◌, ◌||◌, ◌&&◌, ℕ, Bool, false, List, [], ◌∷◌, ◌++◌, Option, IsTrue, All, length, codes, nat_le, slice_index, MatchOption}
 use denote.Ref.{Bor}
-use Rattle.std.specs.List.{slice_split}
 use Rattle.std.specs.Str.Iter.{HasSubslice}
-use Rattle.std.specs.Str.{IsUtf8}
+use Rattle.meta_model.specs.declared.entry.Op.TheVariants.{Set}
+use Rattle.meta_model.specs.declared.line.Kind.TheVariants.{Recipe}
+use Rattle.meta_model.specs.declared.statement.Statement.{Statement}
+use Rattle.meta_model.specs.declared.statement.Statement.TheVariants as statement
+use Rattle.meta_model.specs.Statements.{AreStatements}
 use Rattle.meta_model.specs.Script.{script_text}
 
 -- letters, digits, `+`, `-` and `.`
@@ -18,47 +21,64 @@ pub record IsName (name : List ℕ) : Type 0 where
   pub not_above : name ≢ 46 ∷ 46 ∷ []
   pub no_option : ((rest : List ℕ) × (name ≡ 45 ∷ rest)) → ⊥
 
--- a line of a function's body: it doesn't end with a blank, and isn't `}` alone
-pub record IsBodyLine (line : List ℕ) : Type 0 where
-  pub not_close : line ≢ 125 ∷ []
-  pub no_space : ((front : List ℕ) × (line ≡ front ++ 32 ∷ [])) → ⊥
-  pub no_tab : ((front : List ℕ) × (line ≡ front ++ 9 ∷ [])) → ⊥
-  pub no_return : ((front : List ℕ) × (line ≡ front ++ 13 ∷ [])) → ⊥
+-- the name of the one task
+abbrev pub task_name : List ℕ
+task_name = codes "do_build"
 
--- nothing, or text that ends with a newline
-abbrev pub IsWhole : List ℕ → Type 0
-IsWhole text = (text ≡ []) ⊎ ((front : List ℕ) × (text ≡ front ++ 10 ∷ []))
+-- a lower-case letter or `_`
+abbrev pub is_variable_start : ℕ → Bool
+is_variable_start b = (nat_le 97 b && nat_le b 122) || (b == 95)
 
--- the pieces between the newlines
-abbrev pub lines_of : List ℕ → List (List ℕ)
-lines_of text = slice_split (λ b. b == 10) text
+-- a lower-case letter, a digit or `_`
+abbrev pub is_variable_byte : ℕ → Bool
+is_variable_byte b = is_variable_start b || (nat_le 48 b && nat_le b 57)
 
--- a function's body: whole lines, without a reference
-pub record IsBody (body : List ℕ) : Type 0 where
-  pub whole : IsWhole body
-  pub lines : All IsBodyLine (lines_of body)
-  pub no_reference : HasSubslice body (36 ∷ 123 ∷ []) → ⊥
-
+-- the text that a reference begins with
 abbrev pub opening : List ℕ
-opening = codes "do_build() {\n"
+opening = codes "${"
 
-abbrev pub closing : List ℕ
-closing = codes "}\naddtask build\n"
+-- no reference begins in the text
+abbrev pub HasNoReference : List ℕ → Type 0
+HasNoReference text = HasSubslice text opening → ⊥
+
+-- a lower-case shell name that doesn't begin with `do_`
+pub record IsVariable (name : List ℕ) : Type 0 where
+  pub start : IsTrue (is_variable_start (slice_index name 0))
+  pub plain : All (λ b. IsTrue (is_variable_byte b)) name
+  pub no_task : ((rest : List ℕ) × (name ≡ codes "do_" ++ rest)) → ⊥
+
+-- an assignment that the task sees nothing of: by `=`, to a variable, of a text without a reference
+abbrev pub IsPlain : Statement → Type 0
+IsPlain (statement.Assign export name op text) = (export ≡ false) × (op ≡ Set) × IsVariable name × HasNoReference text
+IsPlain _ = ⊥
+
+-- the function of the one task, with this body, which holds no reference
+abbrev pub IsTaskFunction : Statement → List ℕ → Type 0
+IsTaskFunction (statement.Function name body) text = (name ≡ task_name) × (body ≡ text) × HasNoReference body
+IsTaskFunction _ text = ⊥
+
+-- the line `addtask build`
+abbrev pub IsTaskLine : Statement → Type 0
+IsTaskLine (statement.AddTask names after before) = (names ≡ task_name ∷ []) × (after ≡ []) × (before ≡ [])
+IsTaskLine _ = ⊥
+
+-- The statements of the form that is built so far: plain assignments, the function of the one task, its line. (Own rule.)
+abbrev pub IsForm : List (ℕ × Statement) → List ℕ → Type 0
+IsForm [] body = ⊥
+IsForm (a ∷ []) body = ⊥
+IsForm (a ∷ b ∷ []) body = IsTaskFunction a.1 body × IsTaskLine b.1
+IsForm (a ∷ b ∷ c ∷ rest) body = IsPlain a.1 × IsForm (b ∷ c ∷ rest) body
 
 -- the file of a recipe with this body
 pub record IsRecipe (file body : List ℕ) : Type 0 where
-  pub form : file ≡ opening ++ (body ++ closing)
-  pub body_is : IsBody body
-  pub text : IsUtf8 body
+  pub list : List (ℕ × Statement)
+  pub statements : AreStatements Recipe file list
+  pub form : IsForm list body
   pub short : length file ≤ 1048576
 
--- what a search for the body of a file finds
-abbrev pub IsBodyOf : List ℕ → Option (List ℕ) → Type 0
-IsBodyOf file found = MatchOption found ((body : List ℕ) → file ≡ opening ++ (body ++ closing) → IsBody body → IsUtf8 body → ⊥) (λ body. (file ≡ opening ++ (body ++ closing)) × IsBody body × IsUtf8 body)
-
--- what stands between the first line and the last two
-abbrev pub IsInner : List ℕ → Option (Bor (List ℕ)) → Type 0
-IsInner text inner = MatchOption inner ((body : List ℕ) → text ≢ opening ++ (body ++ closing)) (λ body. text ≡ opening ++ (body.now ++ closing))
+-- what a search for the body among statements finds
+abbrev pub IsBodyOf : List (ℕ × Statement) → Option (Bor (List ℕ)) → Type 0
+IsBodyOf list found = MatchOption found ((body : List ℕ) → IsForm list body → ⊥) (λ body. IsForm list body.now)
 
 abbrev pub recipe_path : List ℕ → List ℕ
 recipe_path name = codes "recipes/" ++ (name ++ codes ".bb")
@@ -66,10 +86,6 @@ recipe_path name = codes "recipes/" ++ (name ++ codes ".bb")
 -- where what a task gives is put
 abbrev pub work_folder : List ℕ → List ℕ
 work_folder name = codes "work/" ++ (name ++ codes "/do_build")
-
--- the name of the one task
-abbrev pub task_name : List ℕ
-task_name = codes "do_build"
 
 -- how the one task of a recipe is written
 abbrev pub label_of : List ℕ → List ℕ

@@ -2,6 +2,7 @@
 use Rattle.std.specs.Prelude.{◌≡◌, ◌⊎◌, ◌==◌, ℕ, zero, suc, ◌+◌, Bool, true, false, List, [], ◌∷◌, ◌++◌, codes, length, if◌then◌else◌, count_by}
 use Rattle.std.specs.Bool.{OnTrue, OnFalse}
 use Rattle.std.specs.Fmt.{decimal}
+use Rattle.tree_model.specs.Hash.{hash_text}
 use Rattle.meta_model.specs.declared.event.Why.{Why}
 use Rattle.meta_model.specs.declared.event.Why.TheVariants as why
 use Rattle.meta_model.specs.declared.event.Cut.{Cut}
@@ -11,6 +12,7 @@ use Rattle.meta_model.specs.declared.event.Event.TheVariants.{Found, Restored, S
 use Rattle.meta_model.specs.declared.event.Logged.{Logged}
 use Rattle.meta_model.specs.declared.event.Status.{Status}
 use Rattle.meta_model.specs.declared.event.Status.TheVariants as status
+use Rattle.bitbake_top.specs.Run.{ConcludesAll}
 
 -- the plan's line: the number of its tasks and of its threads
 abbrev pub plan_text : ℕ → ℕ → List ℕ
@@ -116,8 +118,15 @@ fault_text status.DiskFault = codes "fault 4 disk\n"
 fault_text status.BenchFault = codes "fault 5 bench\n"
 fault_text status.ReadFault = codes "fault 6 read\n"
 fault_text status.WriteFault = []
+fault_text (status.Collision name held given) = codes "fault 8 collision " ++ (hash_text name ++ codes "\n")
+fault_text (status.Unsteady pn task held given) = codes "fault 9 unsteady " ++ (pn ++ (codes ":" ++ (task ++ codes "\n")))
 fault_text (status.Limit kind) = codes "fault 10 " ++ (kind ++ codes "\n")
 fault_text status.OutOfMemory = codes "fault 11 memory\n"
+
+-- the line of a fault at a line of a file, or of a file alone
+abbrev pub place_line : List ℕ → ℕ → List ℕ → List ℕ
+place_line file zero kind = codes "fault 3 " ++ (file ++ (codes ": " ++ (kind ++ codes "\n")))
+place_line file (suc line) kind = codes "fault 3 " ++ (file ++ (codes ":" ++ (decimal (suc line) ++ (codes ": " ++ (kind ++ codes "\n")))))
 
 -- the last line of a run
 abbrev pub end_text : List (List ℕ) → List Logged → Status → List ℕ
@@ -150,13 +159,16 @@ pub record Prints (base now text : List ℕ) (failed : Bool) : Type 0 where
   pub whole : OnFalse failed (now ≡ base ++ text)
   pub front : OnTrue failed (WritesFront base now text)
 
--- A front of the text of a call with these tales, whatever its status, was written behind the base.
--- Where no run was reached, also a front of a run's text: the plan's line may have failed.
-abbrev pub WritesCallFront : List ℕ → List ℕ → List (List ℕ) → ℕ → List (List Logged) → Type 0
-WritesCallFront base now labels threads tales =
-    (reached : List (List Logged)) × (s : Status) × ((tales ≡ []) ⊎ (reached ≡ tales)) × WritesFront base now (call_text labels threads reached s)
+-- A front of the text of a call with these tales and this status was written behind the base. Where no run was begun it
+-- is one of the fault's text or, where the sink failed, of the plan's line. Else it is one of the report of the tale; where
+-- the sink failed the report is that of some status that fits the tale, which the call had met before.
+abbrev pub WritesCallFront : List ℕ → List ℕ → List (List ℕ) → ℕ → List (List Logged) → Status → Type 0
+WritesCallFront base now labels threads [] s =
+    WritesFront base now (fault_text s) ⊎ ((s ≡ status.WriteFault) × WritesFront base now (plan_text (length labels) threads))
+WritesCallFront base now labels threads (tale ∷ tales) s =
+    (met : Status) × ((s ≡ met) ⊎ (s ≡ status.WriteFault)) × (ConcludesAll (tale ∷ tales) met × WritesFront base now (report labels threads tale met))
 
 -- What a call wrote: all of its text, or a front of such a text where the sink failed.
 pub record PrintsCall (base now : List ℕ) (labels : List (List ℕ)) (threads : ℕ) (tales : List (List Logged)) (s : Status) (failed : Bool) : Type 0 where
   pub whole : OnFalse failed (now ≡ base ++ call_text labels threads tales s)
-  pub front : OnTrue failed (WritesCallFront base now labels threads tales)
+  pub front : OnTrue failed (WritesCallFront base now labels threads tales s)

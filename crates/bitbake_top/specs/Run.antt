@@ -20,7 +20,8 @@ use Rattle.bitbake_top.specs.declared.attempt.Given.TheVariants as given
 use Rattle.bitbake_top.specs.declared.find.FindFault.{FindFault}
 use Rattle.bitbake_top.specs.declared.find.FindFault.TheVariants as find
 use Rattle.meta_model.specs.CleanBuild.{Entries, clean_output}
-use Rattle.bitbake_top.specs.Hello.{IsHello}
+use Rattle.meta_model.specs.declared.line.SyntaxFault.{SyntaxFault}
+use Rattle.bitbake_top.specs.Hello.{IsHello, fault_status}
 use Rattle.bitbake_top.specs.Recipe.{label_of, script_of, work_folder}
 use Rattle.bitbake_top.specs.Status.{not_built}
 
@@ -102,9 +103,13 @@ Concludes (event.Broke task cut.Bench) s = (s ≡ status.BenchFault) ⊎ (s ≡ 
 Concludes (event.Broke task cut.Fault) s = (s ≡ status.DiskFault) ⊎ (s ≡ status.WriteFault)
 Concludes _ s = ⊥
 
+-- the status is a fault of a file's text
+abbrev pub IsFileFault : Status → Type 0
+IsFileFault s = (name : List ℕ) × (line : ℕ) × (w : SyntaxFault) × (s ≡ fault_status name line w)
+
 -- the statuses of a call that reached no run
 abbrev pub IsUnreached : Status → Type 0
-IsUnreached s = (s ≡ not_built) ⊎ ((s ≡ status.ReadFault) ⊎ ((s ≡ status.WriteFault) ⊎ (s ≡ status.OutOfMemory)))
+IsUnreached s = (s ≡ not_built) ⊎ ((s ≡ status.ReadFault) ⊎ ((s ≡ status.WriteFault) ⊎ ((s ≡ status.OutOfMemory) ⊎ IsFileFault s)))
 
 -- the status of a call fits its tales
 abbrev pub ConcludesAll : List (List Logged) → Status → Type 0
@@ -153,7 +158,7 @@ IsPlanned words files = (name : List ℕ) × (body : List ℕ) × IsHello words 
 
 -- the statuses of a call that had a plan, but for want of memory
 abbrev pub IsPastPlan : Status → Type 0
-IsPastPlan s = (s ≢ not_built) × ((s ≢ status.ReadFault) × (s ≢ status.OutOfMemory))
+IsPastPlan s = (s ≢ not_built) × ((s ≢ status.ReadFault) × ((s ≢ status.OutOfMemory) × (IsFileFault s → ⊥)))
 
 -- the count of one of the list rose
 abbrev pub SomeRose : List ℕ → List ℕ → Type 0
@@ -237,8 +242,14 @@ DidAttempt told clean folder held attempt.Ended = (tree : Entries) × (clean ≡
 DidAttempt told clean folder held (attempt.Failed why) = clean ≡ Err why
 DidAttempt told clean folder held _ = Unit {0}
 
--- the status of a refused plan; want of memory may take the place of NotBuilt
-abbrev pub RefusedAs : FindFault → Status → Type 0
-RefusedAs find.NotBuilt s = (s ≡ not_built) ⊎ (s ≡ status.OutOfMemory)
-RefusedAs find.Failed s = s ≡ status.ReadFault
-RefusedAs find.Memory s = s ≡ status.OutOfMemory
+-- the first of the words
+abbrev pub first_word : List (List ℕ) → List ℕ
+first_word [] = []
+first_word (word ∷ words) = word
+
+-- the status of a refused plan; want of memory may take the place of one that carries texts
+abbrev pub RefusedAs : List (List ℕ) → FindFault → Status → Type 0
+RefusedAs words find.NotBuilt s = (s ≡ not_built) ⊎ (s ≡ status.OutOfMemory)
+RefusedAs words (find.Faulty line w) s = (s ≡ fault_status (first_word words) line w) ⊎ (s ≡ status.OutOfMemory)
+RefusedAs words find.Failed s = s ≡ status.ReadFault
+RefusedAs words find.Memory s = s ≡ status.OutOfMemory

@@ -1,8 +1,8 @@
 // What is run.
-ghost use Rattle.std.specs.Prelude.{◌≡◌, ◌∷◌, [], IfOk, IsErrOf};
+ghost use Rattle.std.specs.Prelude.{◌≡◌, ◌∷◌, [], IfOk, IfErr};
 ghost use Rattle.outside_traits.specs.Fault.{Counts};
 ghost use Rattle.bitbake_top.specs.Find.{find_failed};
-ghost use Rattle.bitbake_top.specs.Hello.{IsHello, IsNotBuilt};
+ghost use Rattle.bitbake_top.specs.Hello.{IsHello, IsRefusal};
 ghost use Rattle.bitbake_top.specs.Recipe.{IsName, label_of};
 
 use crate::find::FindFault;
@@ -35,7 +35,7 @@ pub fn find_plan<L: Layers>(
     ensures label { IfOk result (λ plan. plan.label ≡ label_of plan.recipe.name) }
     ensures words { IfOk result (λ plan. words.now ≡ plan.recipe.name ∷ []) }
     ensures found { IfOk result (λ plan. L.tells → IsHello words.now (L.files layers.old) plan.recipe.name plan.recipe.body) }
-    ensures not_built { IsErrOf result FindFault.NotBuilt → L.tells → IsNotBuilt words.now (L.files layers.old) }
+    ensures refused { IfErr result (λ fault. L.tells → IsRefusal words.now (L.files layers.old) fault) }
     ensures cause { Counts (L.faults layers.old) (L.faults layers.new) (find_failed result) }
 {
     let recipe = find_recipe(alloc, words, layers)?;

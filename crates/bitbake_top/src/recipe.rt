@@ -1,24 +1,21 @@
 // The words and the recipe that they name.
-ghost use Rattle.std.specs.Prelude.{◌≡◌, ◌++◌, ◌∷◌, [], ◌↔◌, List, ℕ, IsTrue, IfOk, OnOk, IsErrOf, All};
+ghost use Rattle.std.specs.Prelude.{◌≡◌, ◌≤◌, ◌++◌, ◌∷◌, [], ◌↔◌, List, ℕ, IsTrue, IfOk, IfErr, IfSome, OnOk, IsErrOf, All, MatchOption, length, slice_index};
 ghost use Rattle.std.specs.Str.Iter.{HasSubslice};
 ghost use Rattle.outside_traits.specs.Fault.{Counts};
-ghost use Rattle.bitbake_top.specs.Recipe.{IsName, IsBody, IsBodyLine, IsBodyOf, IsInner, IsWhole, is_name_byte as name_byte, label_of, lines_of, recipe_path, script_of, work_folder};
-ghost use Rattle.bitbake_top.specs.Hello.{IsAlone, IsBodyIn, IsClassOrRecipe, IsHello, IsMetadata, IsNotBuilt, IsRead};
-ghost use Rattle.bitbake_top.specs.Find.{find_failed};
+ghost use Rattle.bitbake_top.specs.Recipe.{HasNoReference, IsBodyOf, IsName, IsPlain, IsTaskFunction, IsTaskLine, IsVariable, is_name_byte as name_byte, is_variable_byte as variable_byte, is_variable_start as variable_start, label_of, recipe_path, script_of, task_name, work_folder};
+ghost use Rattle.bitbake_top.specs.Hello.{IsAlone, IsBodyIn, IsBodyInFile, IsClassOrRecipe, IsFileFault, IsHello, IsMetadata, IsRead, IsRecipeFault, IsRefusal};
+ghost use Rattle.bitbake_top.specs.Find.{IsDeviceFault, find_failed};
 
-use crate::find::FindFault;
+use crate::find::{FindFault, parse_refusal};
+use bb_parser::parse;
+use meta_model::{Kind, Op, Statement};
 use outside_traits::{Layers, ReadFault};
 use std::alloc::Global;
-use std::str;
-use tree_model::{Bytes, Mem, Text};
+use tree_model::{Bytes, Mem, Text, Texts};
 
 const MAX_FILE: u64 = 1_048_576;
 
 const MAX_NAME: usize = 252;
-
-const OPENING: &[u8] = b"do_build() {\n";
-
-const CLOSING: &[u8] = b"}\naddtask build\n";
 
 /// One recipe with one task.
 #[derive(Debug, Drop)]
@@ -67,7 +64,7 @@ pub fn find_recipe<L: Layers>(
     ensures name { IfOk result (λ recipe. IsName recipe.name) }
     ensures words { IfOk result (λ recipe. words.now ≡ recipe.name ∷ []) }
     ensures found { IfOk result (λ recipe. L.tells → IsHello words.now (L.files layers.old) recipe.name recipe.body) }
-    ensures not_built { IsErrOf result FindFault.NotBuilt → L.tells → IsNotBuilt words.now (L.files layers.old) }
+    ensures refused { IfErr result (λ fault. L.tells → IsRefusal words.now (L.files layers.old) fault) }
     ensures cause { Counts (L.faults layers.old) (L.faults layers.new) (find_failed result) }
 {
     let [word] = words else {
@@ -77,28 +74,40 @@ pub fn find_recipe<L: Layers>(
         return Err(FindFault::NotBuilt);
     }
     let name = word.copy()?;
-    let found = body_in(alloc, layers, name.as_str())?;
-    match found {
-        Some(body) => Ok(Recipe { name, body }),
-        None => Err(FindFault::NotBuilt),
+    match body_in(alloc, layers, name.as_str()) {
+        Ok(Some(body)) => Ok(Recipe { name, body }),
+        Ok(None) => Err(FindFault::NotBuilt),
+        Err(fault) => Err(fault),
     }
 }
 
 /// The body of the one recipe of the layers, where it has this name and the one form that is built.
 fn body_in<L: Layers>(alloc: Global, layers: &mut L, name: &str) -> Result<Option<Text>, FindFault>
     ensures found { IfOk result (λ found. L.tells → IsBodyIn (L.files layers.old) name.now found) }
-    ensures decided { IsErrOf result FindFault.NotBuilt → ⊥ }
+    ensures refused { IfErr result (λ fault. L.tells → IsRecipeFault (L.files layers.old) name.now fault) }
     ensures cause { Counts (L.faults layers.old) (L.faults layers.new) (find_failed result) }
 {
     let path = recipe_file(alloc, name)?;
     let alone = is_alone(alloc, layers, path.as_str())?;
-    if !alone {
-        return Ok(None);
-    }
     let found = read_whole(alloc, layers, path.as_str())?;
     match found {
-        Some(file) => Ok(body_of(alloc, file.as_slice())?),
+        Some(file) => body_of_file(alloc, alone, file.as_slice()),
         None => Ok(None),
+    }
+}
+
+/// The body of a recipe's file that has the one form that is built, where no other file is metadata.
+fn body_of_file(alloc: Global, alone: bool, file: &[u8]) -> Result<Option<Text>, FindFault>
+    requires { length file.now ≤ 1_048_576 }
+    ensures found { IfOk result (λ found. IsBodyInFile alone file.now found) }
+    ensures refused { IfErr result (λ fault. IsFileFault file.now fault) }
+{
+    match parse(alloc, Kind::Recipe, file) {
+        Ok(statements) => match body_of(statements.as_slice()) {
+            Some(body) if alone => Ok(Some(body.copy()?)),
+            _ => Ok(None),
+        },
+        Err(fault) => Err(parse_refusal(fault)),
     }
 }
 
@@ -109,7 +118,8 @@ fn read_whole<L: Layers>(
     path: &str,
 ) -> Result<Option<Bytes>, FindFault>
     ensures found { IfOk result (λ found. L.tells → IsRead (L.files layers.old path.now) found) }
-    ensures decided { IsErrOf result FindFault.NotBuilt → ⊥ }
+    ensures within { IfOk result (λ found. IfSome found (λ file. length file ≤ 1_048_576)) }
+    ensures refused { IfErr result IsDeviceFault }
     ensures same { L.files layers.new ≡ L.files layers.old }
     ensures cause { Counts (L.faults layers.old) (L.faults layers.new) (find_failed result) }
 {
@@ -145,7 +155,7 @@ fn is_name_byte(byte: u8) -> bool
     matches!(byte, b'a'..=b'z' | b'A'..=b'Z' | b'0'..=b'9' | b'+' | b'-' | b'.')
 }
 
-fn recipe_file(alloc: Global, name: &str) -> Result<Text, Mem>
+pub fn recipe_file(alloc: Global, name: &str) -> Result<Text, Mem>
     ensures { IfOk result (λ path. path ≡ recipe_path name.now) }
 {
     let mut path = Text::from_str(alloc, "recipes/")?;
@@ -157,7 +167,7 @@ fn recipe_file(alloc: Global, name: &str) -> Result<Text, Mem>
 /// Whether no other file than this one is metadata.
 fn is_alone<L: Layers>(alloc: Global, layers: &mut L, path: &str) -> Result<bool, FindFault>
     ensures alone { IfOk result (λ alone. L.tells → (IsTrue alone ↔ IsAlone (L.files layers.old) path.now)) }
-    ensures decided { IsErrOf result FindFault.NotBuilt → ⊥ }
+    ensures refused { IfErr result IsDeviceFault }
     ensures same { L.files layers.new ≡ L.files layers.old }
     ensures cause { Counts (L.faults layers.old) (L.faults layers.new) (find_failed result) }
 {
@@ -195,69 +205,123 @@ fn begins_with(text: &str, front: &[u8]) -> bool
     text.as_bytes().starts_with(front)
 }
 
-/// The body of the function in a file that has the one form that is built.
-fn body_of(alloc: Global, file: &[u8]) -> Result<Option<Text>, Mem>
-    ensures { IfOk result (λ found. IsBodyOf file.now found) }
+/// The body of the one task's function, of statements in the one form that is built.
+fn body_of(statements: &[(u32, Statement)]) -> Option<&Text>
+    ensures { IsBodyOf statements.now result }
 {
-    let Some(inner) = inner_bytes(file) else {
-        return Ok(None);
-    };
-    let Ok(body) = str::from_utf8(inner) else {
-        return Ok(None);
-    };
-    if is_body(body) {
-        Ok(Some(Text::from_str(alloc, body)?))
-    } else {
-        Ok(None)
+    let mut rest = statements;
+    loop {
+        match rest {
+            [(_, function), (_, line)] => return task_body(function, line),
+            [(_, first), more @ ..] => {
+                if !is_plain(first) {
+                    return None;
+                }
+                rest = more;
+            }
+            [] => return None,
+        }
     }
 }
 
-/// What stands between the first line and the last two.
-fn inner_bytes(file: &[u8]) -> Option<&[u8]>
-    ensures { IsInner file.now result }
+/// The body of the one task's function and the line behind it.
+fn task_body<'a>(function: &'a Statement, line: &Statement) -> Option<&'a Text>
+    ensures { MatchOption result ((body : List ℕ) → IsTaskFunction function.now body → IsTaskLine line.now → ⊥) (λ body. IsTaskFunction function.now body.now × IsTaskLine line.now) }
 {
-    let Some(rest) = file.strip_prefix(OPENING) else {
-        return None;
-    };
-    rest.strip_suffix(CLOSING)
+    match function {
+        Statement::Function { name, body }
+            if is_task_name(name) && is_task_line(line) && !has_reference(body.as_str()) => Some(
+            body,
+        ),
+        _ => None,
+    }
 }
 
-fn is_body(body: &str) -> bool
-    ensures { IsTrue result ↔ IsBody body.now }
+fn is_task_name(name: &Text) -> bool
+    ensures { IsTrue result ↔ (name.now ≡ task_name) }
 {
-    is_whole(body) && are_body_lines(body) && !has_reference(body)
+    name.as_str() == "do_build"
 }
 
-fn is_whole(body: &str) -> bool
-    ensures { IsTrue result ↔ IsWhole body.now }
+/// Whether it is the line `addtask build`.
+fn is_task_line(statement: &Statement) -> bool
+    ensures { IsTrue result ↔ IsTaskLine statement.now }
 {
-    body.is_empty() || ends_with_byte(body.as_bytes(), b'\n')
+    match statement {
+        Statement::AddTask {
+            names,
+            after,
+            before,
+        } => is_task_list(names) && after.is_empty() && before.is_empty(),
+        _ => false,
+    }
+}
+
+fn is_task_list(names: &Texts) -> bool
+    ensures { IsTrue result ↔ (names.now ≡ task_name ∷ []) }
+{
+    match names.as_slice() {
+        [name] => is_task_name(name),
+        _ => false,
+    }
+}
+
+/// Whether it is an assignment that the task sees nothing of.
+fn is_plain(statement: &Statement) -> bool
+    ensures { IsTrue result ↔ IsPlain statement.now }
+{
+    match statement {
+        Statement::Assign {
+            export,
+            name,
+            op,
+            text,
+        } => !*export
+            && *op == Op::Set
+            && is_variable(name.as_str())
+            && !has_reference(text.as_str()),
+        _ => false,
+    }
+}
+
+/// Whether a name is a lower-case shell name that doesn't begin with `do_`.
+fn is_variable(name: &str) -> bool
+    ensures { IsTrue result ↔ IsVariable name.now }
+{
+    starts_variable(name.as_bytes())
+        && are_variable_bytes(name.as_bytes())
+        && !begins_with(name, b"do_")
+}
+
+fn starts_variable(bytes: &[u8]) -> bool
+    ensures { IsTrue result ↔ IsTrue (variable_start (slice_index bytes.now 0)) }
+{
+    match bytes {
+        [first, ..] => is_variable_start(*first),
+        [] => false,
+    }
+}
+
+fn are_variable_bytes(bytes: &[u8]) -> bool
+    ensures { IsTrue result ↔ All (λ b. IsTrue (variable_byte b)) bytes.now }
+{
+    bytes.iter().all(|byte| is_variable_byte(*byte))
+}
+
+fn is_variable_start(byte: u8) -> bool
+    ensures { result ≡ variable_start byte }
+{
+    matches!(byte, b'a'..=b'z' | b'_')
+}
+
+fn is_variable_byte(byte: u8) -> bool
+    ensures { result ≡ variable_byte byte }
+{
+    matches!(byte, b'a'..=b'z' | b'_' | b'0'..=b'9')
 }
 
 fn has_reference(body: &str) -> bool
     ensures { IsTrue result ↔ HasSubslice body.now (36 ∷ 123 ∷ []) }
 {
     body.contains("${")
-}
-
-fn are_body_lines(body: &str) -> bool
-    ensures { IsTrue result ↔ All IsBodyLine (lines_of body.now) }
-{
-    body.split('\n').all(is_body_line)
-}
-
-fn is_body_line(line: &str) -> bool
-    ensures { IsTrue result ↔ IsBodyLine line.now }
-{
-    let bytes = line.as_bytes();
-    line != "}"
-        && !ends_with_byte(bytes, b' ')
-        && !ends_with_byte(bytes, b'\t')
-        && !ends_with_byte(bytes, b'\r')
-}
-
-fn ends_with_byte(bytes: &[u8], byte: u8) -> bool
-    ensures { IsTrue result ↔ ((front : List ℕ) × (bytes.now ≡ front ++ byte ∷ [])) }
-{
-    bytes.ends_with(&[byte])
 }

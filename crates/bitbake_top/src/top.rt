@@ -2,9 +2,9 @@
 ghost use Rattle.std.specs.Prelude.{◌≡◌, ◌≢◌, ◌<◌, ◌≤◌, ◌↔◌, ◌++◌, false, All, vec_len, map};
 ghost use Rattle.outside_traits.specs.Bench.{Gives};
 ghost use Rattle.outside_traits.specs.Fault.{Counts, Rose};
-ghost use Rattle.bitbake_top.specs.Hello.{IsNotBuilt};
+ghost use Rattle.bitbake_top.specs.Hello.{IsFaulty, IsNotBuilt};
 ghost use Rattle.bitbake_top.specs.Report.{PrintsCall, WritesCallFront, call_text};
-ghost use Rattle.bitbake_top.specs.Run.{AreLegal, AreUnchanged, ConcludesAll, HasBrokenBench, IsBuilt, IsPastPlan, IsPlanned, IsUnchanged, RanLast, RanTales, SomeRose, Succeeds, labels_of, threads};
+ghost use Rattle.bitbake_top.specs.Run.{AreLegal, AreUnchanged, ConcludesAll, HasBrokenBench, IsBuilt, IsFileFault, IsPastPlan, IsPlanned, IsUnchanged, RanLast, RanTales, SomeRose, Succeeds, labels_of, threads};
 ghost use Rattle.bitbake_top.specs.Status.{not_built};
 
 use crate::finish::Finish;
@@ -20,8 +20,9 @@ use tree_model::Text;
 /// Does all that the program does, and gives the devices back with the status and the tale.
 ///
 /// `words` are those after the program's name. So far they are exactly one: the name of a recipe `recipes/NAME.bb`,
-/// the only file under `conf/`, `classes/` and `recipes/`, that has the function `do_build` and the line
-/// `addtask build` alone. Any other words or files are `NotBuilt`. The task runs on the last bench; its output goes to
+/// the only file under `conf/`, `classes/` and `recipes/`, with assignments by `=` to lower-case variables, then the
+/// function `do_build`, then the line `addtask build`; no text and no body holds a reference. A fault of that file's
+/// lines or statements is answered with its place. Any other words or files are `NotBuilt`. The task runs on the last bench; its output goes to
 /// `work/NAME/do_build/` on the disk. (BitBake User Manual, "The BitBake Command"; the accepted form is an own rule.)
 pub fn bitbake<L: Layers, D: Disk, B: Bench, W: Sink>(
     alloc: Global,
@@ -55,18 +56,21 @@ pub fn bitbake<L: Layers, D: Disk, B: Bench, W: Sink>(
         → AreLegal words.now (L.files layers) gives result.tales.items }
     ensures concludes { ConcludesAll result.tales.items result.status }
 
-    // What was written is the text of the tale and the status; whatever happens, a front of such a text.
+    // What was written is the text of the tale and the status. Whatever happens it is a front of such a text; where no
+    // run was begun, of the fault's text, or of the plan's line where the sink failed.
     ensures text { W.tells → IsUnchanged (W.faults sink) (W.faults result.sink)
         → W.written result.sink ≡ W.written sink ++ call_text (labels_of words.now) threads result.tales.items result.status }
     ensures text_front { W.tells
-        → WritesCallFront (W.written sink) (W.written result.sink) (labels_of words.now) threads result.tales.items }
+        → WritesCallFront (W.written sink) (W.written result.sink) (labels_of words.now) threads result.tales.items result.status }
 
     // The benches ran the started task's script over the empty layout, and nothing else.
     ensures runs { L.tells → B.tells
         → RanLast words.now (L.files layers) result.tales.items (map (λ b. (B.place b).runs) benches.items) (map (λ b. (B.place b).runs) result.benches.items) }
     ensures bench_broke { HasBrokenBench result.tales.items → SomeRose (map B.faults benches.items) (map B.faults result.benches.items) }
 
-    // A form that isn't built is refused, and no other, where the layers didn't fail before.
+    // A fault of the recipe's file is answered with its place, and before a form that isn't built. Such a form is
+    // refused, and no other, where the layers didn't fail before.
+    ensures at_fault { IsFileFault result.status → L.tells → IsFaulty words.now (L.files layers) result.status }
     ensures not_built { result.status ≡ not_built → L.tells → IsNotBuilt words.now (L.files layers) }
     ensures planned { IsPastPlan result.status → L.tells → IsPlanned words.now (L.files layers) }
 
@@ -117,6 +121,7 @@ fn run<L: Layers, D: Disk, B: Bench, W: Sink>(
     ensures text { W.tells → PrintsCall (W.written printer.old.sink) (W.written printer.new.sink) (labels_of words.now) threads result.tales.items result.status printer.new.failed }
     ensures runs { L.tells → B.tells → RanTales words.now (L.files layers.old) result.tales.items (B.place bench.old).runs (B.place bench.new).runs }
     ensures bench_broke { HasBrokenBench result.tales.items → Rose (B.faults bench.old) (B.faults bench.new) }
+    ensures at_fault { IsFileFault result.status → L.tells → IsFaulty words.now (L.files layers.old) result.status }
     ensures not_built { result.status ≡ not_built → L.tells → IsNotBuilt words.now (L.files layers.old) }
     ensures planned { IsPastPlan result.status → L.tells → IsPlanned words.now (L.files layers.old) }
     ensures read_cause { result.status ≡ Status.ReadFault → Rose (L.faults layers.old) (L.faults layers.new) }
@@ -128,7 +133,7 @@ fn run<L: Layers, D: Disk, B: Bench, W: Sink>(
     match find_plan(alloc, words, layers) {
         Ok(plan) => run_plan(alloc, plan, disk, bench, printer),
         Err(fault) => Ran {
-            status: refuse(alloc, fault, printer),
+            status: refuse(alloc, words, fault, printer),
             tales: Vec::new(alloc),
         },
     }

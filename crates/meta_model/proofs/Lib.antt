@@ -1,7 +1,8 @@
-mod Bools
+pub mod Bools
 pub mod Adding
+pub mod Building
 pub mod Meaning
-mod Order
+pub mod Order
 pub mod Readings
 pub mod Room
 mod RoundTrip

@@ -14,7 +14,7 @@ use Rattle.meta_model.specs.Overrides.{all_active, own, parts_behind, is_form, f
 
 -- a name that no entry names has no own value
 
-value_unnamed : (list : List EntryLine) (name : List ℕ) → is_in name (names_in list) ≡ false → value_slot list name ≡ nothing
+pub value_unnamed : (list : List EntryLine) (name : List ℕ) → is_in name (names_in list) ≡ false → value_slot list name ≡ nothing
 value_unnamed [] name h = refl
 value_unnamed (Set n op text ∷ rest) name h = rw (differs name n (or_left (bytes_eq name n) (is_in name (names_in rest)) h)) (value_unnamed rest name (or_right (bytes_eq name n) (is_in name (names_in rest)) h))
 value_unnamed (Later n kind when text ∷ rest) name h = value_unnamed rest name (or_right (bytes_eq name n) (is_in name (names_in rest)) h)
@@ -25,7 +25,7 @@ value_unnamed (Exported class n ∷ rest) name h = rw (differs name n (or_left (
 value_unnamed (Task t after before ∷ rest) name h = value_unnamed rest name h
 value_unnamed (NoTask t ∷ rest) name h = value_unnamed rest name h
 
-lates_unnamed : (list : List EntryLine) (name : List ℕ) → is_in name (names_in list) ≡ false → lates list name ≡ []
+pub lates_unnamed : (list : List EntryLine) (name : List ℕ) → is_in name (names_in list) ≡ false → lates list name ≡ []
 lates_unnamed [] name h = refl
 lates_unnamed (Set n op text ∷ rest) name h = lates_unnamed rest name (or_right (bytes_eq name n) (is_in name (names_in rest)) h)
 lates_unnamed (Later n kind when text ∷ rest) name h = rw (differs name n (or_left (bytes_eq name n) (is_in name (names_in rest)) h)) (lates_unnamed rest name (or_right (bytes_eq name n) (is_in name (names_in rest)) h))
@@ -41,13 +41,13 @@ own_unnamed list active name h = rw (value_unnamed list name h, lates_unnamed li
 
 -- the parts of the test for a form
 
-form_begins : (list : List EntryLine) (active : List (List ℕ)) (name form : List ℕ) → is_form list active name form ≡ true → starts_with nat_eq form (name ++ (colon ∷ [])) ≡ true
+pub form_begins : (list : List EntryLine) (active : List (List ℕ)) (name form : List ℕ) → is_form list active name form ≡ true → starts_with nat_eq form (name ++ (colon ∷ [])) ≡ true
 form_begins list active name form h = and_left (starts_with nat_eq form (name ++ (colon ∷ []))) (all_active active (parts_behind name form) && is_some (own list active form)) h
 
-form_rest : (list : List EntryLine) (active : List (List ℕ)) (name form : List ℕ) → is_form list active name form ≡ true → (all_active active (parts_behind name form) && is_some (own list active form)) ≡ true
+pub form_rest : (list : List EntryLine) (active : List (List ℕ)) (name form : List ℕ) → is_form list active name form ≡ true → (all_active active (parts_behind name form) && is_some (own list active form)) ≡ true
 form_rest list active name form h = and_right (starts_with nat_eq form (name ++ (colon ∷ []))) (all_active active (parts_behind name form) && is_some (own list active form)) h
 
-form_active : (list : List EntryLine) (active : List (List ℕ)) (name form : List ℕ) → is_form list active name form ≡ true → all_active active (parts_behind name form) ≡ true
+pub form_active : (list : List EntryLine) (active : List (List ℕ)) (name form : List ℕ) → is_form list active name form ≡ true → all_active active (parts_behind name form) ≡ true
 form_active list active name form h = and_left (all_active active (parts_behind name form)) (is_some (own list active form)) (form_rest list active name form h)
 
 form_named : (list : List EntryLine) (active : List (List ℕ)) (name form : List ℕ) → is_form list active name form ≡ true → is_in form (names_in list) ≡ true
@@ -57,7 +57,7 @@ form_named list active name form h = elim (either_way (is_in form (names_in list
 ]
 
 -- what passes a test stays when it is filtered by it
-in_filter : (test : List ℕ → Bool) (names : List (List ℕ)) (name : List ℕ) → test name ≡ true → is_in name names ≡ true → is_in name (filter test names) ≡ true
+pub in_filter : (test : List ℕ → Bool) (names : List (List ℕ)) (name : List ℕ) → test name ≡ true → is_in name names ≡ true → is_in name (filter test names) ≡ true
 in_filter test [] name h k = k
 in_filter test (n ∷ names) name h k = elim (either_way (bytes_eq name n)) [
   | inl e ↦ rw (ap test (sym (same_text name n e)) ∙ h) (or_first (bytes_eq name n) (is_in name (filter test names)) e)
@@ -68,7 +68,7 @@ in_filter test (n ∷ names) name h k = elim (either_way (bytes_eq name n)) [
 ]
 
 -- and what stays passes it
-filter_passes : (test : List ℕ → Bool) (names : List (List ℕ)) (name : List ℕ) → is_in name (filter test names) ≡ true → test name ≡ true
+pub filter_passes : (test : List ℕ → Bool) (names : List (List ℕ)) (name : List ℕ) → is_in name (filter test names) ≡ true → test name ≡ true
 filter_passes test [] name h = not_both false h refl
 filter_passes test (n ∷ names) name h = elim (either_way (test n)) [
   | inl t ↦ elim (either_way (bytes_eq name n)) [
@@ -152,7 +152,7 @@ winning_wins list active name = wins list active name (filter (is_form list acti
 
 -- a form is its name, a colon and what its parts are cut from
 
-form_front : (name form : List ℕ) → starts_with nat_eq form (name ++ (colon ∷ [])) ≡ true → form ≡ (name ++ (colon ∷ [])) ++ drop (length name + 1) form
+pub form_front : (name form : List ℕ) → starts_with nat_eq form (name ++ (colon ∷ [])) ≡ true → form ≡ (name ++ (colon ∷ [])) ++ drop (length name + 1) form
 form_front name form h =
     let e : name ++ (colon ∷ []) ≡ take (length (name ++ (colon ∷ []))) form = same_text (name ++ (colon ∷ [])) (take (length (name ++ (colon ∷ []))) form) h in
     sym (take-append-drop (length (name ++ (colon ∷ []))) form) ∙ ap (λ z. z ++ drop (length (name ++ (colon ∷ []))) form) (sym e) ∙ ap (λ n. (name ++ (colon ∷ [])) ++ drop n form) (length-append name (colon ∷ []))

@@ -14,6 +14,15 @@ pub mod Entries
 pub mod Frozen
 pub mod Tasks
 pub mod Evaluated
+pub mod Layout
 pub mod CleanBuild
 pub mod ExitStatus
+pub mod Worked
 pub mod Script
+pub mod Providers
+pub mod Walks
+pub mod Needs
+pub mod GraphRefusal
+pub mod TaskGraph
+pub mod GraphSamples
+pub mod Threads

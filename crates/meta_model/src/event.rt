@@ -1,5 +1,5 @@
 // What happens in a run, and how it ends.
-use tree_model::{Text, Texts};
+use tree_model::{Bytes, Hash, Manifest, Text, Texts};
 
 /// Whether the output of a task is there already.
 #[derive(Clone, Copy, Debug, PartialEq, Eq)]
@@ -85,6 +85,21 @@ pub enum Status {
     ReadFault,
     /// The output could not be written.
     WriteFault,
+    /// Two different signatures have one hash as their name: the one that the store holds and the one of a task of the plan,
+    /// each as it is encoded. Its line is `fault 8 collision`, a blank and the text of the hash.
+    Collision {
+        name: Hash,
+        held: Bytes,
+        given: Bytes,
+    },
+    /// A task gave another output than the one that its stored record tells of: the manifests of the two. Its line is
+    /// `fault 9 unsteady`, a blank, the PN, a colon and the task.
+    Unsteady {
+        pn: Text,
+        task: Text,
+        held: Manifest,
+        given: Manifest,
+    },
     /// A limit of this kind was passed.
     Limit {
         kind: Text,
@@ -110,6 +125,8 @@ impl Status {
             Status::BenchFault => 5,
             Status::ReadFault => 6,
             Status::WriteFault => 7,
+            Status::Collision { .. } => 8,
+            Status::Unsteady { .. } => 9,
             Status::Limit { .. } => 10,
             Status::OutOfMemory => 11,
         }

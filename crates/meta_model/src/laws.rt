@@ -1,5 +1,7 @@
 // What is proved of the definitions.
-ghost use Rattle.std.specs.Prelude.{◌≡◌, ◌≤◌, ℕ, List, [], ◌∷◌, ◌++◌, option_to_list, length, Ok, true};
+ghost use Rattle.std.specs.Prelude.{◌≡◌, ◌≤◌, ℕ, List, [], ◌∷◌, ◌++◌, option_to_list, length, map, Bool, Ok, true, false};
+ghost use Rattle.meta_model.specs.declared.plan.PlanTask.{PlanTask};
+ghost use Rattle.meta_model.specs.CleanBuild.{Entries, Gives, clean_build, clean_output, clean_task, is_beyond, task_output};
 ghost use Rattle.std.specs.List.{list_all};
 ghost use Rattle.meta_model.specs.declared.entry.EntryLine.{EntryLine as Line};
 ghost use Rattle.meta_model.specs.declared.line.Kind.{Kind as FileKind};
@@ -51,4 +53,14 @@ pub fn expansion_laws()
     ensures short { (values : Values) (name text out : List ℕ) → expanded values name text ≡ Ok out → length out ≤ 1_048_576 }
     ensures values_alike { (f g : Find) → ((name : List ℕ) → f name ≡ g name) → (name : List ℕ) → value_by f name ≡ value_by g name }
     ensures texts_alike { (f g : Find) → ((name : List ℕ) → f name ≡ g name) → (text : List ℕ) → expand_by f text ≡ expand_by g text }
+{}
+
+/// The clean build of a plan has its tasks in their order, and of each what it gives over what was built before it. A task
+/// that needs nothing, and has neither files nor pairs of folders, gives what its script makes of the empty tree. An output
+/// is within the limits.
+pub fn build_laws()
+    ensures tasks { (run : Gives) (tasks : List PlanTask) → map (λ b. b.task) (clean_build run tasks) ≡ tasks }
+    ensures step { (run : Gives) (tasks : List PlanTask) (task : PlanTask) → clean_build run (tasks ++ task ∷ []) ≡ clean_build run tasks ++ record { task = task; outcome = clean_task run (clean_build run tasks) task } ∷ [] }
+    ensures alone { (run : Gives) (script : List ℕ) (sstate : Bool) → task_output run script sstate [] [] ≡ clean_output run script [] }
+    ensures within { (run : Gives) (script : List ℕ) (sstate : Bool) (places : List (List ℕ × List ℕ)) (layout tree : Entries) → task_output run script sstate places layout ≡ Ok tree → is_beyond tree ≡ false }
 {}

@@ -1,7 +1,7 @@
 //! The language of recipes: its plain values, and the definitions of what its texts mean.
 //!
 //! The definitions stand in `specs/`, one file for each subject, over lists of bytes and the plain values of this crate;
-//! the contracts of the crates that read metadata cite them. Two files of examples try them: each clause there is an
+//! the contracts of the crates that read metadata cite them. Four files of examples try them: each clause there is an
 //! equation whose sides compute to the same. What is proved of the definitions for all texts and entries:
 //!
 //! - each file has statements or a first fault, one meaning alone, and never both (`one_meaning`);
@@ -10,19 +10,25 @@
 //! - the parts of a text have that text, and no reading of it has more references (`reading_laws`);
 //! - an expanded text has at most 1,048,576 bytes, and depends on nothing but what is found for each name
 //!   (`expansion_laws`);
-//! - the winning form of a name is a form, no other beats it, and there is one such form alone (`winning_laws`).
+//! - the winning form of a name is a form, no other beats it, and there is one such form alone (`winning_laws`);
+//! - a clean build has the tasks of its plan in their order, each over what was built before it; a task that needs nothing
+//!   gives what its script makes of the empty tree; no output is beyond the limits (`build_laws`).
 //!
-//! Beside the language stand what the shell is given of a task and what a clean build of the task gives (`Script`,
-//! `CleanBuild`), as far as a run needs them so far, and how a run ends.
+//! Beside the language stand what the shell is given of a task (`Script`, as far as a run needs it so far), what is laid out
+//! for the task (`Layout`), what a clean build gives (`CleanBuild`), and how a run ends; and over the facts of all recipes,
+//! which one provides a name, which task needs which, and what the graph of a run's targets is (`Providers`, `Needs`,
+//! `TaskGraph`).
 //!
 //! Which definition is right no proof can say: each one's comment states its rule, and the examples compare it with
 //! answers that were derived from the rules by hand.
 #![tactic(auto)]
 
+mod build_examples;
 mod entry;
 mod event;
 mod facts;
 mod grammar_examples;
+mod graph_examples;
 mod laws;
 mod line;
 mod list;
@@ -34,7 +40,9 @@ mod value_examples;
 pub use entry::{EntryLine, Late, LateLine, Op};
 pub use event::{Avail, Cut, Event, Logged, Status, Why};
 pub use facts::{FactSet, Graph, Node, Package, RecipeFacts, Target, TaskFacts, TaskId};
-pub use laws::{entry_laws, expansion_laws, one_meaning, reading_laws, step_laws, winning_laws};
+pub use laws::{
+    build_laws, entry_laws, expansion_laws, one_meaning, reading_laws, step_laws, winning_laws,
+};
 pub use line::{Kind, Line, Place, SyntaxFault};
 pub use list::ListOf;
 pub use plan::{Options, Plan, PlanTask};

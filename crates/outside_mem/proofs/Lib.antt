@@ -1,4 +1,5 @@
 pub mod Files
 pub mod Listing
 pub mod Needles
+pub mod Prints
 pub mod Trees

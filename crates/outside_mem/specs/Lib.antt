@@ -1,3 +1,4 @@
+pub mod Fingerprint
 pub mod Layers
 pub mod Plan
 pub mod Scripts

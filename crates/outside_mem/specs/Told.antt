@@ -7,6 +7,7 @@ use Rattle.outside_traits.specs.Story.{Story}
 use Rattle.outside_mem.specs.declared.plan.FaultPlan.{FaultPlan}
 use Rattle.outside_mem.specs.declared.fail_disk.FailDisk.{FailDisk}
 use Rattle.outside_mem.specs.declared.layers.MemLayers.{MemLayers}
+use Rattle.outside_mem.specs.declared.mem_bench.MemBench.{MemBench}
 use Rattle.outside_mem.specs.declared.mem_disk.MemDisk.{MemDisk}
 use Rattle.outside_mem.specs.declared.script_table.ScriptTable.{ScriptTable}
 use Rattle.outside_mem.specs.declared.sink.MemSink.{MemSink}
@@ -51,7 +52,7 @@ table_gives table = gives_by table.rules.items
 
 -- what is laid, what the last run gave, and all runs so far
 abbrev pub table_place : ScriptTable → Workplace
-table_place table = record { laid = table.laid; cleared = table.cleared; output = table.output; runs = table.runs.items }
+table_place table = table.place
 
 -- which calls of a table fail
 abbrev pub table_plan : ScriptTable → FaultPlan
@@ -80,3 +81,7 @@ room = 4 * 2 ^ 20
 -- whether a write of a piece fails: the plan says so, or the piece doesn't fit into the room that is left
 abbrev pub write_fails : MemSink → List ℕ → Bool
 write_fails sink piece = next_fails (sink_plan sink) || nat_lt room (length (text_of sink) + length piece)
+
+-- what is laid on a bench that gives digests, what its last run gave, and all runs so far
+abbrev pub mem_place : MemBench → Workplace
+mem_place bench = bench.place

@@ -1,23 +1,27 @@
-//! Devices in memory: layers, disks, a bench and a sink that tell all that they hold.
+//! Devices in memory: layers, disks, benches and a sink that tell all that they hold.
 //!
 //! They show that each trait of `outside_traits` can be met with its content told, and they stand for the real things
 //! in tests. What each tells stands in `specs/Told.antt`, as functions of its fields.
 //!
-//! Promised, beside all that the traits say: layers, the bench and the sink fail just the calls whose numbers they were
-//! made with (`Follows`), and the sink those besides that don't fit into its room; a `MemDisk` never fails; a
-//! `FailDisk` fails just one call (`Spends`). The sink takes no memory after it was made. (Own rules: no part of the
+//! Promised, beside all that the traits say: layers, a `ScriptTable` and the sink fail just the calls whose numbers they
+//! were made with (`Follows`), and the sink those besides that don't fit into its room; a `MemDisk` and a `MemBench` never
+//! fail; a `FailDisk` fails just one call (`Spends`). The sink takes no memory after it was made. (Own rules: no part of the
 //! BitBake User Manual.)
 #![tactic(auto)]
 
 mod fail_disk;
+mod fingerprint;
 mod layers;
+mod mem_bench;
 mod mem_disk;
+mod place;
 mod plan;
 mod script_table;
 mod sink;
 
 pub use fail_disk::FailDisk;
 pub use layers::MemLayers;
+pub use mem_bench::MemBench;
 pub use mem_disk::MemDisk;
 pub use script_table::{Rule, ScriptTable};
 pub use sink::MemSink;

@@ -1,16 +1,18 @@
 // A bench in memory, that looks scripts up in a table.
-ghost use Rattle.std.specs.Prelude.{◌≡◌, ◌++◌, ◌∷◌, IfOk, IsTrue, IsSome, OnErr, OnOk, [], true, None};
+ghost use Rattle.std.specs.Prelude.{◌≡◌, IfOk, IsTrue, IsSome, [], codes, true, None};
 ghost use Rattle.std.specs.Option.{option_copied};
+ghost use Rattle.tree_model.specs.Folder.{picked};
+ghost use Rattle.tree_model.specs.Overlay.{overlaid};
 ghost use Rattle.tree_model.specs.Path.{IsClean};
 ghost use Rattle.outside_traits.specs.Fault.{Counts, bench_failed};
-ghost use Rattle.outside_traits.specs.Bench.{Adds, Clears, Gave, IsVacant, Puts, Runs, Takes};
+ghost use Rattle.outside_traits.specs.Bench.{Clears, Gave, IsVacant, Puts, Runs, Takes};
 ghost use Rattle.outside_mem.specs.Scripts.{outcome_of, rule_for, stands_in};
 
+use crate::place::Place;
 use crate::plan::{FaultPlan, count_fault};
 use outside_traits::{Bench, BenchFault, Taken};
 use std::alloc::Global;
-use std::mem;
-use tree_model::{Entry, Mem, Size, Text, Tree};
+use tree_model::{Entry, Mem, Size, Text, Tree, pick_is_picked};
 
 /// What is done with the scripts that hold a text.
 #[derive(Debug, Drop)]
@@ -18,24 +20,21 @@ pub struct Rule {
     /// The text that has to stand somewhere in the script.
     pub needle: Text,
 
-    /// What the script gives, where its status is 0.
+    /// What the script lays over its work tree, where its status is 0.
     pub puts: Tree,
 
     /// The status of the script's run. One that isn't 0 fails.
     pub status: u32,
 }
 
-/// A bench that runs no script, but takes what it gives from the first rule whose needle stands in it. With no such
-/// rule it gives the empty tree. What is laid isn't looked at yet.
+/// A bench that runs no script, but takes what it does from the first rule whose needle stands in it: it lays a tree over
+/// what is laid under `work/`, or fails. With no such rule it gives what is laid there. (Own rule.)
 #[derive(Drop)]
 pub struct ScriptTable {
     rules: Vec<Rule>,
     plan: FaultPlan,
     faults: u64,
-    laid: Tree,
-    cleared: bool,
-    output: Option<Tree>,
-    runs: Vec<(Text, Tree)>,
+    place: Place,
 }
 
 impl ScriptTable {
@@ -55,10 +54,7 @@ impl ScriptTable {
             rules,
             plan: FaultPlan::new(fail),
             faults: 0,
-            laid: Tree::empty(alloc),
-            cleared: true,
-            output: None,
-            runs: Vec::new(alloc),
+            place: Place::new(alloc),
         }
     }
 }
@@ -85,9 +81,7 @@ impl Bench for ScriptTable {
             count_fault(&mut self.faults);
             return Err(BenchFault::Failed);
         }
-        self.laid = Tree::empty(alloc);
-        self.cleared = true;
-        self.output = None;
+        self.place.clear(alloc);
         Ok(())
     }
 
@@ -104,7 +98,7 @@ impl Bench for ScriptTable {
             count_fault(&mut self.faults);
             return Err(BenchFault::Failed);
         }
-        Ok(lay(alloc, &mut self.laid, path, entry)?)
+        Ok(self.place.put(alloc, path, entry)?)
     }
 
     fn run(&mut self, alloc: Global, script: &str) -> Result<u32, BenchFault>
@@ -118,10 +112,8 @@ impl Bench for ScriptTable {
             count_fault(&mut self.faults);
             return Err(BenchFault::Failed);
         }
-        let (status, output) = outcome(alloc, &self.rules, script)?;
-        note_run(&mut self.runs, alloc, script, &mut self.laid)?;
-        self.cleared = false;
-        self.output = output;
+        let (status, output) = outcome(alloc, &self.rules, script, self.place.laid())?;
+        self.place.keep_run(alloc, script, output)?;
         Ok(status)
     }
 
@@ -136,25 +128,24 @@ impl Bench for ScriptTable {
             count_fault(&mut self.faults);
             return Err(BenchFault::Failed);
         }
-        let Some(tree) = self.output.take() else {
-            unreachable!()
-        };
-        if !tree.size().is_within(&max) {
-            return Ok(Taken::TooLarge);
-        }
-        Ok(Taken::Tree(tree))
+        Ok(self.place.take(&max))
     }
 }
 
-/// The status with which a script ends, and its output where that is 0.
-fn outcome(alloc: Global, rules: &[Rule], script: &str) -> Result<(u32, Option<Tree>), Mem>
-    ensures { IfOk result (λ ended. Gave (outcome_of (rule_for rules.now script.now)) ended.0 ended.1) }
+/// The status with which a script ends over what is laid, and its output where that is 0.
+fn outcome(
+    alloc: Global,
+    rules: &[Rule],
+    script: &str,
+    laid: &Tree,
+) -> Result<(u32, Option<Tree>), Mem>
+    ensures { IfOk result (λ ended. Gave (outcome_of (rule_for rules.now script.now) (picked (codes "work") laid.now)) ended.0 ended.1) }
 {
     match rule_of(rules, script) {
-        None => Ok((0, Some(Tree::empty(alloc)))),
+        None => Ok((0, Some(work_part(alloc, laid)?))),
         Some(rule) => {
             if rule.status == 0 {
-                Ok((0, Some(rule.puts.copy()?)))
+                Ok((0, Some(work_under(alloc, laid, &rule.puts)?)))
             } else {
                 Ok((rule.status, None))
             }
@@ -162,40 +153,24 @@ fn outcome(alloc: Global, rules: &[Rule], script: &str) -> Result<(u32, Option<T
     }
 }
 
-/// Lays a copy of the entry at the path.
-fn lay(alloc: Global, laid: &mut Tree, path: &str, entry: &Entry) -> Result<(), Mem>
-    requires clean { IsClean path.now }
-    requires vacant { IsVacant laid.old path.now }
-    ensures ok { OnOk result (Adds path.now entry.now laid.old laid.new) }
-    ensures err { OnErr result (laid.new ≡ laid.old) }
+/// What is laid under `work/`.
+fn work_part(alloc: Global, laid: &Tree) -> Result<Tree, Mem>
+    ensures { IfOk result (λ part. part ≡ picked (codes "work") laid.now) }
 {
-    laid.put(alloc, path, entry.copy()?)?;
-    // What is laid is a tree.
-    let _ = laid.entries();
-    Ok(())
+    let part = laid.pick(alloc, "work")?;
+    pick_is_picked("work", laid, &part);
+    Ok(part)
 }
 
-/// Adds a run of the script over what is laid, which is laid no longer.
-fn note_run(
-    runs: &mut Vec<(Text, Tree)>,
-    alloc: Global,
-    script: &str,
-    laid: &mut Tree,
-) -> Result<(), Mem>
-    ensures ok { OnOk result (runs.new.items ≡ runs.old.items ++ (script.now, laid.old) ∷ []) }
-    ensures runs { OnErr result (runs.new.items ≡ runs.old.items) }
-    ensures laid { OnErr result (laid.new ≡ laid.old) }
+/// A tree over what is laid under `work/`.
+fn work_under(alloc: Global, laid: &Tree, puts: &Tree) -> Result<Tree, Mem>
+    ensures { IfOk result (λ both. both ≡ overlaid (picked (codes "work") laid.now) puts.now) }
 {
-    let script = Text::from_str(alloc, script)?;
-    let tree = mem::replace(laid, Tree::empty(alloc));
-    match runs.push((script, tree)) {
-        Ok(()) => Ok(()),
-        Err(full) => {
-            let (_, tree) = full.value;
-            *laid = tree;
-            Err(Mem)
-        }
-    }
+    let mut tree = work_part(alloc, laid)?;
+    // Both are trees.
+    let (_tree, _puts) = (tree.entries(), puts.entries());
+    tree.overlay(alloc, puts)?;
+    Ok(tree)
 }
 
 /// The first rule whose needle stands in the script.

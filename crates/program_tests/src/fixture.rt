@@ -14,11 +14,20 @@ pub const HELLO_ALONE: &[&str] = &["hello"];
 /// The files of the example.
 pub const EXAMPLE: &[(&str, &str)] = &[("recipes/hello.bb", HELLO)];
 
-/// A project, what its one script does, and which calls of its devices fail. Calls are counted from 1; 0 is none.
+/// What the disk holds before a call.
+pub const BEFORE: &str = "work/hello/do_build/old.txt: old\nwork/other/do_build/kept.txt: kept\n";
+
+/// What it holds after the example was built.
+pub const BUILT: &str =
+    "work/hello/do_build/hello.txt: hello\nwork/other/do_build/kept.txt: kept\n";
+
+/// A project, what its one script does, and which calls of its devices fail. Calls are counted from 1; 0 is none. The
+/// recipe, where it isn't empty, is one more file, `recipes/hello.bb`.
 #[derive(Clone, Copy)]
 pub struct Project {
     pub words: &'static [&'static str],
     pub files: &'static [(&'static str, &'static str)],
+    pub recipe: &'static str,
     pub needle: &'static str,
     pub output: &'static str,
     pub status: u32,
@@ -39,6 +48,7 @@ impl Project {
         Project {
             words,
             files,
+            recipe: "",
             needle,
             output: "hello\n",
             status: 0,
@@ -87,6 +97,10 @@ fn layers(rt: &HostRuntime, project: &Project) -> Result<MemLayers, Fail> {
     for (path, text) in project.files {
         let path = Text::from_str(alloc, path)?;
         files.push((path, Bytes::from_slice(alloc, text.as_bytes())?))?;
+    }
+    if !project.recipe.is_empty() {
+        let path = Text::from_str(alloc, "recipes/hello.bb")?;
+        files.push((path, Bytes::from_slice(alloc, project.recipe.as_bytes())?))?;
     }
     Ok(MemLayers::new(alloc, files, numbers(rt, project.layers_fail)?)?)
 }

@@ -1,13 +1,7 @@
 // One recipe with one task.
-use crate::fixture::{EXAMPLE, HELLO, HELLO_ALONE, Left, Project, call};
+use crate::fixture::{BEFORE, BUILT, EXAMPLE, HELLO, HELLO_ALONE, Left, Project, call};
 use std::process::Abort;
 use std::test::Fail;
-
-/// What the disk holds before a call.
-const BEFORE: &str = "work/hello/do_build/old.txt: old\nwork/other/do_build/kept.txt: kept\n";
-
-/// What it holds after the example was built.
-const BUILT: &str = "work/hello/do_build/hello.txt: hello\nwork/other/do_build/kept.txt: kept\n";
 
 fn check(rt: &impl Abort, left: &Left, code: u8, text: &str, held: &str) {
     assert_eq!(rt; left.code, code, "with the text {}", left.text.as_str());
@@ -181,106 +175,25 @@ fn other_files_are_not_built(rt: HostRuntime) -> Result<(), Fail> {
         )?
     );
     assert!(rt; is_refused(&rt, HELLO_ALONE, &[("recipes/sub/hello.bb", HELLO)])?);
-    Ok(())
-}
-
-#[test]
-fn other_recipes_are_not_built(rt: HostRuntime) -> Result<(), Fail> {
     assert!(rt; is_refused(&rt, HELLO_ALONE, &[("recipes/hello.bb", "")])?);
-    assert!(rt;
-        is_refused(
-            &rt,
-            HELLO_ALONE,
-            &[("recipes/hello.bb", "do_build() {\n}\n}\naddtask build\n")]
-        )?
-    );
-    assert!(rt;
-        is_refused(
-            &rt,
-            HELLO_ALONE,
-            &[("recipes/hello.bb", "do_build() {\n\n}\naddtask build")]
-        )?
-    );
-    assert!(rt;
-        is_refused(
-            &rt,
-            HELLO_ALONE,
-            &[("recipes/hello.bb", "do_build() {\n a \n}\naddtask build\n")]
-        )?
-    );
-    assert!(rt;
-        is_refused(
-            &rt,
-            HELLO_ALONE,
-            &[("recipes/hello.bb", "do_build() {\n a\r\n}\naddtask build\n")]
-        )?
-    );
-    assert!(rt;
-        is_refused(
-            &rt,
-            HELLO_ALONE,
-            &[(
-                "recipes/hello.bb",
-                "do_build() {\n ${A}\n}\naddtask build\n"
-            )]
-        )?
-    );
-    assert!(rt;
-        is_refused(
-            &rt,
-            HELLO_ALONE,
-            &[("recipes/hello.bb", "do_build() {\n}\naddtask build\n\n")]
-        )?
-    );
     Ok(())
 }
 
-/// Whether the files are in the form that is built, where the script is any.
-fn is_built(
-    rt: &HostRuntime,
-    files: &'static [(&'static str, &'static str)],
-) -> Result<bool, Fail> {
-    let left = call(rt, &Project::of(HELLO_ALONE, files, "do_build() {"))?;
-    Ok(left.code == 0 && left.held.as_str() == BUILT)
-}
-
-// What is no metadata may stand beside the recipe; an empty body and a lone dollar are fine.
+// What is no metadata may stand beside the recipe.
 #[test]
-fn accepted_forms_are_built(rt: HostRuntime) -> Result<(), Fail> {
-    assert!(rt;
-        is_built(
-            &rt,
-            &[
-                ("recipes/hello.bb", HELLO),
-                ("README", "x"),
-                ("recipe/a.bb", "x"),
-                ("confx", "y")
-            ]
-        )?
+fn other_files_may_stand_beside(rt: HostRuntime) -> Result<(), Fail> {
+    let project = Project::of(
+        HELLO_ALONE,
+        &[
+            ("recipes/hello.bb", HELLO),
+            ("README", "x"),
+            ("recipe/a.bb", "x"),
+            ("confx", "y"),
+        ],
+        "do_build() {",
     );
-    assert!(rt;
-        is_built(
-            &rt,
-            &[("recipes/hello.bb", "do_build() {\n}\naddtask build\n")]
-        )?
-    );
-    assert!(rt;
-        is_built(
-            &rt,
-            &[(
-                "recipes/hello.bb",
-                "do_build() {\n$a $\n $(b) {c}\n}\naddtask build\n"
-            )]
-        )?
-    );
-    assert!(rt;
-        is_built(
-            &rt,
-            &[(
-                "recipes/hello.bb",
-                "do_build() {\n\n }\n}}\n}\naddtask build\n"
-            )]
-        )?
-    );
+    let left = call(&rt, &project)?;
+    assert_eq!(rt; left.code, 0);
+    assert_eq!(rt; left.held.as_str(), BUILT);
     Ok(())
 }

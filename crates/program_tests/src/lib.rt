@@ -7,3 +7,5 @@
 mod fixture;
 #[cfg(test)]
 mod hello_tests;
+#[cfg(test)]
+mod recipe_tests;

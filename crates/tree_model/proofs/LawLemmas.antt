@@ -87,7 +87,7 @@ meets_or_not a b = by (bytes_eq b a) refl (below_or_not a b) (below_or_not b a)
         none (inl (inr h)) = n h
         none (inr h) = m h
 
-met_or_free : (xs : List (List ℕ × Entry)) (q : List ℕ) → IsMet xs q ⊎ IsFree xs q
+pub met_or_free : (xs : List (List ℕ × Entry)) (q : List ℕ) → IsMet xs q ⊎ IsFree xs q
 met_or_free [] q = inr (λ k d lt m. absurd (omega arith))
 met_or_free (x ∷ xs) q = by (met_or_free xs q) (meets_or_not q x.0)
   where
@@ -133,7 +133,7 @@ one_place xs p q tree hp hq meets = by (place_held xs p hp) (place_held xs q hq)
             sym (b.1.1 ([], Link [])) ∙ ap (λ k. (get_or xs k ([], Link [])).0) m ∙ a.1.1 ([], Link [])
 
 -- what an overlay holds where a later path meets this one
-held_where_met : (a b x : List (List ℕ × Entry)) (q : List ℕ) → IsTree b → IsOverlay a b x → IsMet b q → entry_at x q ≡ entry_at b q
+pub held_where_met : (a b x : List (List ℕ × Entry)) (q : List ℕ) → IsTree b → IsOverlay a b x → IsMet b q → entry_at x q ≡ entry_at b q
 held_where_met a b x q tree over met = by (entry_at x q) refl
   where
     stands : IsSome (entry_at b met.1.0)

@@ -1,9 +1,13 @@
+pub mod AssociativityLemmas
+pub mod BelowLemmas
 pub mod EditLemmas
 pub mod FolderLemmas
 pub mod HashLemmas
 pub mod LawLemmas
 pub mod ManifestLemmas
+pub mod MergeLemmas
 pub mod OrderLemmas
+pub mod OverlaidLemmas
 pub mod OverlayLemmas
 pub mod PathLemmas
 pub mod TreeLemmas

@@ -1,11 +1,10 @@
 -- One tree laid over another.
-use Rattle.std.proofs.Common.{◌≡◌, ◌<◌, ◌≤◌, ◌+◌, ◌-◌, ◌∙◌, ◌⊎◌, inl, inr, sym, ap, subst, refl, ℕ, zero, suc, List, [], ◌∷◌, ◌++◌, length, drop, take, All, AllPairs, arith, get_or, Bool, true, false, cond, Option, Some, None, length-append, length-drop}
+use Rattle.std.proofs.Common.{◌≡◌, ◌<◌, ◌≤◌, ◌+◌, ◌-◌, ◌∙◌, ◌⊎◌, inl, inr, sym, ap, subst, refl, ℕ, zero, suc, List, [], ◌∷◌, ◌++◌, length, drop, take, All, AllPairs, arith, get_or, Bool, true, false, cond, Option, Some, None, length-drop}
 use Rattle.std.specs.Prelude.{IsSome, Any, Contains, IsPermutation, MatchBool, not}
 use Rattle.std.specs.List.{items_where_true}
 use Rattle.std.specs.List.Retain.{IsFiltered, ReturnsInTurn}
 use Rattle.std.proofs.lemmas.Bool.{cases_lt}
-use Rattle.std.proofs.lemmas.List.{get_or_default, take_rest, get_or-drop, take_at, get_or_at, take-append-drop, drop_more}
-use borrow.Author.Count.{below_more}
+use Rattle.std.proofs.lemmas.List.{get_or_default, take_rest, get_or-drop, take-append-drop, drop_more}
 use Rattle.std.proofs.lemmas.List.Elements.{All-append, All-cons, All-nil, All-head, All-tail, Contains-append_left, Contains-append_right, Contains-append_cases}
 use Rattle.std.proofs.lemmas.List.Kept.{AllPairs-cons}
 use Rattle.std.specs.Str.{bytes_eq}
@@ -55,23 +54,8 @@ free_from xs path start from later above k d lt (inl h) = by (cases_lt k start)
 pub below_at : (xs : List (List ℕ × Entry)) (bytes : List ℕ) (place : ℕ) → place < length bytes → get_or bytes place 0 ≡ 47 → Any (λ e. e.0 ≡ take place bytes) xs → Any (λ e. IsBelow e.0 bytes) xs
 below_at xs bytes place lt slash any = (any.0, any.1, any.2, any.3, (drop (place + 1) bytes, sym (take-append-drop place bytes) ∙ ap (λ r. take place bytes ++ r) (drop_more bytes place 0 lt ∙ ap (λ b. b ∷ drop (place + 1) bytes) slash) ∙ ap (λ f. f ++ 47 ∷ drop (place + 1) bytes) (sym any.4)))
 
--- and if no path of an entry ends before a slash, it lies below none
-pub below_none : (xs : List (List ℕ × Entry)) (bytes : List ℕ) (n : ℕ) → length bytes ≤ n → ((k : ℕ) → k < n → get_or bytes k 0 ≡ 47 → All (λ e. e.0 ≡ take k bytes → ⊥) xs) → All (λ e. IsBelow e.0 bytes → ⊥) xs
-below_none xs bytes n le none k d lt below =
-    let p : List ℕ = (get_or xs k d).0 in
-    let is : bytes ≡ p ++ 47 ∷ below.0 = below.1 in
-    let within : length p < n = omega (arith, ap length is, length-append p (47 ∷ below.0)) in
-    none (length p) within (ap (λ b. get_or b (length p) 0) is ∙ get_or_at p 47 below.0 0 (length p) refl) k d lt
-    (sym (take_at p (47 ∷ below.0) (length p) refl) ∙ ap (take (length p)) (sym is))
-
-pub below_more_at : (xs : List (List ℕ × Entry)) (bytes : List ℕ) (place : ℕ) → (get_or bytes place 0 ≡ 47 → All (λ e. e.0 ≡ take place bytes → ⊥) xs) → ((k : ℕ) → k < place → get_or bytes k 0 ≡ 47 → All (λ e. e.0 ≡ take k bytes → ⊥) xs) → (k : ℕ) → k < place + 1 → get_or bytes k 0 ≡ 47 → All (λ e. e.0 ≡ take k bytes → ⊥) xs
-below_more_at xs bytes place here below = below_more (λ k. get_or bytes k 0 ≡ 47 → All (λ e. e.0 ≡ take k bytes → ⊥) xs) place below here
-
 pub any_below_same : (xs : List (List ℕ × Entry)) (bytes path : List ℕ) → bytes ≡ path → Any (λ e. IsBelow e.0 bytes) xs → Any (λ e. IsBelow e.0 path) xs
 any_below_same xs bytes path same any = let P : List ℕ → Type 0 = λ z. Any (λ e. IsBelow e.0 z) xs in subst P same any
-
-pub none_below_same : (xs : List (List ℕ × Entry)) (bytes path : List ℕ) → bytes ≡ path → All (λ e. IsBelow e.0 bytes → ⊥) xs → All (λ e. IsBelow e.0 path → ⊥) xs
-none_below_same xs bytes path same all = let P : List ℕ → Type 0 = λ z. All (λ e. IsBelow e.0 z → ⊥) xs in subst P same all
 
 pub met_from : (xs : List (List ℕ × Entry)) (path : List ℕ) (start : ℕ) (r : Bool) → IsStart xs path start → All (λ e. IsAtOrBelow path e.0 → ⊥) (take (length xs - start) (drop start xs)) → MatchBool r (Any (λ e. IsBelow e.0 path) xs) (All (λ e. IsBelow e.0 path → ⊥) xs) → MatchBool r (IsMet xs path) (IsFree xs path)
 met_from xs path start true from later above = met_above xs path above
@@ -159,23 +143,21 @@ kept_of P Q (x ∷ xs) ys e kept in' = by (kept_of P Q xs kept.0 e kept.1) kept.
     by rest (inl h) = let R : List (List ℕ × Entry) → Type 0 = λ l. Contains l e in first rest (subst R h.1 in')
     by rest (inr h) = let R : List (List ℕ × Entry) → Type 0 = λ l. Contains l e in one_on x xs e (rest (subst R h.1 in'))
 
--- what `retain` leaves, where the test stays as it is
-module _ {S : Type 0} (R : S → List ℕ × Entry → Bool → S → Type 0) (P Q : List ℕ × Entry → Type 0) (start : S) (says : (x : List ℕ × Entry) (b : Bool) (t : S) → R start x b t → MatchBool b (P x) (Q x) × (t ≡ start)) where
-  kept_in_turn : (xs : List (List ℕ × Entry)) (bs : List Bool) (s q : S) → s ≡ start → length bs ≡ length xs → ReturnsInTurn R s bs xs q → IsKept P Q xs (items_where_true bs xs)
-  kept_in_turn [] [] s q e len turns = refl
-  kept_in_turn [] (b ∷ bs) s q e len turns = absurd (omega (arith, len))
-  kept_in_turn (x ∷ xs) [] s q e len turns = absurd (omega (arith, len))
-  kept_in_turn (x ∷ xs) (true ∷ bs) s q e len turns =
-      let T : S → Type 0 = λ z. R z x true turns.0 in
-      let said = says x true turns.0 (subst T e turns.1) in
+-- what `retain` leaves, where the test keeps its word as long as something holds of it, and that goes on holding
+module _ {S : Type 0} (R : S → List ℕ × Entry → Bool → S → Type 0) (P Q : List ℕ × Entry → Type 0) (I : S → Type 0) (says : (s : S) (x : List ℕ × Entry) (b : Bool) (t : S) → I s → R s x b t → MatchBool b (P x) (Q x) × I t) where
+  kept_in_turn : (xs : List (List ℕ × Entry)) (bs : List Bool) (s q : S) → I s → length bs ≡ length xs → ReturnsInTurn R s bs xs q → IsKept P Q xs (items_where_true bs xs)
+  kept_in_turn [] [] s q holds len turns = refl
+  kept_in_turn [] (b ∷ bs) s q holds len turns = absurd (omega (arith, len))
+  kept_in_turn (x ∷ xs) [] s q holds len turns = absurd (omega (arith, len))
+  kept_in_turn (x ∷ xs) (true ∷ bs) s q holds len turns =
+      let said = says s x true turns.0 holds turns.1 in
       (items_where_true bs xs, kept_in_turn xs bs turns.0 q said.1 (omega (arith, len)) turns.2, inl (said.0, refl))
-  kept_in_turn (x ∷ xs) (false ∷ bs) s q e len turns =
-      let T : S → Type 0 = λ z. R z x false turns.0 in
-      let said = says x false turns.0 (subst T e turns.1) in
+  kept_in_turn (x ∷ xs) (false ∷ bs) s q holds len turns =
+      let said = says s x false turns.0 holds turns.1 in
       (items_where_true bs xs, kept_in_turn xs bs turns.0 q said.1 (omega (arith, len)) turns.2, inr (said.0, refl))
 
-  pub kept_from_filtered : (xs ys : List (List ℕ × Entry)) → IsFiltered R start xs ys → IsKept P Q xs ys
-  kept_from_filtered xs ys h = let T : List (List ℕ × Entry) → Type 0 = λ l. IsKept P Q xs l in subst T (sym h.4) (kept_in_turn xs h.0 start h.1 refl h.2 h.3)
+  pub kept_from_filtered : (start : S) (xs ys : List (List ℕ × Entry)) → I start → IsFiltered R start xs ys → IsKept P Q xs ys
+  kept_from_filtered start xs ys holds h = let T : List (List ℕ × Entry) → Type 0 = λ l. IsKept P Q xs l in subst T (sym h.4) (kept_in_turn xs h.0 start h.1 holds h.2 h.3)
 
 -- ---- entries as elements
 
@@ -316,5 +298,5 @@ turned true b P Q e h = let T : Bool → Type 0 = λ t. MatchBool t P Q in subst
 turned false b P Q e h = let T : Bool → Type 0 = λ t. MatchBool t P Q in subst T (sym e) h
 
 -- the same, with what was left first
-pub kept_by_test : {S : Type 0} (R : S → List ℕ × Entry → Bool → S → Type 0) (P Q : List ℕ × Entry → Type 0) (start : S) (xs ys : List (List ℕ × Entry)) → IsFiltered R start xs ys → ((x : List ℕ × Entry) (b : Bool) (t : S) → R start x b t → MatchBool b (P x) (Q x) × (t ≡ start)) → IsKept P Q xs ys
-kept_by_test R P Q start xs ys h says = kept_from_filtered R P Q start says xs ys h
+pub kept_by_test : {S : Type 0} (R : S → List ℕ × Entry → Bool → S → Type 0) (P Q : List ℕ × Entry → Type 0) (start : S) (xs ys : List (List ℕ × Entry)) (I : S → Type 0) → IsFiltered R start xs ys → I start → ((s : S) (x : List ℕ × Entry) (b : Bool) (t : S) → I s → R s x b t → MatchBool b (P x) (Q x) × I t) → IsKept P Q xs ys
+kept_by_test R P Q start xs ys I h holds says = kept_from_filtered R P Q I says start xs ys holds h

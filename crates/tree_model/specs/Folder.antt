@@ -47,3 +47,8 @@ entry_behind prefix e = option_map (λ rest. (rest, e.1)) (rest_of prefix e.0)
 -- The entries under the folder, without its name.
 abbrev pub entries_below : List ℕ → List (List ℕ × Entry) → List (List ℕ × Entry)
 entries_below folder tree = filter_map (entry_behind (folder ++ 47 ∷ [])) tree
+
+-- What the tree holds under the folder, without its name; the folder `.` has all of it. Of a tree that is the one tree
+-- which `IsPick` names.
+unfoldable pub picked : List ℕ → List (List ℕ × Entry) → List (List ℕ × Entry)
+picked folder tree = if bytes_eq folder (46 ∷ []) then tree else entries_below folder tree

@@ -2,6 +2,7 @@ pub mod Bytes
 pub mod Folder
 pub mod Hash
 pub mod Manifest
+pub mod Merge
 pub mod Overlay
 pub mod Path
 pub mod Reach

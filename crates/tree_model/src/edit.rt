@@ -1,10 +1,11 @@
 // Changes to the entries of a tree, and lists of them.
-ghost use Rattle.std.specs.Prelude.{◌≡◌, ◌<◌, ◌≤◌, IfOk, None, OnErr, OnOk, Some, ℕ, List};
-ghost use Rattle.tree_model.specs.Path.{IsClean};
+ghost use Rattle.std.specs.Prelude.{◌≡◌, ◌<◌, ◌≤◌, IfOk, None, OnErr, OnOk, Some, ℕ, List, length, slice_index_or};
+ghost use Rattle.tree_model.specs.declared.entry.Entry.{Entry as TreeEntry};
+ghost use Rattle.tree_model.specs.Path.{IsBefore, IsClean};
 ghost use Rattle.tree_model.specs.Tree.{HasRoom, IsAscending, IsListing, IsStart, IsTree, entry_at, put};
 
 use crate::entry::Entry;
-use crate::order::place_of;
+use crate::order::{comes_before, place_of};
 use crate::path::begins_with;
 use crate::text::{Mem, Text, Texts};
 use std::alloc::Global;
@@ -65,6 +66,36 @@ pub(crate) fn start_of(entries: &[(Text, Entry)], prefix: &str) -> usize
     match place_of(entries, prefix) {
         Ok(place) => place,
         Err(place) => place,
+    }
+}
+
+/// The same, looked for from a place on: of those in front of it none is looked at, where they come before the prefix.
+pub(crate) fn start_near(entries: &[(Text, Entry)], near: usize, prefix: &str) -> usize
+    requires { IsAscending entries.now }
+    ensures { IsStart entries.now prefix.now result }
+{
+    let from = place_before(entries, near, prefix);
+    for place in from..entries.len() {
+        if !comes_before(entries[place].0.as_str(), prefix) {
+            return place;
+        }
+    }
+    entries.len()
+}
+
+/// The place, if all entries in front of it come before the prefix, and else 0.
+fn place_before(entries: &[(Text, Entry)], place: usize, prefix: &str) -> usize
+    requires { IsAscending entries.now }
+    ensures within { result ≤ length entries.now }
+    ensures before { (k : ℕ) (d : List ℕ × TreeEntry) → k < result → IsBefore (slice_index_or entries.now k d).0 prefix.now }
+{
+    if place == 0 || place > entries.len() {
+        return 0;
+    }
+    if comes_before(entries[place - 1].0.as_str(), prefix) {
+        place
+    } else {
+        0
     }
 }
 

@@ -1,5 +1,5 @@
 // SHA-256 digests.
-ghost use Rattle.std.specs.Prelude.{◌≡◌, IfNone, IfOk, IfSome};
+ghost use Rattle.std.specs.Prelude.{◌≡◌, IfNone, IfOk, IfSome, MatchBool, Some};
 ghost use Rattle.sha2.specs.Sha256.{sha256};
 ghost use Rattle.tree_model.specs.Hash.{IsHash, hash_text};
 ghost use Rattle.hex.specs.Hex.{encode_lower};
@@ -33,30 +33,43 @@ impl Hash {
         Ok(Text::from_string(hex::encode(alloc, self.bytes)?))
     }
 
+    /// The bytes of that text. They take no memory.
+    pub fn digits(&self) -> [u8; 64]
+        ensures { result ≡ hash_text self.now }
+    {
+        let mut digits = [0; 64];
+        match hex::encode_to_slice(&self.bytes, &mut digits) {
+            Ok(()) | Err(_) => digits,
+        }
+    }
+
     /// The digest with this text: exactly 64 lower-case hexadecimal digits.
     pub fn read(text: &str) -> Option<Hash>
         ensures some { IfSome result (λ hash. text.now ≡ hash_text hash) }
         ensures none { IfNone result ((hash : Hash) → IsHash hash → text.now ≡ hash_text hash → ⊥) }
     {
-        match <[u8; 32] as FromHex>::from_hex(text) {
-            Ok(bytes) => {
-                // `from_hex` takes capital letters too.
-                if digits_of(&bytes).as_slice() == text.as_bytes() {
-                    Some(Hash { bytes })
-                } else {
-                    None
-                }
-            }
-            Err(_) => None,
+        let hash = any_case(text)?;
+        if is_text_of(text, &hash) {
+            Some(hash)
+        } else {
+            None
         }
     }
 }
 
-fn digits_of(bytes: &[u8; 32]) -> [u8; 64]
-    ensures { result ≡ encode_lower bytes.now }
+/// The digest that hexadecimal digits of either case write, if they write one.
+fn any_case(text: &str) -> Option<Hash>
+    ensures { (hash : Hash) → IsHash hash → text.now ≡ hash_text hash → result ≡ Some hash }
 {
-    let mut digits = [0; 64];
-    match hex::encode_to_slice(bytes, &mut digits) {
-        Ok(()) | Err(_) => digits,
+    match <[u8; 32] as FromHex>::from_hex(text) {
+        Ok(bytes) => Some(Hash { bytes }),
+        Err(_) => None,
     }
+}
+
+/// Whether the text is that of the digest.
+fn is_text_of(text: &str, hash: &Hash) -> bool
+    ensures { MatchBool result (text.now ≡ hash_text hash.now) (text.now ≡ hash_text hash.now → ⊥) }
+{
+    text.as_bytes() == hash.digits().as_slice()
 }

@@ -25,8 +25,8 @@ mod tree;
 pub use entry::{Entry, EntryKind};
 pub use hash::Hash;
 pub use laws::{
-    manifests_of_equal_trees, overlay_is_one_tree, overlay_with_itself,
-    overlay_with_the_empty_tree, pick_after_place,
+    overlay_is_associative, overlay_is_one_tree, overlay_is_overlaid, overlay_with_itself,
+    overlay_with_the_empty_tree, pick_after_place, pick_is_picked, trees_of_equal_manifests,
 };
 pub use manifest::{Manifest, ManifestLine, manifest_of, matches};
 pub use path::{is_below, is_clean};

@@ -1,7 +1,7 @@
 // Entries in the order of their paths' bytes.
 ghost use Rattle.std.specs.Prelude.{◌≡◌, ◌<◌, ◌≤◌, All, AllPairs, Any, IfNone, IfSome, MatchBool, MatchResult, length};
 ghost use Rattle.std.specs.List.{HoldsAt};
-ghost use Rattle.tree_model.specs.Path.{IsAtOrBelow, IsBelow, IsUpTo};
+ghost use Rattle.tree_model.specs.Path.{IsAtOrBelow, IsBefore, IsBelow, IsUpTo};
 ghost use Rattle.tree_model.specs.Tree.{IsAscending, IsGap, IsSortedByPath, IsTree, StandsAt};
 ghost use Rattle.tree_model.specs.Refusal.{IsFirstBadPath};
 
@@ -22,6 +22,13 @@ fn place_of_bytes(entries: &[(Text, Entry)], path: &[u8]) -> Result<usize, usize
     ensures { MatchResult result (StandsAt entries.now path.now) (IsGap entries.now path.now) }
 {
     entries.binary_search_by(|entry| entry.0.as_str().as_bytes().cmp(path))
+}
+
+/// Whether the first path comes before the second in the order of bytes.
+pub(crate) fn comes_before(one: &str, other: &str) -> bool
+    ensures { MatchBool result (IsBefore one.now other.now) (IsUpTo other.now one.now) }
+{
+    one < other
 }
 
 /// Whether one of the entries has the path.

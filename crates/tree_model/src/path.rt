@@ -1,7 +1,7 @@
 // Paths are texts with `/` between their parts.
 ghost use Rattle.std.specs.Prelude.{◌≡◌, ◌≤◌, ◌∷◌, ◌++◌, ◌↔◌, List, ℕ, IsTrue, MatchBool, All, length};
 ghost use Rattle.tree_model.specs.Path.{BeginsWith, IsClean, IsPart, IsBelow, parts_of};
-ghost use Rattle.tree_model.specs.Reach.{IsReach};
+ghost use Rattle.tree_model.specs.Reach.{IsCommon, IsReach};
 
 /// The most bytes of a clean path.
 const MAX_PATH: usize = 4096;
@@ -57,6 +57,18 @@ pub(crate) fn begins_with(path: &str, prefix: &str) -> bool
         Some(_) => true,
         None => false,
     }
+}
+
+/// How many bytes two texts begin with that are the same.
+pub(crate) fn common_length(one: &[u8], other: &[u8]) -> usize
+    ensures { IsCommon one.now other.now result }
+{
+    for (place, byte) in one.iter().enumerate() {
+        if place >= other.len() || other[place] != *byte {
+            return place;
+        }
+    }
+    one.len()
 }
 
 /// How a path stands to one that it may be put over.

@@ -189,7 +189,7 @@ impl Tree {
         ensures ok { OnOk result (IsOverlay self.old later.now self.new) }
         ensures err { OnErr result (self.new ≡ self.old) }
     {
-        overlay_entries(&mut self.entries, alloc, &later.entries)
+        overlay_entries(&mut self.entries, alloc, later)
     }
 
     /// What the tree holds under the folder, without the folder's name; `.` picks the whole tree.

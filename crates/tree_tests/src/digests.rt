@@ -31,6 +31,7 @@ fn sha256_vectors(rt: HostRuntime) -> Result<(), TreeFault> {
     for (message, digits) in vectors {
         let hash = Hash::of(message);
         assert_eq!(rt; hash.text(alloc)?.as_str(), digits);
+        assert_eq!(rt; hash.digits().as_slice(), digits.as_bytes());
         assert_eq!(rt; Hash::read(digits), Some(hash));
     }
     Ok(())

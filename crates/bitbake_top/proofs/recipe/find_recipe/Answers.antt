@@ -1,20 +1,15 @@
-use Rattle.std.proofs.Common.{◌∙◌, sym, subst, List, ℕ}
-use Rattle.std.specs.Prelude.{Option}
+use Rattle.std.proofs.Common.{◌≡◌, ◌∙◌, sym, subst, ap, refl, ℕ, List, [], ◌∷◌}
+use Rattle.std.specs.Prelude.{Option, None}
 use Rattle.bitbake_top.specs.Recipe.{IsName}
-use Rattle.bitbake_top.specs.Hello.{IsBodyIn}
-use Rattle.bitbake_top.proofs.Found.{hello_found, hello_absent}
+use Rattle.bitbake_top.specs.Hello.{IsBodyIn, IsRecipeFault}
+use Rattle.bitbake_top.proofs.Found.{single, hello_absent, refused_as}
 use Rattle.bitbake_top.proofs.recipe.find_recipe.Goals as goal
 
-pub returns-in-Some-clause-found : goal.returns-in-Some-clause-found
-returns-in-Some-clause-found g c = λ t.
-    let P : Option (List ℕ) → Type 0 = λ o. IsBodyIn (g.L.Layers.files c.args.layers.now) c.as_str-2.result.now o in
-    let N : List ℕ → Type 0 = λ x. IsName x in
-    hello_found c.args.words.now (g.L.Layers.files c.args.layers.now) c.word-item.result c.in_ok-name.name c.as_str-2.result.now c.in-Some.body
-    c.in-len1.len_at_least c.in-len1.len_below c.word-item.is c.in_ok-name.ensures
-    (subst N (c.as_str.ensures ∙ sym c.in_ok-name.ensures) (c.is_name.ensures.0 c.if-not-is_name.false)) c.as_str-2.ensures (subst P c.in-Some.is (c.in_ok-found.ensures.found t))
+pub returns-in-Ok-None-clause-refused : goal.returns-in-Ok-None-clause-refused
+returns-in-Ok-None-clause-refused g c = λ t. hello_absent c.args.words.now (g.L.Layers.files c.args.layers.now) c.as_str-2.result.now
+    (single c.args.words.now c.word-item.result c.in-len1.len_at_least c.in-len1.len_below c.word-item.is ∙ ap (λ (y : List ℕ). y ∷ []) (sym (c.as_str-2.ensures ∙ c.in_ok-name.ensures))) (subst (IsBodyIn (g.L.Layers.files c.args.layers.now) c.as_str-2.result.now) c.in-Ok-None.field-0-is (c.in-Ok-None.ensures.found t))
 
-pub returns-in-None-clause-not_built : goal.returns-in-None-clause-not_built
-returns-in-None-clause-not_built g c = λ e t.
-    let P : Option (List ℕ) → Type 0 = λ o. IsBodyIn (g.L.Layers.files c.args.layers.now) c.as_str-2.result.now o in
-    hello_absent c.args.words.now (g.L.Layers.files c.args.layers.now) c.word-item.result c.in_ok-name.name c.as_str-2.result.now
-    c.in-len1.len_at_least c.in-len1.len_below c.word-item.is c.in_ok-name.ensures c.as_str-2.ensures (subst P c.in-None.is (c.in_ok-found.ensures.found t))
+pub returns-in-Err-clause-refused : goal.returns-in-Err-clause-refused
+returns-in-Err-clause-refused g c = λ t. refused_as c.args.words.now (g.L.Layers.files c.args.layers.now) c.as_str-2.result.now c.in-Err.fault
+    (single c.args.words.now c.word-item.result c.in-len1.len_at_least c.in-len1.len_below c.word-item.is ∙ ap (λ (y : List ℕ). y ∷ []) (sym (c.as_str-2.ensures ∙ c.in_ok-name.ensures)))
+    (subst IsName (c.as_str.ensures ∙ sym (c.as_str-2.ensures ∙ c.in_ok-name.ensures)) (c.is_name.ensures.0 c.if-not-is_name.false)) (c.in-Err.ensures.refused t)

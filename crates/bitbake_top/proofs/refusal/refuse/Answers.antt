@@ -1,7 +1,12 @@
 use Rattle.std.proofs.Common.{refl}
-use Rattle.bitbake_top.proofs.Steps.{prints_call, prints_none}
+use Rattle.meta_model.specs.declared.event.Status.TheVariants.{OutOfMemory, ReadFault}
+use Rattle.bitbake_top.proofs.Steps.{prints_fault, prints_none}
 use Rattle.bitbake_top.proofs.refusal.refuse.Goals as goal
 
-pub returns-clause-text : goal.returns-clause-text
-returns-clause-text g c told labels =
-    prints_call _ _ _ labels _ _ _ c.status_of-status.result.0 _ (c.say.ensures.text told _ _ (prints_none _ _ c.requires.fresh)) c.status_of-status.ensures.text (λ _. refl)
+pub returns-in-Failed-clause-text : goal.returns-in-Failed-clause-text
+returns-in-Failed-clause-text g c told labels =
+    prints_fault _ _ _ labels _ ReadFault ReadFault _ (c.say.ensures.text told _ _ (prints_none _ _ c.requires.fresh)) refl refl
+
+pub returns-in-Memory-clause-text : goal.returns-in-Memory-clause-text
+returns-in-Memory-clause-text g c told labels =
+    prints_fault _ _ _ labels _ OutOfMemory OutOfMemory _ (c.say-in-Memory.ensures.text told _ _ (prints_none _ _ c.requires.fresh)) refl refl

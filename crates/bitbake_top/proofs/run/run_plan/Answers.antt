@@ -7,7 +7,7 @@ use Rattle.bitbake_top.proofs.run.run_plan.Goals as goal
 
 pub returns-then-printer-clause-text : goal.returns-then-printer-clause-text
 returns-then-printer-clause-text g c told =
-    plan_failed _ _ _ _ _ _ _ refl c.new.ensures.items c.if-printer.true (c.say.ensures.text told _ _ (prints_none _ _ c.requires.fresh))
+    plan_failed _ _ _ _ _ _ _ refl c.new.ensures.items refl c.if-printer.true (c.say.ensures.text told _ _ (prints_none _ _ c.requires.fresh))
 
 pub returns-then-printer-clause-sink : goal.returns-then-printer-clause-sink
 returns-then-printer-clause-sink g c = c.say.ensures.cause _ (counts_none _ _ c.requires.fresh)

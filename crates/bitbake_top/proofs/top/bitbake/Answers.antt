@@ -13,6 +13,7 @@ returns-clause-exactly g c l b gives all layers disk benches sink memory =
       λ good. must_be_ok c.args.words.now (g.L.Layers.files c.args.layers) gives c.run-ran.result.tales.items c.run-ran.result.status legal c.run-ran.ensures.concludes
           (record {
             not_built_so = λ e. c.run-ran.ensures.not_built e l;
+            file = λ f. c.run-ran.ensures.at_fault f l;
             read = λ e. unchanged_rose _ _ layers (c.run-ran.ensures.read_cause e);
             disk = λ e. unchanged_rose _ _ disk (c.run-ran.ensures.disk_cause e);
             bench = λ e. unchanged_some _ _ benches (some_rose g.B.Bench.faults c.args.benches.items _ c.index_mut.result.now c.run-ran.new.bench last c.index_mut.ensures.value (c.run-ran.ensures.bench_cause e));
@@ -22,7 +23,7 @@ returns-clause-exactly g c l b gives all layers disk benches sink memory =
     )
 
 pub returns-clause-text_front : goal.returns-clause-text_front
-returns-clause-text_front g c told = front_anyway _ _ _ _ _ c.run-ran.result.status _ (c.run-ran.ensures.text told)
+returns-clause-text_front g c told = front_anyway _ _ _ _ _ c.run-ran.result.status _ c.run-ran.ensures.concludes (c.run-ran.ensures.text told)
 
 pub returns-clause-runs : goal.returns-clause-runs
 returns-clause-runs g c l b =

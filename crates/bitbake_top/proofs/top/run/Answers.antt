@@ -1,10 +1,10 @@
 use Rattle.std.proofs.Common.{ap, sym, subst, ℕ, List}
-use Rattle.std.specs.Prelude.{Err}
 use Rattle.meta_model.specs.declared.event.Logged.{Logged}
 use Rattle.bitbake_top.specs.Recipe.{work_folder}
+use Rattle.bitbake_top.specs.Hello.{IsRefusal}
 use Rattle.bitbake_top.specs.Report.{PrintsCall}
 use Rattle.bitbake_top.specs.Run.{labels_of, threads}
-use Rattle.bitbake_top.proofs.Calls.{labels_are, legal_run, refused_not_built, tales_ran}
+use Rattle.bitbake_top.proofs.Calls.{labels_are, legal_run, ran_file, refused_file, refused_not_built, tales_ran}
 use Rattle.bitbake_top.proofs.top.run.Goals as goal
 
 pub returns-in-Ok-clause-legal : goal.returns-in-Ok-clause-legal
@@ -25,4 +25,12 @@ returns-in-Err-clause-text g c told =
     subst (λ (tales : List (List Logged)). PrintsCall (g.W.Sink.written c.args.printer.now.sink) (g.W.Sink.written c.refuse.new.printer.sink) (labels_of c.args.words.now) threads tales c.refuse.result c.refuse.new.printer.failed) (sym c.new.ensures.items) (c.refuse.ensures.text told _)
 
 pub returns-in-Err-clause-not_built : goal.returns-in-Err-clause-not_built
-returns-in-Err-clause-not_built g c e = c.in-Err.ensures.not_built (ap Err (refused_not_built c.in-Err.fault c.refuse.result c.refuse.ensures.status e))
+returns-in-Err-clause-not_built g c e l =
+    subst (IsRefusal c.args.words.now (g.L.Layers.files c.args.layers.now)) (refused_not_built c.args.words.now c.in-Err.fault c.refuse.result c.refuse.ensures.status e) (c.in-Err.ensures.refused l)
+
+pub returns-in-Ok-clause-at_fault : goal.returns-in-Ok-clause-at_fault
+returns-in-Ok-clause-at_fault g c f l = absurd (ran_file c.run_plan.result.tales.items c.run_plan.result.status c.run_plan.ensures.concludes f)
+
+pub returns-in-Err-clause-at_fault : goal.returns-in-Err-clause-at_fault
+returns-in-Err-clause-at_fault g c f l =
+    refused_file c.args.words.now (g.L.Layers.files c.args.layers.now) c.in-Err.fault c.refuse.result c.refuse.ensures.status f (c.in-Err.ensures.refused l)

@@ -1,0 +1,47 @@
+-- The first form that a line fits, part by part.
+use Rattle.std.proofs.Common.{◌≡◌, ℕ, true, false, not, List, [], ◌∷◌, ◌++◌, refl, ap, ◌∙◌, Option, Some, None, codes}
+use Rattle.meta_model.specs.declared.statement.Statement.{Statement}
+use Rattle.meta_model.specs.declared.statement.Statement.TheVariants.{Export, Unset, Include, Require, Inherit, ExportFunctions}
+use Rattle.meta_model.specs.Text.{skip_blanks, is_empty, words}
+use Rattle.meta_model.specs.Lines.{opens_body}
+use Rattle.meta_model.specs.Grammar.{Fit, ◌>>=◌, where_true, plain_fit, first_of_two, first_there, function_head, fit_of, behind_word, assignment, flag_assignment, with_name, flag_unset, with_text, with_words, task_parts, task_names}
+use Rattle.bb_parser.specs.Forms.{value_forms_of, directive_forms_of, words_behind_word, exported_assignment}
+
+-- the first form of a body's head
+pub fit_of-opens : (text body : List ℕ) → opens_body text ≡ true → fit_of text body ≡ function_head body (skip_blanks text)
+unfolding fit_of
+fit_of-opens text body e = rw e refl
+
+assoc : (a b c : Option Fit) → first_of_two a (first_of_two b c) ≡ first_of_two (first_of_two a b) c
+assoc None b c = refl
+assoc (Some x) b c = refl
+
+-- the first of two lists of forms
+there-append : (xs ys : List (Option Fit)) → first_there (xs ++ ys) ≡ first_of_two (first_there xs) (first_there ys)
+there-append [] ys = refl
+there-append (x ∷ xs) ys = ap (first_of_two x) (there-append xs ys) ∙ assoc x (first_there xs) (first_there ys)
+
+value_list : List ℕ → List (Option Fit)
+value_list s = assignment false s ∷ exported_assignment s ∷ flag_assignment s ∷ with_name (codes "export") Export s ∷ with_name (codes "unset") Unset s ∷ flag_unset s ∷ []
+
+directive_list : List ℕ → List (Option Fit)
+directive_list s = with_text (codes "include") Include s ∷ with_text (codes "require") Require s ∷ with_text (codes "inherit") Inherit s
+    ∷ with_words (codes "EXPORT_FUNCTIONS") (λ ws. Some (ExportFunctions ws)) s ∷ with_words (codes "addtask") task_parts s ∷ with_words (codes "deltask") task_names s ∷ []
+
+pub two_lists : (text body : List ℕ) → opens_body text ≡ false → fit_of text body ≡ first_of_two (value_forms_of (skip_blanks text)) (directive_forms_of (skip_blanks text))
+unfolding fit_of value_list directive_list
+two_lists text body e = rw e (there-append (value_list (skip_blanks text)) (directive_list (skip_blanks text)))
+
+pub fit_of-value : (text body : List ℕ) (f : Fit) → opens_body text ≡ false → value_forms_of (skip_blanks text) ≡ Some f → fit_of text body ≡ Some f
+fit_of-value text body f e t = two_lists text body e ∙ ap (λ x. first_of_two x (directive_forms_of (skip_blanks text))) t
+
+pub fit_of-directive : (text body : List ℕ) → opens_body text ≡ false → value_forms_of (skip_blanks text) ≡ None → fit_of text body ≡ directive_forms_of (skip_blanks text)
+fit_of-directive text body e t = two_lists text body e ∙ ap (λ x. first_of_two x (directive_forms_of (skip_blanks text))) t
+
+-- a word and words are the words behind it and what they make
+pub with_words-is : (word s : List ℕ) (make : List (List ℕ) → Option Statement) → with_words word make s ≡ (words_behind_word word s >>= λ ws. make ws >>= λ st. Some (plain_fit st))
+with_words-is word s make = by_case (behind_word word s)
+  where
+    by_case : (o : Option (List ℕ)) → (o >>= λ t. where_true (not (is_empty (words t))) (words t) >>= λ ws. make ws >>= λ st. Some (plain_fit st)) ≡ ((o >>= λ t. where_true (not (is_empty (words t))) (words t)) >>= λ ws. make ws >>= λ st. Some (plain_fit st))
+    by_case None = refl
+    by_case (Some t) = refl

@@ -1,0 +1,7 @@
+pub mod Faults
+pub mod Quotes
+pub mod Words
+pub mod Forms
+pub mod Tasks
+pub mod Reading
+pub mod Written

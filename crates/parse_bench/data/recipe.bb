@@ -1,0 +1,5 @@
+a = "b"
+do_build() {
+    echo hello
+}
+addtask build
