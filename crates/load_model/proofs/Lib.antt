@@ -1,0 +1,3 @@
+pub mod VersionOrder
+pub mod Growth
+mod Greatest

@@ -1,0 +1,10 @@
+pub mod Versions
+pub mod Paths
+pub mod Patterns
+pub mod LoadRefusal
+pub mod Loading
+pub mod Layers
+pub mod Recipes
+pub mod Facts
+pub mod LoadSamples
+pub mod LibraryAndApplication

@@ -1,0 +1,4 @@
+pub mod LateValue
+pub mod Winner
+pub mod Settled
+pub mod Faults

@@ -1,0 +1,16 @@
+use Rattle.meta_model.specs.Expansion.{value_by}
+use Rattle.var_expand.specs.Expanding.{known}
+use Rattle.var_expand.proofs.Expanding.{start_value, same_ok, same_err}
+use Rattle.var_expand.proofs.expansion.value.Goals as goal
+
+pub returns-clause-ok : goal.returns-clause-ok
+returns-clause-ok g c =
+    let finds = g.L.Lookup.finds c.args.from.now in
+    let names = c.new-within.result.items in
+    same_ok c.value_within.result (known finds 64 names c.args.name.now) (value_by finds c.args.name.now) (start_value finds names c.args.name.now c.new-within.ensures.items) c.value_within.ensures.ok
+
+pub returns-clause-err : goal.returns-clause-err
+returns-clause-err g c =
+    let finds = g.L.Lookup.finds c.args.from.now in
+    let names = c.new-within.result.items in
+    same_err c.value_within.result (known finds 64 names c.args.name.now) (value_by finds c.args.name.now) (start_value finds names c.args.name.now c.new-within.ensures.items) c.value_within.ensures.err

@@ -1,0 +1,300 @@
+// Expansion of references.
+ghost use Rattle.std.specs.Prelude.{◌≡◌, [], ◌≤◌, ◌-◌, ◌++◌, IfOk, IfErr, OnOk, Ok, codes, length};
+ghost use Rattle.meta_model.specs.Expansion.{longest, expanded_parts, expanded, expanded_value, expand_by, value_by};
+ghost use Rattle.var_expand.specs.Faults.{IsFaultOf};
+ghost use Rattle.var_expand.specs.Pieces.{parts_in};
+ghost use Rattle.var_expand.specs.Expanding.{fitting, grown, known, last_name, reference_text, removed};
+
+use crate::fault::{ExpandFault, ReadFault};
+use crate::lookup::Lookup;
+use crate::parts::{Part, Parts};
+use crate::reading::read;
+use crate::scan::{are_name_bytes, holds_opening};
+use crate::words::{drop_words, is_among, push_words};
+use meta_model::Resolved;
+use std::alloc::Global;
+use tree_model::{Mem, Text};
+
+/// The most bytes of an expanded text.
+const LONGEST: usize = 1_048_576;
+
+/// The most names in expansion at once.
+const DEEPEST: usize = 64;
+
+/// The last of the names, or the empty text.
+fn innermost_name(alloc: Global, within: &[Text]) -> Result<Text, Mem>
+    ensures { IfOk result (λ made. made ≡ last_name within.now) }
+{
+    match within.last() {
+        Some(name) => name.copy(),
+        None => Ok(Text::new(alloc)),
+    }
+}
+
+/// Refuses more bytes than there is room for.
+fn fit(alloc: Global, within: &[Text], room: usize, more: usize) -> Result<(), ExpandFault>
+    ensures ok { OnOk result (more ≤ room) }
+    ensures err { IfErr result (λ fault. IsFaultOf fault (fitting within.now room more)) }
+{
+    if more > room {
+        return Err(ExpandFault::TooLong {
+            name: innermost_name(alloc, within)?,
+        });
+    }
+    Ok(())
+}
+
+/// The reference to a name.
+fn as_reference(alloc: Global, name: &str) -> Result<Text, Mem>
+    ensures { IfOk result (λ made. made ≡ codes "${" ++ (name.now ++ codes "}")) }
+{
+    let mut made = Text::from_str(alloc, "${")?;
+    made.push_str(name)?;
+    made.push_str("}")?;
+    Ok(made)
+}
+
+/// Puts what a part becomes behind what is expanded so far.
+#[cycle(expansion)]
+fn expand_part<L: Lookup>(
+    alloc: Global,
+    from: &L,
+    within: &mut Vec<Text>,
+    left: usize,
+    out: &mut Text,
+    part: &Part,
+) -> Result<(), ExpandFault>
+    requires { length out.old ≤ longest }
+    ensures ok { OnOk result (grown (known (L.finds from.now) left within.old.items) (last_name within.old.items) part.now out.old ≡ Ok out.new) }
+    ensures room { OnOk result (length out.new ≤ longest) }
+    ensures err { IfErr result (λ fault. IsFaultOf fault (grown (known (L.finds from.now) left within.old.items) (last_name within.old.items) part.now out.old)) }
+    ensures same { OnOk result (within.new.items ≡ within.old.items) }
+{
+    match part {
+        Part::Plain(text) => {
+            fit(
+                alloc,
+                within.as_slice(),
+                LONGEST - out.as_str().len(),
+                text.as_str().len(),
+            )?;
+            Ok(out.push_str(text.as_str())?)
+        }
+        Part::Ref(name) => {
+            let piece = expand_reference(alloc, from, within, left, name)?;
+            fit(
+                alloc,
+                within.as_slice(),
+                LONGEST - out.as_str().len(),
+                piece.as_str().len(),
+            )?;
+            Ok(out.push_str(piece.as_str())?)
+        }
+    }
+}
+
+/// Parts expanded.
+#[cycle(expansion)]
+fn expand_parts<L: Lookup>(
+    alloc: Global,
+    from: &L,
+    within: &mut Vec<Text>,
+    left: usize,
+    parts: &Parts,
+) -> Result<Text, ExpandFault>
+    ensures ok { IfOk result (λ made. expanded_parts (known (L.finds from.now) left within.old.items) (last_name within.old.items) (parts_in parts.now) longest ≡ Ok made) }
+    ensures err { IfErr result (λ fault. IsFaultOf fault (expanded_parts (known (L.finds from.now) left within.old.items) (last_name within.old.items) (parts_in parts.now) longest)) }
+    ensures same { OnOk result (within.new.items ≡ within.old.items) }
+{
+    let mut out = Text::new(alloc);
+    for part in &parts.list {
+        expand_part(alloc, from, within, left, &mut out, part)?;
+    }
+    Ok(out)
+}
+
+/// What a reference becomes: the value of its name, or, where there is none, the reference with its inner parts expanded.
+#[cycle(expansion)]
+fn expand_reference<L: Lookup>(
+    alloc: Global,
+    from: &L,
+    within: &mut Vec<Text>,
+    left: usize,
+    name: &Parts,
+) -> Result<Text, ExpandFault>
+    ensures ok { IfOk result (λ made. reference_text (known (L.finds from.now) left within.old.items) (last_name within.old.items) (parts_in name.now) ≡ Ok made) }
+    ensures err { IfErr result (λ fault. IsFaultOf fault (reference_text (known (L.finds from.now) left within.old.items) (last_name within.old.items) (parts_in name.now))) }
+    ensures same { OnOk result (within.new.items ≡ within.old.items) }
+{
+    let looked = expand_parts(alloc, from, within, left, name)?;
+    if !are_name_bytes(looked.as_str().as_bytes()) {
+        return Ok(as_reference(alloc, looked.as_str())?);
+    }
+    match value_within(alloc, from, within, left, looked.as_str())? {
+        Some(value) => Ok(value),
+        None => Ok(as_reference(alloc, looked.as_str())?),
+    }
+}
+
+/// The expanded value of a name in the expansion of others.
+#[cycle(expansion)]
+fn value_within<L: Lookup>(
+    alloc: Global,
+    from: &L,
+    within: &mut Vec<Text>,
+    left: usize,
+    name: &str,
+) -> Result<Option<Text>, ExpandFault>
+    ensures ok { IfOk result (λ made. known (L.finds from.now) left within.old.items name.now ≡ Ok made) }
+    ensures err { IfErr result (λ fault. IsFaultOf fault (known (L.finds from.now) left within.old.items name.now)) }
+    ensures same { OnOk result (within.new.items ≡ within.old.items) }
+{
+    if is_among(name, within.as_slice()) {
+        return Err(ExpandFault::ValueCycle {
+            name: Text::from_str(alloc, name)?,
+        });
+    }
+    let Some(found) = from.find(alloc, name)? else {
+        return Ok(None);
+    };
+    if left == 0 {
+        return Err(ExpandFault::TooDeep {
+            name: innermost_name(alloc, within.as_slice())?,
+        });
+    }
+    let names = within.len();
+    within.push(Text::from_str(alloc, name)?)?;
+    let value = expand_value(alloc, from, within, left - 1, found)?;
+    within.truncate(names);
+    Ok(Some(value))
+}
+
+/// A resolved value expanded, without the words of its expanded removes.
+#[cycle(expansion)]
+fn expand_value<L: Lookup>(
+    alloc: Global,
+    from: &L,
+    within: &mut Vec<Text>,
+    left: usize,
+    found: Resolved,
+) -> Result<Text, ExpandFault>
+    ensures ok { IfOk result (λ made. expanded_value (known (L.finds from.now) left within.old.items) (last_name within.old.items) found ≡ Ok made) }
+    ensures err { IfErr result (λ fault. IsFaultOf fault (expanded_value (known (L.finds from.now) left within.old.items) (last_name within.old.items) found)) }
+    ensures same { OnOk result (within.new.items ≡ within.old.items) }
+{
+    let Resolved {
+        text,
+        removes,
+        flags,
+    } = found;
+    drop(flags);
+    let value = expand_owned(alloc, from, within, left, text)?;
+    if removes.is_empty() {
+        return Ok(value);
+    }
+    let words = removed_words(alloc, from, within, left, removes.as_slice())?;
+    Ok(drop_words(alloc, value.as_str(), words.as_slice())?)
+}
+
+/// The words of the removes, expanded.
+#[cycle(expansion)]
+fn removed_words<L: Lookup>(
+    alloc: Global,
+    from: &L,
+    within: &mut Vec<Text>,
+    left: usize,
+    removes: &[Text],
+) -> Result<Vec<Text>, ExpandFault>
+    ensures ok { IfOk result (λ made. removed (known (L.finds from.now) left within.old.items) (last_name within.old.items) removes.now ≡ Ok made.items) }
+    ensures err { IfErr result (λ fault. IsFaultOf fault (removed (known (L.finds from.now) left within.old.items) (last_name within.old.items) removes.now)) }
+    ensures same { OnOk result (within.new.items ≡ within.old.items) }
+{
+    let mut words = Vec::new(alloc);
+    for remove in removes {
+        let text = expand_text(alloc, from, within, left, remove.as_str())?;
+        push_words(&mut words, alloc, text.as_str())?;
+    }
+    Ok(words)
+}
+
+/// A text expanded, that is not copied where it has no reference.
+#[cycle(expansion)]
+fn expand_owned<L: Lookup>(
+    alloc: Global,
+    from: &L,
+    within: &mut Vec<Text>,
+    left: usize,
+    text: Text,
+) -> Result<Text, ExpandFault>
+    ensures ok { IfOk result (λ made. expanded (known (L.finds from.now) left within.old.items) (last_name within.old.items) text ≡ Ok made) }
+    ensures err { IfErr result (λ fault. IsFaultOf fault (expanded (known (L.finds from.now) left within.old.items) (last_name within.old.items) text)) }
+    ensures same { OnOk result (within.new.items ≡ within.old.items) }
+{
+    if holds_opening(text.as_str().as_bytes()) {
+        return expand_text(alloc, from, within, left, text.as_str());
+    }
+    fit(alloc, within.as_slice(), LONGEST, text.as_str().len())?;
+    Ok(text)
+}
+
+/// A text expanded.
+#[cycle(expansion)]
+fn expand_text<L: Lookup>(
+    alloc: Global,
+    from: &L,
+    within: &mut Vec<Text>,
+    left: usize,
+    text: &str,
+) -> Result<Text, ExpandFault>
+    ensures ok { IfOk result (λ made. expanded (known (L.finds from.now) left within.old.items) (last_name within.old.items) text.now ≡ Ok made) }
+    ensures err { IfErr result (λ fault. IsFaultOf fault (expanded (known (L.finds from.now) left within.old.items) (last_name within.old.items) text.now)) }
+    ensures same { OnOk result (within.new.items ≡ within.old.items) }
+{
+    match read(alloc, text) {
+        Ok(parts) => expand_parts(alloc, from, within, left, &parts),
+        Err(ReadFault::TooDeep) => Err(ExpandFault::TooDeep {
+            name: innermost_name(alloc, within.as_slice())?,
+        }),
+        Err(ReadFault::Memory) => Err(ExpandFault::Memory),
+    }
+}
+
+/// The parts of a name expanded, in the expansion of no other.
+pub(crate) fn expand_name<L: Lookup>(
+    alloc: Global,
+    from: &L,
+    name: &Parts,
+) -> Result<Text, ExpandFault>
+    ensures ok { IfOk result (λ made. expanded_parts (value_by (L.finds from.now)) [] (parts_in name.now) longest ≡ Ok made) }
+    ensures err { IfErr result (λ fault. IsFaultOf fault (expanded_parts (value_by (L.finds from.now)) [] (parts_in name.now) longest)) }
+{
+    let mut within = Vec::new(alloc);
+    expand_parts(alloc, from, &mut within, DEEPEST, name)
+}
+
+/// A text with its references replaced by the values of their names, as `from` finds them ("Syntax and Operators", "Variable
+/// Expansion").
+///
+/// Where a name has no value, or holds a character that no name of a reference has, the reference stays, with its inner
+/// parts expanded. What is put in isn't read again, so that glued text makes no reference (own rule). A value's removes
+/// take their words out of it after both are expanded. Each expanded text has at most 1,048,576 bytes, asked before removes
+/// are applied, and at most 64 names are in expansion at once (own rules).
+///
+/// Of several faults the earliest in the text comes, and a value's text comes before its removes; but that a text nests too
+/// deep is asked before anything of it is expanded. A text without references looks nothing up.
+pub fn expand<L: Lookup>(alloc: Global, text: &str, from: &L) -> Result<Text, ExpandFault>
+    ensures ok { IfOk result (λ made. expand_by (L.finds from.now) text.now ≡ Ok made) }
+    ensures err { IfErr result (λ fault. IsFaultOf fault (expand_by (L.finds from.now) text.now)) }
+{
+    let mut within = Vec::new(alloc);
+    expand_text(alloc, from, &mut within, DEEPEST, text)
+}
+
+/// The expanded value of a name, or `None` where it has none. The rules and faults are those of `expand`.
+pub fn value<L: Lookup>(alloc: Global, name: &str, from: &L) -> Result<Option<Text>, ExpandFault>
+    ensures ok { IfOk result (λ made. value_by (L.finds from.now) name.now ≡ Ok made) }
+    ensures err { IfErr result (λ fault. IsFaultOf fault (value_by (L.finds from.now) name.now)) }
+{
+    let mut within = Vec::new(alloc);
+    value_within(alloc, from, &mut within, DEEPEST, name)
+}

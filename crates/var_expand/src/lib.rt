@@ -1,0 +1,29 @@
+//! References in texts, and the expansion of texts over a map from names to values.
+//!
+//! A text is read as plain text and references (`parse_refs`), and expanded over any `Lookup` (`expand`, `value`). Contracts
+//! see texts as lists of bytes, and the parts of a text as those of `meta_model`, whose definitions they name: `parts_of` for
+//! the reading, `expand_by` and `value_by` for the expansion; `looked_up`, for the names that a text looks up, stands here.
+//!
+//! Promised: each call returns, and equals its definition, refusals included, unless memory ran out. Reading takes time and
+//! memory linear in the bytes of the text. A value without references is not copied when it is expanded.
+#![tactic(auto)]
+
+mod expansion;
+mod fault;
+mod frame;
+mod lookup;
+mod names;
+mod parts;
+mod reading;
+mod scan;
+mod standing;
+mod words;
+
+pub use expansion::{expand, value};
+pub use fault::ExpandFault;
+pub use lookup::Lookup;
+pub use names::references;
+pub use parts::{Part, Parts};
+pub use reading::parse_refs;
+pub use scan::{are_name_bytes, holds_opening};
+pub use words::drop_words;

@@ -1,0 +1,126 @@
+// The names that a text looks up.
+ghost use Rattle.std.specs.Prelude.{◌≡◌, IfOk, IfErr, OnOk, Ok};
+ghost use Rattle.meta_model.specs.Text.{into_order, is_before};
+ghost use Rattle.meta_model.specs.Expansion.{value_by};
+ghost use Rattle.meta_model.specs.Parts.{end, reference};
+ghost use Rattle.var_expand.specs.Faults.{IsFaultOf};
+ghost use Rattle.var_expand.specs.Pieces.{part_before, parts_in};
+ghost use Rattle.var_expand.specs.References.{looked_up, noted};
+
+use crate::expansion::expand_name;
+use crate::fault::ExpandFault;
+use crate::lookup::Lookup;
+use crate::parts::{Part, Parts};
+use crate::reading::parse_refs;
+use crate::scan::are_name_bytes;
+use std::alloc::Global;
+use std::cmp::Ordering;
+use tree_model::{Mem, Text, Texts};
+
+/// Whether the first text comes before the second in byte order.
+fn comes_before(first: &str, second: &str) -> bool
+    ensures { result ≡ is_before first.now second.now }
+{
+    match first.cmp(second) {
+        Ordering::Less => true,
+        Ordering::Equal => false,
+        Ordering::Greater => false,
+    }
+}
+
+/// Puts a name into its place among others in byte order, where it isn't there yet.
+fn note(names: &mut Vec<Text>, name: Text) -> Result<(), Mem>
+    ensures { OnOk result (names.new.items ≡ into_order names.old.items name) }
+{
+    let mut place = 0;
+    while place < names.len() {
+        if names[place].as_str() == name.as_str() {
+            return Ok(());
+        }
+        if comes_before(name.as_str(), names[place].as_str()) {
+            names.insert(place, name)?;
+            return Ok(());
+        }
+        place += 1;
+    }
+    Ok(names.push(name)?)
+}
+
+/// Notes the names that a reference looks up: those of its name's parts, and its name.
+#[cycle(noting)]
+fn note_reference<L: Lookup>(
+    alloc: Global,
+    from: &L,
+    names: &mut Vec<Text>,
+    name: &Parts,
+) -> Result<(), ExpandFault>
+    ensures ok { OnOk result (noted (value_by (L.finds from.now)) (reference (parts_in name.now) end) names.old.items ≡ Ok names.new.items) }
+    ensures err { IfErr result (λ fault. IsFaultOf fault (noted (value_by (L.finds from.now)) (reference (parts_in name.now) end) names.old.items)) }
+{
+    let looked = expand_name(alloc, from, name)?;
+    note_parts(alloc, from, names, name)?;
+    if are_name_bytes(looked.as_str().as_bytes()) {
+        note(names, looked)?;
+    }
+    Ok(())
+}
+
+/// Notes the names that a part looks up.
+#[cycle(noting)]
+fn note_part<L: Lookup>(
+    alloc: Global,
+    from: &L,
+    names: &mut Vec<Text>,
+    part: &Part,
+) -> Result<(), ExpandFault>
+    ensures ok { OnOk result (noted (value_by (L.finds from.now)) (part_before part.now end) names.old.items ≡ Ok names.new.items) }
+    ensures err { IfErr result (λ fault. IsFaultOf fault (noted (value_by (L.finds from.now)) (part_before part.now end) names.old.items)) }
+{
+    match part {
+        Part::Plain(_) => Ok(()),
+        Part::Ref(name) => note_reference(alloc, from, names, name),
+    }
+}
+
+/// Notes the names that parts look up.
+#[cycle(noting)]
+fn note_parts<L: Lookup>(
+    alloc: Global,
+    from: &L,
+    names: &mut Vec<Text>,
+    parts: &Parts,
+) -> Result<(), ExpandFault>
+    ensures ok { OnOk result (noted (value_by (L.finds from.now)) (parts_in parts.now) names.old.items ≡ Ok names.new.items) }
+    ensures err { IfErr result (λ fault. IsFaultOf fault (noted (value_by (L.finds from.now)) (parts_in parts.now) names.old.items)) }
+{
+    for part in &parts.list {
+        note_part(alloc, from, names, part)?;
+    }
+    Ok(())
+}
+
+/// The names as a list of texts.
+fn as_texts(alloc: Global, names: &[Text]) -> Result<Texts, Mem>
+    ensures { IfOk result (λ made. made ≡ names.now) }
+{
+    let mut made = Texts::new(alloc);
+    for name in names {
+        made.push(name.copy()?)?;
+    }
+    Ok(made)
+}
+
+/// The names that the references of a text look up, in byte order, each once. Names that stand in the names of references
+/// are among them, and are expanded; the values of the others are not (own rule).
+///
+/// Faults are those of these expansions, and `TooDeep` with an empty name, before any other, where the text nests
+/// references more than 64 deep.
+pub fn references<L: Lookup>(alloc: Global, text: &str, from: &L) -> Result<Texts, ExpandFault>
+    ensures ok { IfOk result (λ made. looked_up (L.finds from.now) text.now ≡ Ok made) }
+    ensures err { IfErr result (λ fault. IsFaultOf fault (looked_up (L.finds from.now) text.now)) }
+{
+    let parts = parse_refs(alloc, text)?;
+    let mut names = Vec::new(alloc);
+    note_parts(alloc, from, &mut names, &parts)?;
+    Ok(as_texts(alloc, names.as_slice())?)
+}

@@ -1,0 +1,74 @@
+// Words of texts, and texts without some of them.
+ghost use Rattle.std.specs.Prelude.{◌≡◌, ◌++◌, ◌<◌, ◌∷◌, IfOk, IfSome, OnOk, [], position, length, slice_index, if◌then◌else◌};
+ghost use Rattle.meta_model.specs.Text.{is_white, is_in, non_empty, words, drop_words};
+
+use std::alloc::Global;
+use tree_model::{Mem, Text};
+
+/// Whether a byte is a space, a tab, a newline or a carriage return.
+fn is_white_byte(byte: &u8) -> bool
+    ensures { result ≡ is_white byte.now }
+{
+    *byte == b' ' || *byte == b'\t' || *byte == b'\n' || *byte == b'\r'
+}
+
+/// The place of the first white space.
+fn white_at(bytes: &[u8]) -> Option<usize>
+    ensures first { result ≡ position is_white bytes.now }
+    ensures within { IfSome result (λ i. i < length bytes.now) }
+    ensures stands { IfSome result (λ i. slice_index bytes.now i < 128) }
+{
+    bytes.iter().position(is_white_byte)
+}
+
+/// Whether the text is one of the list.
+pub(crate) fn is_among(text: &str, list: &[Text]) -> bool
+    ensures { result ≡ is_in text.now list.now }
+{
+    list.iter().any(|other| text == other.as_str())
+}
+
+/// The piece, or nothing where it is one of the words.
+fn kept<'a>(piece: &'a str, words: &[Text]) -> &'a str
+    ensures { result.now ≡ (if is_in piece.now words.now then [] else piece.now) }
+{
+    if is_among(piece, words) { "" } else { piece }
+}
+
+/// A text without these words: it is cut at each single white space character, the pieces that equal one of the words go,
+/// and the white space stays ("Syntax and Operators", "Removal (Override Style Syntax)").
+pub fn drop_words(alloc: Global, value: &str, words: &[Text]) -> Result<Text, Mem>
+    ensures { IfOk result (λ made. made ≡ drop_words value.now words.now) }
+{
+    let mut made = Text::new(alloc);
+    let mut rest = value;
+    while let Some(end) = white_at(rest.as_bytes()) {
+        made.push_str(kept(&rest[..end], words))?;
+        made.push_str(&rest[end..end + 1])?;
+        rest = &rest[end + 1..];
+    }
+    made.push_str(kept(rest, words))?;
+    Ok(made)
+}
+
+/// Puts the piece at the end, unless it is empty.
+fn push_piece(words: &mut Vec<Text>, alloc: Global, piece: &str) -> Result<(), Mem>
+    ensures { OnOk result (words.new.items ≡ words.old.items ++ non_empty (piece.now ∷ [])) }
+{
+    if piece.is_empty() {
+        return Ok(());
+    }
+    Ok(words.push(Text::from_str(alloc, piece)?)?)
+}
+
+/// Puts the words of the text at the end.
+pub(crate) fn push_words(list: &mut Vec<Text>, alloc: Global, text: &str) -> Result<(), Mem>
+    ensures { OnOk result (list.new.items ≡ list.old.items ++ words text.now) }
+{
+    let mut rest = text;
+    while let Some(end) = white_at(rest.as_bytes()) {
+        push_piece(list, alloc, &rest[..end])?;
+        rest = &rest[end + 1..];
+    }
+    push_piece(list, alloc, rest)
+}
