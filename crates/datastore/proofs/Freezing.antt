@@ -1,0 +1,275 @@
+-- Names, conditions and lines, one after another.
+use Rattle.std.proofs.Common.{◌≡◌, refl, sym, ◌∙◌, ap, subst, ℕ, ◌+◌, ◌<◌, Bool, true, false, not, map, List, [], ◌∷◌, ◌++◌, length, get_or, drop, flat_map, filter, Option, Some, None, bytes_eq, Result, Ok, Err, IfErr, append_assoc, append-nil}
+use Rattle.std.proofs.lemmas.List.{drop_more}
+use Rattle.meta_model.specs.declared.entry.EntryLine.{EntryLine}
+use Rattle.meta_model.specs.declared.entry.EntryLine.TheVariants.{Set, Later}
+use Rattle.meta_model.specs.declared.entry.Op.TheVariants.{Set as Assign, Weak}
+use Rattle.meta_model.specs.declared.entry.LateLine.{LateLine}
+use Rattle.meta_model.specs.Refusal.{Refusal, value_cycle, too_deep, too_long, unstable, ◌>>=◌}
+use Rattle.meta_model.specs.Base.{value_slot, flag_slot, lates, flag_in, flags_of, names}
+use Rattle.meta_model.specs.Frozen.{Move, stays, moves, given, told_flag, conditions, told_lates, told, told_all, lines_where, is_task_line, frozen}
+use Rattle.var_expand.specs.declared.fault.ExpandFault.{ExpandFault}
+use Rattle.var_expand.specs.declared.fault.ExpandFault.TheVariants as expand
+use Rattle.var_expand.specs.Faults.{IsFaultOf}
+use Rattle.datastore.specs.declared.fault.DataFault.{DataFault}
+use Rattle.datastore.specs.declared.fault.DataFault.TheVariants.{Unstable, Expand, Memory}
+use Rattle.datastore.specs.Faults.{IsDataFault}
+use Rattle.datastore.specs.Telling.{move_of, IsPushed, named_lines, value_lines, flag_lines, flag_told, told_kept, behind, parted}
+use Rattle.std.specs.BTreeMap.{get_by_text, IsOrdered}
+use Rattle.std.specs.String.{string_cmp}
+use Rattle.meta_model.proofs.Bools.{not_both, or_first, or_later, text_itself}
+use Rattle.meta_model.proofs.Winner.{filter_passes}
+use Rattle.meta_model.specs.Text.{is_in}
+use Rattle.meta_model.specs.Slot.{nothing, is_set}
+use Rattle.datastore.specs.declared.kept.Kept.{Kept}
+use Rattle.datastore.specs.declared.named.Named.{Named}
+use Rattle.datastore.specs.declared.maps.Maps.{Maps}
+use Rattle.datastore.specs.Kept.{slot_of, flag_kept}
+use Rattle.datastore.specs.Named.{slot_at, flag_at}
+use Rattle.datastore.specs.Maps.{named_at, Keeps}
+use Rattle.datastore.specs.Picked.{picked}
+use Rattle.datastore.specs.Left.{kept_set}
+use Rattle.datastore.proofs.Ordered.{ordered_in}
+use Rattle.datastore.proofs.Naming.{flags_are, no_flags_of}
+
+-- faults
+
+expand_on : {A B : Type 0} (fault : ExpandFault) (m : Result A Refusal) (f : A → Result B Refusal) → IsFaultOf fault m → IsFaultOf fault (m >>= f)
+expand_on (expand.ValueCycle name) m f e = ap (λ k. k >>= f) e
+expand_on (expand.TooDeep name) m f e = ap (λ k. k >>= f) e
+expand_on (expand.TooLong name) m f e = ap (λ k. k >>= f) e
+expand_on (expand.Unstable before last) m f e = ap (λ k. k >>= f) e
+expand_on expand.Memory m f e = tt
+
+-- a fault of the first answer is one of the whole
+pub fault_on : {A B : Type 0} (fault : DataFault) (m : Result A Refusal) (f : A → Result B Refusal) → IsDataFault fault m → IsDataFault fault (m >>= f)
+fault_on (Unstable before last) m f e = ap (λ k. k >>= f) e
+fault_on (Expand fault) m f e = expand_on fault m f e
+fault_on Memory m f e = tt
+
+abbrev answer : {A : Type 0} → A → Result A Refusal
+answer a = Ok a
+
+abbrev fails : {A : Type 0} → Refusal → Result A Refusal
+fails refusal = Err refusal
+
+-- an answer that is no refusal has no fault but want of memory
+no_expand : {A B : Type 0} (fault : ExpandFault) (a : A) (n : Result B Refusal) → IsFaultOf fault (answer a) → IsFaultOf fault n
+no_expand (expand.ValueCycle name) a n h = absurd cc
+no_expand (expand.TooDeep name) a n h = absurd cc
+no_expand (expand.TooLong name) a n h = absurd cc
+no_expand (expand.Unstable before last) a n h = absurd cc
+no_expand expand.Memory a n h = tt
+
+pub no_fault : {A B : Type 0} (fault : DataFault) (a : A) (n : Result B Refusal) → IsDataFault fault (answer a) → IsDataFault fault n
+no_fault (Unstable before last) a n h = absurd cc
+no_fault (Expand fault) a n h = no_expand fault a n h
+no_fault Memory a n h = tt
+
+-- a refusal is one for answers of any type
+refusal_at : (A B : Type 0) (x r : Refusal) → fails {A = A} x ≡ fails {A = A} r → fails {A = B} x ≡ fails {A = B} r
+refusal_at A B x r e = let same : x ≡ r = cc in ap (λ z. fails z) same
+
+same_expand : (A B : Type 0) (fault : ExpandFault) (refusal : Refusal) → IsFaultOf fault (fails {A = A} refusal) → IsFaultOf fault (fails {A = B} refusal)
+same_expand A B (expand.ValueCycle name) refusal h = refusal_at A B refusal (value_cycle name) h
+same_expand A B (expand.TooDeep name) refusal h = refusal_at A B refusal (too_deep name) h
+same_expand A B (expand.TooLong name) refusal h = refusal_at A B refusal (too_long name) h
+same_expand A B (expand.Unstable before last) refusal h = refusal_at A B refusal (unstable before last) h
+same_expand A B expand.Memory refusal h = tt
+
+same_refusal : (A B : Type 0) (fault : DataFault) (refusal : Refusal) → IsDataFault fault (fails {A = A} refusal) → IsDataFault fault (fails {A = B} refusal)
+same_refusal A B (Unstable before last) refusal h = refusal_at A B refusal (unstable before last) h
+same_refusal A B (Expand fault) refusal h = same_expand A B fault refusal h
+same_refusal A B Memory refusal h = tt
+
+pub fault_same : {A : Type 0} (fault : DataFault) (m n : Result A Refusal) → m ≡ n → IsDataFault fault n → IsDataFault fault m
+fault_same fault m n e h = subst (IsDataFault fault) (sym e) h
+
+-- a list that goes on behind what is there
+
+abbrev pub onto : {A : Type 0} → List A → Result (List A) Refusal → Result (List A) Refusal
+onto before more = more >>= (λ rest. Ok (before ++ rest))
+
+pub onto_begins : {A : Type 0} (more : Result (List A) Refusal) → more ≡ onto [] more
+onto_begins (Ok rest) = refl
+onto_begins (Err refusal) = refl
+
+onto_next : {A : Type 0} (before : List A) (x : A) (more : Result (List A) Refusal) → onto before (more >>= (λ rest. Ok (x ∷ rest))) ≡ onto (before ++ x ∷ []) more
+onto_next before x (Ok rest) = ap Ok (sym (append_assoc before (x ∷ []) rest))
+onto_next before x (Err refusal) = refl
+
+pub onto_ends : {A : Type 0} (before : List A) → onto before (Ok []) ≡ Ok before
+onto_ends before = ap Ok (append-nil before)
+
+-- one more of such a list, which is made of the first of what is left
+pub one_more : {A B : Type 0} (make : B → Result A Refusal) (all : List B → Result (List A) Refusal) → ((b : B) (rest : List B) → all (b ∷ rest) ≡ (make b >>= (λ a. all rest >>= (λ more. Ok (a ∷ more)))))
+    → (before : List A) (b : B) (rest : List B) (a : A) → make b ≡ Ok a → onto before (all (b ∷ rest)) ≡ onto (before ++ a ∷ []) (all rest)
+one_more make all is before b rest a e = ap (onto before) (is b rest ∙ ap (λ m. m >>= (λ x. all rest >>= (λ more. Ok (x ∷ more)))) e) ∙ onto_next before a (all rest)
+
+-- a fault of the first of what is left is one of all
+pub one_fault : {A B : Type 0} (make : B → Result A Refusal) (all : List B → Result (List A) Refusal) → ((b : B) (rest : List B) → all (b ∷ rest) ≡ (make b >>= (λ a. all rest >>= (λ more. Ok (a ∷ more)))))
+    → (whole : Result (List A) Refusal) (before : List A) (b : B) (rest : List B) (fault : DataFault) → whole ≡ onto before (all (b ∷ rest)) → IsDataFault fault (make b) → IsDataFault fault whole
+one_fault make all is whole before b rest fault e h =
+    fault_same fault whole (onto before (all (b ∷ rest))) e
+    (fault_on fault (all (b ∷ rest)) (λ more. Ok (before ++ more)) (fault_same fault (all (b ∷ rest)) (make b >>= (λ a. all rest >>= (λ more. Ok (a ∷ more)))) (is b rest) (fault_on fault (make b) (λ a. all rest >>= (λ more. Ok (a ∷ more))) h)))
+
+-- what is left of a list
+pub next_of : {B C : Type 0} (all : List B → C) (xs : List B) (i : ℕ) (x : B) → x ≡ get_or xs i x → i < length xs → all (drop i xs) ≡ all (x ∷ drop (i + 1) xs)
+next_of all xs i x is lt = ap all (drop_more xs i x lt ∙ ap (λ y. y ∷ drop (i + 1) xs) (sym is))
+
+-- a late entry, as one of another name
+abbrev pub late_made : List EntryLine → List ℕ → LateLine → Result EntryLine Refusal
+late_made list target line = conditions list line.when >>= (λ when. Ok (Later target line.kind when line.text))
+
+lates_at : {A B C : Type 0} (m : Result A Refusal) (f : A → B) (g : B → Result C Refusal) → (m >>= (λ a. g (f a))) ≡ ((m >>= (λ a. Ok (f a))) >>= g)
+lates_at (Ok a) f g = refl
+lates_at (Err refusal) f g = refl
+
+pub lates_are : (list : List EntryLine) (target : List ℕ) (line : LateLine) (lines : List LateLine) → told_lates list target (line ∷ lines) ≡ (late_made list target line >>= (λ a. told_lates list target lines >>= (λ more. Ok (a ∷ more))))
+lates_are list target line lines = lates_at (conditions list line.when) (λ when. Later target line.kind when line.text) (λ a. told_lates list target lines >>= (λ more. Ok (a ∷ more)))
+
+pub late_ok : (list : List EntryLine) (target : List ℕ) (line : LateLine) (when : List (List ℕ)) → conditions list line.when ≡ Ok when → late_made list target line ≡ Ok (Later target line.kind when line.text)
+late_ok list target line when e = ap (λ m. m >>= (λ w. Ok (Later target line.kind w line.text))) e
+
+-- what a name tells
+
+behind_at : (m : Result (List EntryLine) Refusal) (old n new : List EntryLine) → behind (old ++ n) m ≡ Ok new → behind old (m >>= (λ late. Ok (n ++ late))) ≡ Ok new
+behind_at (Ok late) old n new e = ap Ok (sym (append_assoc old n late)) ∙ e
+behind_at (Err refusal) old n new e = absurd cc
+
+pub told_ok : (list : List EntryLine) (move : Move) (old middle new : List EntryLine) (late : List LateLine) → middle ≡ old ++ named_lines list move → late ≡ lates list move.source → behind middle (told_lates list move.target late) ≡ Ok new → behind old (told list move) ≡ Ok new
+told_ok list move old middle new late e f h =
+    behind_at (told_lates list move.target (lates list move.source)) old (named_lines list move) new
+    (subst (λ l. behind l (told_lates list move.target (lates list move.source)) ≡ Ok new) e (subst (λ l. behind middle (told_lates list move.target l) ≡ Ok new) f h))
+
+pub if_err_weaker : {T : Type 0} (r : Result T DataFault) (P Q : DataFault → Type 0) → ((fault : DataFault) → P fault → Q fault) → IfErr r P → IfErr r Q
+if_err_weaker (Ok a) P Q f h = tt
+if_err_weaker (Err fault) P Q f h = f fault h
+
+pub told_fault : (list : List EntryLine) (move : Move) (fault : DataFault) → IsDataFault fault (told_lates list move.target (lates list move.source)) → IsDataFault fault (told list move)
+told_fault list move fault h = fault_on fault (told_lates list move.target (lates list move.source)) (λ late. Ok (given (Set move.target Assign) (value_slot list move.source).value ++ given (Set move.target Weak) (value_slot list move.source).weak ++ flat_map (told_flag list move) (flags_of list move.source) ++ late)) h
+
+-- all that names tell
+
+stay_next : (m : Result (List (Move × List EntryLine)) Refusal) (s g first : List EntryLine) (move : Move) → stays move ≡ true → parted s g (m >>= (λ rest. Ok ((move, first) ∷ rest))) ≡ parted (s ++ first) g m
+stay_next (Ok rest) s g first move h = rw h (ap (λ l. Ok (l, g ++ lines_where (λ m. not (stays m)) rest)) (sym (append_assoc s first (lines_where stays rest))))
+stay_next (Err refusal) s g first move h = refl
+
+go_next : (m : Result (List (Move × List EntryLine)) Refusal) (s g first : List EntryLine) (move : Move) → stays move ≡ false → parted s g (m >>= (λ rest. Ok ((move, first) ∷ rest))) ≡ parted s (g ++ first) m
+go_next (Ok rest) s g first move h = rw h (ap (λ l. Ok (s ++ lines_where stays rest, l)) (sym (append_assoc g first (lines_where (λ m. not (stays m)) rest))))
+go_next (Err refusal) s g first move h = refl
+
+stay_at : (t : Result (List EntryLine) Refusal) (list : List EntryLine) (s g new : List EntryLine) (move : Move) (rest : List Move) → stays move ≡ true → told list move ≡ t → behind s t ≡ Ok new → parted s g (told_all list (move ∷ rest)) ≡ parted new g (told_all list rest)
+stay_at (Ok first) list s g new move rest h e n =
+    let same : s ++ first ≡ new = cc in
+    ap (λ m. parted s g (m >>= (λ f. told_all list rest >>= (λ more. Ok ((move, f) ∷ more))))) e ∙ stay_next (told_all list rest) s g first move h ∙ ap (λ l. parted l g (told_all list rest)) same
+stay_at (Err refusal) list s g new move rest h e n = absurd cc
+
+go_at : (t : Result (List EntryLine) Refusal) (list : List EntryLine) (s g new : List EntryLine) (move : Move) (rest : List Move) → stays move ≡ false → told list move ≡ t → behind g t ≡ Ok new → parted s g (told_all list (move ∷ rest)) ≡ parted s new (told_all list rest)
+go_at (Ok first) list s g new move rest h e n =
+    let same : g ++ first ≡ new = cc in
+    ap (λ m. parted s g (m >>= (λ f. told_all list rest >>= (λ more. Ok ((move, f) ∷ more))))) e ∙ go_next (told_all list rest) s g first move h ∙ ap (λ l. parted s l (told_all list rest)) same
+go_at (Err refusal) list s g new move rest h e n = absurd cc
+
+pub stay_step : (list : List EntryLine) (s g new : List EntryLine) (move : Move) (rest : List Move) → stays move ≡ true → behind s (told list move) ≡ Ok new → parted s g (told_all list (move ∷ rest)) ≡ parted new g (told_all list rest)
+stay_step list s g new move rest h n = stay_at (told list move) list s g new move rest h refl n
+
+pub go_step : (list : List EntryLine) (s g new : List EntryLine) (move : Move) (rest : List Move) → stays move ≡ false → behind g (told list move) ≡ Ok new → parted s g (told_all list (move ∷ rest)) ≡ parted s new (told_all list rest)
+go_step list s g new move rest h n = go_at (told list move) list s g new move rest h refl n
+
+pub parted_ends : (s g : List EntryLine) → parted s g (Ok []) ≡ Ok (s, g)
+parted_ends s g = rw (append-nil s, append-nil g) refl
+
+-- a fault of what one name tells is one of all
+pub parted_fault : (list : List EntryLine) (whole : Result (List (Move × List EntryLine)) Refusal) (s g s' g' : List EntryLine) (move : Move) (rest : List Move) (fault : DataFault) → parted s g whole ≡ parted s' g' (told_all list (move ∷ rest)) → IsDataFault fault (told list move) → IsDataFault fault (parted s g whole)
+parted_fault list whole s g s' g' move rest fault e h =
+    fault_same fault (parted s g whole) (parted s' g' (told_all list (move ∷ rest))) e
+    (fault_on fault (told_all list (move ∷ rest)) (λ told. Ok (s' ++ lines_where stays told, g' ++ lines_where (λ m. not (stays m)) told)) (fault_on fault (told list move) (λ first. told_all list rest >>= (λ more. Ok ((move, first) ∷ more))) h))
+
+-- the frozen entries
+
+ok_pair : {A B : Type 0} (a c : A) (b d : B) → answer {A = A × B} (a, b) ≡ answer {A = A × B} (c, d) → (a ≡ c) × (b ≡ d)
+ok_pair {A} {B} a c b d e =
+    let first : A × B = (a, b) in
+    let second : A × B = (c, d) in
+    let same : first ≡ second = cc in (ap (λ (p : A × B). p.0) same, ap (λ (p : A × B). p.1) same)
+
+frozen_at : (t : Result (List (Move × List EntryLine)) Refusal) (s g tasks : List EntryLine) → parted [] [] t ≡ Ok (s, g) → (t >>= (λ told. Ok (lines_where stays told ++ lines_where (λ move. not (stays move)) told ++ tasks))) ≡ Ok ((s ++ g) ++ tasks)
+frozen_at (Ok all) s g tasks e =
+    let same = ok_pair (lines_where stays all) s (lines_where (λ move. not (stays move)) all) g e in
+    ap Ok (ap (λ l. (l ++ lines_where (λ move. not (stays move)) all) ++ tasks) same.0 ∙ ap (λ l. (s ++ l) ++ tasks) same.1)
+frozen_at (Err refusal) s g tasks e = absurd cc
+
+pub frozen_ok : (list : List EntryLine) (all : List Move) (s g : List EntryLine) → moves list (names list) ≡ Ok all → parted [] [] (told_all list all) ≡ Ok (s, g) → frozen list ≡ Ok ((s ++ g) ++ filter is_task_line list)
+frozen_ok list all s g e h = ap (λ m. m >>= (λ a. told_all list a >>= (λ told. Ok (lines_where stays told ++ lines_where (λ move. not (stays move)) told ++ filter is_task_line list)))) e ∙ frozen_at (told_all list all) s g (filter is_task_line list) h
+
+pub moves_fault : (list : List EntryLine) (fault : DataFault) → IsDataFault fault (moves list (names list)) → IsDataFault fault (frozen list)
+moves_fault list fault h = fault_on fault (moves list (names list)) (λ a. told_all list a >>= (λ told. Ok (lines_where stays told ++ lines_where (λ move. not (stays move)) told ++ filter is_task_line list))) h
+
+-- what refuses the parted lines refuses the frozen ones
+parted_same : (t : Result (List (Move × List EntryLine)) Refusal) (fault : DataFault) (tasks : List EntryLine) → IsDataFault fault (parted [] [] t) → IsDataFault fault (t >>= (λ told. Ok (lines_where stays told ++ lines_where (λ move. not (stays move)) told ++ tasks)))
+parted_same (Ok all) fault tasks h = no_fault fault (lines_where stays all, lines_where (λ move. not (stays move)) all) (Ok (lines_where stays all ++ lines_where (λ move. not (stays move)) all ++ tasks)) h
+parted_same (Err refusal) fault tasks h = same_refusal (List EntryLine × List EntryLine) (List EntryLine) fault refusal h
+
+pub told_all_fault : (list : List EntryLine) (all : List Move) (fault : DataFault) → moves list (names list) ≡ Ok all → IsDataFault fault (parted [] [] (told_all list all)) → IsDataFault fault (frozen list)
+told_all_fault list all fault e h =
+    fault_same fault (frozen list) (told_all list all >>= (λ told. Ok (lines_where stays told ++ lines_where (λ move. not (stays move)) told ++ filter is_task_line list)))
+    (ap (λ m. m >>= (λ a. told_all list a >>= (λ told. Ok (lines_where stays told ++ lines_where (λ move. not (stays move)) told ++ filter is_task_line list)))) e)
+    (parted_same (told_all list all) fault (filter is_task_line list) h)
+
+-- flags that are told
+
+flat_same : (f g : List ℕ → List EntryLine) (fs : List (List ℕ)) → ((t : List ℕ) → is_in t fs ≡ true → f t ≡ g t) → flat_map f fs ≡ flat_map g fs
+flat_same f g [] h = refl
+flat_same f g (x ∷ fs) h =
+    ap (λ l. l ++ flat_map f fs) (h x (or_first (bytes_eq x x) (is_in x fs) (text_itself x)))
+    ∙ ap (λ l. g x ++ l) (flat_same f g fs (λ t i. h t (or_later (bytes_eq t x) (is_in t fs) i)))
+
+set_flag : (list : List EntryLine) (name f : List ℕ) → is_in f (flags_of list name) ≡ true → is_set (flag_slot list name f) ≡ true
+set_flag list name f h =
+    filter_passes (λ g. is_set (flag_slot list name g)) (flat_map (flag_in name) list) f (sym (ordered_in (filter (λ g. is_set (flag_slot list name g)) (flat_map (flag_in name) list)) f) ∙ h)
+
+told_at : (list : List EntryLine) (source target f : List ℕ) (o : Option Kept) → flag_kept o ≡ flag_slot list source f → is_set (flag_slot list source f) ≡ true → flag_told target f o ≡ told_flag list (record { source = source; target = target }) f
+told_at list source target f None e h = not_both (is_set (flag_slot list source f)) h (ap is_set (sym e))
+told_at list source target f (Some kept) e h = ap (flag_lines target f) e
+
+pub named_told : (list : List EntryLine) (maps : Maps) (source target : List ℕ) (named : Named) (old middle : List EntryLine) (fs : List (List ℕ)) → Keeps list maps → named_at maps source ≡ Some named → IsOrdered string_cmp named.flags
+    → fs ≡ picked kept_set named.flags.entries → middle ≡ old ++ value_lines target (slot_of named.kept)
+    → middle ++ flat_map (told_kept target named.flags) fs ≡ old ++ (value_lines target (value_slot list source) ++ flat_map (told_flag list (record { source = source; target = target })) (flags_of list source))
+named_told list maps source target named old middle fs keeps found ordered e m =
+    let move : Move = record { source = source; target = target } in
+    let names : fs ≡ flags_of list source = e ∙ flags_are list maps source named keeps found ordered in
+    ap (λ l. l ++ flat_map (told_kept target named.flags) fs) (m ∙ ap (λ s. old ++ value_lines target s) (ap slot_at (sym found) ∙ keeps.value source))
+    ∙ ap (λ l. (old ++ value_lines target (value_slot list source)) ++ flat_map (told_kept target named.flags) l) names
+    ∙ ap (λ l. (old ++ value_lines target (value_slot list source)) ++ l) (flat_same (told_kept target named.flags) (told_flag list move) (flags_of list source)
+    (λ t i. told_at list source target t (get_by_text named.flags t) (ap (λ o. flag_at o t) (sym found) ∙ keeps.flags source t) (set_flag list source t i)))
+    ∙ append_assoc old (value_lines target (value_slot list source)) (flat_map (told_flag list move) (flags_of list source))
+
+pub none_told : (list : List EntryLine) (maps : Maps) (source target : List ℕ) (old : List EntryLine) → Keeps list maps → named_at maps source ≡ None
+    → old ≡ old ++ (value_lines target (value_slot list source) ++ flat_map (told_flag list (record { source = source; target = target })) (flags_of list source))
+none_told list maps source target old keeps found =
+    let value : value_slot list source ≡ nothing = sym (keeps.value source) ∙ ap slot_at found in
+    let none : flags_of list source ≡ [] = no_flags_of list maps source keeps found in
+    rw (value, none) (sym (append-nil old))
+
+-- one more name
+step_at : (list : List EntryLine) (s g s' g' : List EntryLine) (move : Move) (rest : List Move) (b : Bool) → stays move ≡ b → IsPushed s g s' g' b (told list move) → parted s g (told_all list (move ∷ rest)) ≡ parted s' g' (told_all list rest)
+step_at list s g s' g' move rest true h p = stay_step list s g s' move rest h p.0 ∙ ap (λ l. parted s' l (told_all list rest)) (sym p.1)
+step_at list s g s' g' move rest false h p = go_step list s g g' move rest h p.0 ∙ ap (λ l. parted l g' (told_all list rest)) (sym p.1)
+
+pub move_step : (list : List EntryLine) (s g s' g' : List EntryLine) (move : Move) (rest : List Move) → IsPushed s g s' g' (stays move) (told list move) → parted s g (told_all list (move ∷ rest)) ≡ parted s' g' (told_all list rest)
+move_step list s g s' g' move rest p = step_at list s g s' g' move rest (stays move) refl p
+
+pub map_drop : (xs : List (List ℕ × List ℕ)) (i : ℕ) (x : List ℕ × List ℕ) → x ≡ get_or xs i x → i < length xs → map move_of (drop i xs) ≡ move_of x ∷ map move_of (drop (i + 1) xs)
+map_drop xs i x is lt = next_of (map move_of) xs i x is lt
+
+pub late_fault : (list : List EntryLine) (target : List ℕ) (line : LateLine) (fault : DataFault) → IsDataFault fault (conditions list line.when) → IsDataFault fault (late_made list target line)
+late_fault list target line fault h = fault_on fault (conditions list line.when) (λ when. Ok (Later target line.kind when line.text)) h
+
+-- what refuses lines behind others refuses the lines
+pub behind_fault : (m : Result (List EntryLine) Refusal) (old : List EntryLine) (fault : DataFault) → IsDataFault fault (behind old m) → IsDataFault fault m
+behind_fault (Ok lines) old fault h = no_fault fault (old ++ lines) (Ok lines) h
+behind_fault (Err refusal) old fault h = same_refusal (List EntryLine) (List EntryLine) fault refusal h
+
+pub told_lates_fault : (list : List EntryLine) (move : Move) (late : List LateLine) (fault : DataFault) → late ≡ lates list move.source → IsDataFault fault (told_lates list move.target late) → IsDataFault fault (told list move)
+told_lates_fault list move late fault e h = told_fault list move fault (subst (λ l. IsDataFault fault (told_lates list move.target l)) e h)

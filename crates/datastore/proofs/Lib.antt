@@ -1,0 +1,12 @@
+pub mod Flags
+pub mod Rests
+pub mod Steps
+pub mod Winning
+pub mod Keeping
+pub mod Looking
+pub mod Ordered
+pub mod Naming
+pub mod Sets
+pub mod Tasking
+pub mod Freezing
+pub mod Orders

@@ -1,0 +1,121 @@
+-- What one name's change makes of all names.
+use Rattle.std.proofs.Common.{◌≡◌, refl, sym, ◌∙◌, ap, subst, ℕ, Bool, true, false, cond, List, [], Option, Some, None, is_some, bytes_eq, ◌+◌, take, drop, Result, Ok, Err, OnErr, BTreeMap, String}
+use Rattle.std.specs.Global.{Global}
+use Rattle.std.specs.BTreeMap.{get_by_text, is_at}
+use Rattle.std.proofs.lemmas.Map.Text.{text_cmp}
+use Rattle.std.specs.Map.{update, lookup}
+use Rattle.meta_model.proofs.Bools.{same_text}
+use Rattle.meta_model.specs.declared.entry.EntryLine.{EntryLine}
+use Rattle.meta_model.specs.declared.entry.EntryLine.TheVariants.{Set, Later, Flag, Unset, UnsetFlag, Exported, Task, NoTask}
+use Rattle.meta_model.specs.Frozen.{is_task_line}
+use Rattle.meta_model.specs.Slot.{nothing}
+use Rattle.meta_model.specs.Base.{value_after, flag_after, lates_after}
+use Rattle.datastore.specs.Forms.{KeepsRests, HasForms}
+use Rattle.datastore.specs.declared.maps.Maps.{Maps}
+use Rattle.datastore.specs.Maps.{Goes, Stays}
+use Rattle.datastore.specs.declared.named.Named.{Named}
+use Rattle.datastore.specs.Named.{slot_at, lates_at, flag_at, Steps, IsAlike, subject}
+
+-- an entry of another name changes nothing
+pub step_other : (o : Option Named) (name : List ℕ) (line : EntryLine) → bytes_eq (subject line) name ≡ false → Steps o o name line
+step_other o name (Set n op text) h = record { value = rw h refl; late = refl; flags = λ f. refl }
+step_other o name (Later n kind when text) h = record { value = refl; late = rw h refl; flags = λ f. refl }
+step_other o name (Flag n f op text) h = record { value = refl; late = refl; flags = λ g. rw h refl }
+step_other o name (Unset n) h = record { value = rw h refl; late = rw h refl; flags = λ f. rw h refl }
+step_other o name (UnsetFlag n f) h = record { value = refl; late = refl; flags = λ g. rw h refl }
+step_other o name (Exported class n) h = record { value = rw h refl; late = refl; flags = λ f. rw h refl }
+step_other o name (Task t after before) h = record { value = refl; late = refl; flags = λ f. refl }
+step_other o name (NoTask t) h = record { value = refl; late = refl; flags = λ f. refl }
+
+-- nor does one of a task
+pub step_task : (o : Option Named) (name : List ℕ) (line : EntryLine) → is_task_line line ≡ true → Steps o o name line
+step_task o name (Set n op text) h = absurd cc
+step_task o name (Later n kind when text) h = absurd cc
+step_task o name (Flag n f op text) h = absurd cc
+step_task o name (Unset n) h = absurd cc
+step_task o name (UnsetFlag n f) h = absurd cc
+step_task o name (Exported class n) h = absurd cc
+step_task o name (Task t after before) h = record { value = refl; late = refl; flags = λ f. refl }
+step_task o name (NoTask t) h = record { value = refl; late = refl; flags = λ f. refl }
+
+pub alike_itself : (o : Option Named) → IsAlike o o
+alike_itself o = record { value = refl; late = refl; flags = λ f. refl }
+
+step_at : (f : List ℕ → Option Named) (w : Option Named) (line : EntryLine) (q : List ℕ) (b : Bool) → bytes_eq (subject line) q ≡ b → Steps (f (subject line)) w (subject line) line → Steps (f q) (cond b w (f q)) q line
+step_at f w line q true h s = subst (λ t. Steps (f t) w t line) (same_text (subject line) q h) s
+step_at f w line q false h s = step_other (f q) q line h
+
+-- a step of the entry's name is one of all names
+pub all_step : (f g : List ℕ → Option Named) (k : List ℕ) (w : Option Named) (line : EntryLine) → k ≡ subject line → ((q : List ℕ) → g q ≡ update bytes_eq f k w q) → Steps (f k) w (subject line) line
+    → (q : List ℕ) → Steps (f q) (g q) q line
+all_step f g k w line e u s q =
+    subst (λ o. Steps (f q) o q line) (sym (u q ∙ ap (λ n. cond (bytes_eq n q) w (f q)) e)) (step_at f w line q (bytes_eq (subject line) q) refl (subst (λ n. Steps (f n) w (subject line) line) e s))
+
+alike_at : (f : List ℕ → Option Named) (w : Option Named) (k q : List ℕ) (b : Bool) → bytes_eq k q ≡ b → IsAlike (f k) w → IsAlike (f q) (cond b w (f q))
+alike_at f w k q true h s = subst (λ t. IsAlike (f t) w) (same_text k q h) s
+alike_at f w k q false h s = alike_itself (f q)
+
+pub all_alike : (f g : List ℕ → Option Named) (k : List ℕ) (w : Option Named) → ((q : List ℕ) → g q ≡ update bytes_eq f k w q) → IsAlike (f k) w → (q : List ℕ) → IsAlike (f q) (g q)
+all_alike f g k w u s q = subst (λ o. IsAlike (f q) o) (sym (u q)) (alike_at f w k q (bytes_eq k q) refl s)
+
+-- where nothing was kept, the first step is one from nothing
+pub step_first : (before : Option Named) (new : Named) (w : Option Named) (name : List ℕ) (line : EntryLine) → before ≡ None → slot_at (Some new) ≡ nothing → lates_at (Some new) ≡ [] → ((f : List ℕ) → flag_at (Some new) f ≡ nothing)
+    → Steps (Some new) w name line → Steps before w name line
+step_first before new w name line e v l g s = subst (λ o. Steps o w name line) (sym e) (record {
+  value = s.value ∙ ap (λ x. value_after name x line) v;
+  late = s.late ∙ ap (λ x. lates_after name x line) l;
+  flags = λ f. s.flags f ∙ ap (λ x. flag_after name f x (flag_at (Some new) f) line) v ∙ ap (λ x. flag_after name f nothing x line) (g f);
+})
+
+-- the names stay where one that is kept is changed
+is_kept_at : (f : List ℕ → Option Named) (w : Named) (k q : List ℕ) (b : Bool) → bytes_eq k q ≡ b → is_some (f k) ≡ true → is_some (cond b (Some w) (f q)) ≡ is_some (f q)
+is_kept_at f w k q true h s = sym (ap (λ t. is_some (f t)) (sym (same_text k q h)) ∙ s)
+is_kept_at f w k q false h s = refl
+
+pub same_names : (f g : List ℕ → Option Named) (k : List ℕ) (w : Named) → ((q : List ℕ) → g q ≡ update bytes_eq f k (Some w) q) → is_some (f k) ≡ true → (q : List ℕ) → is_some (g q) ≡ is_some (f q)
+same_names f g k w u s q = ap is_some (u q) ∙ is_kept_at f w k q (bytes_eq k q) refl s
+
+-- what is noted stays noted
+pub forms_kept : (r s : List ℕ → List (List ℕ)) (name : List ℕ) → KeepsRests r s → HasForms r name → HasForms s name
+forms_kept r s name keeps h = λ k lt e. keeps (take k name) (drop (k + 1) name) (h k lt e)
+
+added_at : (f : List ℕ → Option Named) (r s : List ℕ → List (List ℕ)) (k q : List ℕ) (w : Named) (b : Bool) → bytes_eq k q ≡ b → KeepsRests r s → HasForms s k → ((name : List ℕ) → is_some (f name) ≡ true → HasForms r name)
+    → is_some (cond b (Some w) (f q)) ≡ true → HasForms s q
+added_at f r s k q w true e keeps new old h = subst (HasForms s) (same_text k q e) new
+added_at f r s k q w false e keeps new old h = forms_kept r s q keeps (old q h)
+
+-- one more name, which is noted
+pub added_forms : (f g : List ℕ → Option Named) (r s : List ℕ → List (List ℕ)) (k : List ℕ) (w : Named) → ((q : List ℕ) → g q ≡ update bytes_eq f k (Some w) q) → KeepsRests r s → HasForms s k
+    → ((name : List ℕ) → is_some (f name) ≡ true → HasForms r name) → (name : List ℕ) → is_some (g name) ≡ true → HasForms s name
+added_forms f g r s k w u keeps new old q h = added_at f r s k q w (bytes_eq k q) refl keeps new old (ap is_some (sym (u q)) ∙ h)
+
+pub none_of : {A : Type 0} (o : Option A) → is_some o ≡ false → o ≡ None
+none_of None h = refl
+none_of (Some a) h = absurd cc
+
+-- what holds always, holds where there is an error
+pub on_err : {T E P : Type 0} (r : Result T E) → P → OnErr r P
+on_err (Ok x) p = tt
+on_err (Err e) p = p
+
+-- maps with the same entries
+pub kept_alike : (m n : BTreeMap (String Global) Named) → n.entries ≡ m.entries → (name : List ℕ) → IsAlike (get_by_text m name) (get_by_text n name)
+kept_alike m n e name = subst (λ o. IsAlike (get_by_text m name) o) (ap (lookup (is_at (text_cmp name))) (sym e)) (alike_itself (get_by_text m name))
+
+pub kept_forms : (m n : BTreeMap (String Global) Named) → n.entries ≡ m.entries → (name : List ℕ) → is_some (get_by_text m name) ≡ is_some (get_by_text n name)
+kept_forms m n e name = ap (λ l. is_some (lookup (is_at (text_cmp name)) l)) (sym e)
+
+-- what is kept of one name is changed
+pub goes_on : (maps : Maps) (n : BTreeMap (String Global) Named) (k : List ℕ) (old new : Named) (line : EntryLine) → k ≡ subject line → get_by_text maps.named k ≡ Some old
+    → ((q : List ℕ) → get_by_text n q ≡ update bytes_eq (get_by_text maps.named) k (Some new) q) → Steps (Some old) (Some new) (subject line) line → Goes maps (record { named = n; forms = maps.forms }) line
+goes_on maps n k old new line e found u s = record {
+  steps = all_step (get_by_text maps.named) (get_by_text n) k (Some new) line e u (subst (λ o. Steps o (Some new) (subject line) line) (sym found) s);
+  forms = λ h name some. h name (sym (same_names (get_by_text maps.named) (get_by_text n) k new u (ap is_some found) name) ∙ some);
+}
+
+pub stays_so : (maps : Maps) (n : BTreeMap (String Global) Named) (k : List ℕ) (old new : Named) → get_by_text maps.named k ≡ Some old
+    → ((q : List ℕ) → get_by_text n q ≡ update bytes_eq (get_by_text maps.named) k (Some new) q) → IsAlike (Some old) (Some new) → Stays maps (record { named = n; forms = maps.forms })
+stays_so maps n k old new found u s = record {
+  alike = all_alike (get_by_text maps.named) (get_by_text n) k (Some new) u (subst (λ o. IsAlike o (Some new)) (sym found) s);
+  forms = λ h name some. h name (sym (same_names (get_by_text maps.named) (get_by_text n) k new u (ap is_some found) name) ∙ some);
+}

@@ -1,0 +1,17 @@
+use Rattle.std.proofs.Common.{◌∙◌, sym}
+use Rattle.std.proofs.lemmas.Result.{err_from_is_err_and}
+use Rattle.meta_model.specs.Active as entries
+use Rattle.meta_model.specs.Expansion.{expand_by}
+use Rattle.datastore.specs.Faults.{IsDataFault}
+use Rattle.datastore.specs.Looked.{found_over}
+use Rattle.datastore.proofs.Looking.{text_is, data_fault, if_err}
+use Rattle.datastore.proofs.looked.expand_over.Goals as goal
+
+pub returns-in_err-expand-clause-err : goal.returns-in_err-expand-clause-err
+returns-in_err-expand-clause-err c =
+    let list = c.args.store.now in
+    let p = err_from_is_err_and c.from_residual.result c.from_residual.ensures.1 in
+    if_err (λ fault. IsDataFault fault (entries.expand list c.args.text.now)) c.from_residual.result p.0 p.1 (data_fault c.in_err-expand.field-0.0 p.0 (expand_by (found_over list c.args.overrides.now) c.args.text.now) (entries.expand list c.args.text.now) p.2 (text_is list c.args.overrides.now c.requires c.args.text.now) c.in_err-expand.ensures.err)
+
+pub returns-clause-ok : goal.returns-clause-ok
+returns-clause-ok c = sym (text_is c.args.store.now c.args.overrides.now c.requires c.args.text.now) ∙ c.in_ok-expand.ensures.ok

@@ -1,0 +1,9 @@
+use Rattle.std.proofs.Common.{◌∙◌, ap, ◌||◌, ◌&&◌, bytes_eq}
+use Rattle.datastore.specs.Orders.{comes, stay}
+use Rattle.datastore.proofs.Orders.{before_turn}
+use Rattle.datastore.proofs.order.note_before.Goals as goal
+
+pub loop-other-preserved : goal.loop-other-preserved
+loop-other-preserved c = λ a b.
+    before_turn c.args.before.now c.loop-other.other-index c.other-item.result a (bytes_eq c.args.task.now b) (stay c.args.gone.now a b) (comes c.note_pair.new.orders a b) (comes c.loop-other.orders a b) (comes c.args.orders.now a b) c.other-item.is c.loop-other-test.true
+    (c.in_ok-note_pair.ensures a b ∙ ap (λ t. ((bytes_eq t a && bytes_eq c.args.task.now b) && stay c.args.gone.now a b) || comes c.loop-other.orders a b) c.as_str.ensures) (c.loop-other.invariant a b)

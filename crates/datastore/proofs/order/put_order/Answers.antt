@@ -1,0 +1,32 @@
+use Rattle.std.proofs.Common.{◌≡◌, refl, ◌∙◌, ap, sym, ◌||◌, ℕ, List, Some, None, is_some, string_bytes, bytes_eq}
+use Rattle.std.specs.BTreeMap.{get_by_text}
+use Rattle.std.proofs.lemmas.Map.Text.{btree_map_updates_text}
+use Rattle.std.proofs.lemmas.Result.{on_ok_weaker}
+use Rattle.datastore.specs.Orders.{is_noted}
+use Rattle.datastore.proofs.Orders.{order_put, order_first}
+use Rattle.datastore.proofs.order.put_order.Goals as goal
+
+pub returns-in-Some : goal.returns-in-Some
+returns-in-Some c =
+    let m = c.args.orders.now in
+    let w = c.put.new.set in
+    let n = c.get_mut.follows.lender w in
+    let found : get_by_text m c.args.task.now ≡ Some c.in-Some.set.now = sym c.get_mut.ensures.value ∙ rw c.in-Some.is in
+    on_ok_weaker c.put.result
+    (λ (e : (b : List ℕ) → is_some (get_by_text w b) ≡ (bytes_eq c.args.other.now b || is_some (get_by_text c.in-Some.set.now b))).
+    order_put (get_by_text m) (get_by_text n) c.args.task.now c.args.other.now w
+    (btree_map_updates_text c.args.task.now m n (Some w) ((c.get_mut.follows.holds w).3 (rw found refl)))
+    (λ b. e b ∙ ap (λ o. bytes_eq c.args.other.now b || is_noted o b) (sym found)))
+    c.put.ensures
+
+pub returns-in_ok-insert-in-None : goal.returns-in_ok-insert-in-None
+returns-in_ok-insert-in-None c =
+    let m = c.args.orders.now in
+    let w = c.put-in-None.new.set in
+    let n = c.insert.new.self in
+    let key = c.in_ok-from_str-in-None.ensures.ok in
+    let found : get_by_text m c.args.task.now ≡ None = sym c.in-None.ensures.value in
+    let u = btree_map_updates_text (string_bytes c.in_ok-from_str-in-None.field-0) c.get_mut.follows.lender-at-none n (Some w) c.in_ok-insert-in-None.ensures.updates in
+    order_put (get_by_text m) (get_by_text n) c.args.task.now c.args.other.now w
+    (rw (c.get_mut.follows.holds-at-none, key) at u)
+    (λ b. c.in_ok-put-in-None.ensures b ∙ order_first c.new-set.result (get_by_text m c.args.task.now) (bytes_eq c.args.other.now b) b c.new-set.ensures.empty found)

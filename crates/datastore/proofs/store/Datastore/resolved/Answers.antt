@@ -1,0 +1,5 @@
+use Rattle.datastore.proofs.Looking.{settled_is}
+use Rattle.datastore.proofs.store.Datastore.resolved.Goals as goal
+
+pub resolved_over-requires : goal.resolved_over-requires
+resolved_over-requires c = settled_is c.self.inside.entries.items c.args.self.now c.self.inside.settled c.in-Some.overrides c.self.view_is c.in-Some.is c.self.invariant.settles

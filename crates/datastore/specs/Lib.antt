@@ -1,0 +1,12 @@
+pub mod Kept
+pub mod Named
+pub mod Forms
+pub mod Maps
+pub mod Found
+pub mod Faults
+pub mod Store
+pub mod Looked
+pub mod Picked
+pub mod Left
+pub mod Telling
+pub mod Orders

@@ -1,0 +1,199 @@
+// What is found for a name under active overrides.
+ghost use Rattle.std.specs.Prelude.{◌≡◌, ◌++◌, [], List, IfOk, OnOk, option_copied, option_to_list, option_map, codes};
+ghost use Rattle.meta_model.specs.declared.entry.EntryLine.{EntryLine as Line};
+ghost use Rattle.meta_model.specs.Slot.{at_end};
+ghost use Rattle.meta_model.specs.Overrides.{winning, resolved};
+ghost use Rattle.datastore.specs.Named.{slot_at, lates_at, flag_at};
+ghost use Rattle.datastore.specs.Maps.{Keeps, named_at, noted_at};
+ghost use Rattle.datastore.specs.Found.{own_at, form_of, is_present, present_forms, own_of, told_flag, joined_at};
+
+use crate::maps::Maps;
+use meta_model::{LateLine, ListOf, Resolved};
+use override_eval::{apply_ops, choose, is_counted};
+use std::alloc::Global;
+use tree_model::{Mem, Text, Texts};
+
+/// The name `N:rest` of a form.
+fn form_of(alloc: Global, name: &str, rest: &str) -> Result<Text, Mem>
+    ensures { IfOk result (λ made. made ≡ form_of name.now rest.now) }
+{
+    let mut made = Text::from_str(alloc, name)?;
+    made.push_str(":")?;
+    made.push_str(rest)?;
+    Ok(made)
+}
+
+/// Puts copies of texts at the end.
+fn push_all(list: &mut Texts, more: &[Text]) -> Result<(), Mem>
+    ensures { OnOk result (list.new ≡ list.old ++ more.now) }
+{
+    for text in more {
+        list.push(text.copy()?)?;
+    }
+    Ok(())
+}
+
+impl Maps {
+    /// The value of a name as assignments leave it, without late entries.
+    fn base_of(&self, name: &str) -> Option<&str>
+        ensures { option_copied result ≡ at_end (slot_at (named_at self.now name.now)) }
+    {
+        match self.named.get(name) {
+            Some(named) => named.kept.at_end(),
+            None => None,
+        }
+    }
+
+    /// The late entries of a name.
+    pub(crate) fn lates_of(&self, name: &str) -> &[LateLine]
+        ensures { result.now ≡ lates_at (named_at self.now name.now) }
+    {
+        match self.named.get(name) {
+            Some(named) => named.lates.as_slice(),
+            None => &[],
+        }
+    }
+
+    /// A flag, unexpanded.
+    pub(crate) fn flag_of(&self, name: &str, flag: &str) -> Option<&str>
+        ensures { option_copied result ≡ at_end (flag_at (named_at self.now name.now) flag.now) }
+    {
+        match self.named.get(name) {
+            Some(named) => match named.flags.get(flag) {
+                Some(kept) => kept.at_end(),
+                None => None,
+            },
+            None => None,
+        }
+    }
+
+    /// The own value of a name.
+    fn own(&self, alloc: Global, name: &str, active: &[Text]) -> Result<Option<Resolved>, Mem>
+        ensures { IfOk result (λ made. made ≡ own_at active.now (named_at self.now name.now)) }
+    {
+        apply_ops(alloc, self.base_of(name), self.lates_of(name), active)
+    }
+
+    /// Whether the name `N:rest` is a form of N.
+    fn is_present(
+        &self,
+        alloc: Global,
+        name: &str,
+        rest: &str,
+        active: &[Text],
+    ) -> Result<bool, Mem>
+        ensures { IfOk result (λ there. there ≡ is_present self.now active.now name.now rest.now) }
+    {
+        if !is_counted(rest, active) {
+            return Ok(false);
+        }
+        let form = form_of(alloc, name, rest)?;
+        let own = self.own(alloc, form.as_str(), active)?;
+        Ok(own.is_some())
+    }
+
+    /// The forms of a name.
+    fn present_forms(&self, alloc: Global, name: &str, active: &[Text]) -> Result<Vec<Text>, Mem>
+        ensures { IfOk result (λ made. made.items ≡ present_forms self.now active.now name.now) }
+    {
+        let mut made = Vec::new(alloc);
+        let Some(noted) = self.forms.get(name) else {
+            return Ok(made);
+        };
+        for rest in noted {
+            if self.is_present(alloc, name, rest.as_str(), active)? {
+                made.push(rest.copy()?)?;
+            }
+        }
+        Ok(made)
+    }
+
+    /// The own value of the winning form of a name, where it has one.
+    fn winner(&self, alloc: Global, name: &str, active: &[Text]) -> Result<Option<Resolved>, Mem>
+        ensures { (list : List Line) → Keeps list self.now → IfOk result (λ won. won ≡ own_of list active.now (winning list active.now name.now)) }
+    {
+        let forms = self.present_forms(alloc, name, active)?;
+        match choose(forms.as_slice(), active) {
+            Some(place) => {
+                let form = form_of(alloc, name, forms[place].as_str())?;
+                self.own(alloc, form.as_str(), active)
+            }
+            None => Ok(None),
+        }
+    }
+
+    /// The flags that are told with a value.
+    fn told_flags(&self, alloc: Global, name: &str) -> Result<ListOf<(Text, Text)>, Mem>
+        ensures { IfOk result (λ made. made ≡ told_flag (named_at self.now name.now) (codes "export") ++ told_flag (named_at self.now name.now) (codes "func")) }
+    {
+        let mut made = ListOf::new(alloc);
+        push_flag(&mut made, alloc, "export", self.flag_of(name, "export"))?;
+        push_flag(&mut made, alloc, "func", self.flag_of(name, "func"))?;
+        Ok(made)
+    }
+
+    /// A value with the late entries of its name, and the removes behind these.
+    fn joined(
+        &self,
+        alloc: Global,
+        name: &str,
+        value: Option<&str>,
+        removes: Texts,
+        active: &[Text],
+    ) -> Result<Option<Resolved>, Mem>
+        ensures { IfOk result (λ made. made ≡ joined_at active.now (named_at self.now name.now) (option_copied value.entry) removes) }
+    {
+        let Some(own) = apply_ops(alloc, value, self.lates_of(name), active)? else {
+            return Ok(None);
+        };
+        let Resolved {
+            text,
+            removes: own_removes,
+            flags: _,
+        } = own;
+        let mut removes = removes;
+        push_all(&mut removes, own_removes.as_slice())?;
+        Ok(Some(Resolved {
+            text,
+            removes,
+            flags: self.told_flags(alloc, name)?,
+        }))
+    }
+
+    /// The resolved value of a name.
+    pub(crate) fn resolved(
+        &self,
+        alloc: Global,
+        name: &str,
+        active: &[Text],
+    ) -> Result<Option<Resolved>, Mem>
+        ensures { (list : List Line) → Keeps list self.now → IfOk result (λ made. made ≡ resolved list active.now name.now) }
+    {
+        match self.winner(alloc, name, active)? {
+            Some(own) => {
+                let Resolved {
+                    text,
+                    removes,
+                    flags: _,
+                } = own;
+                self.joined(alloc, name, Some(text.as_str()), removes, active)
+            }
+            None => self.joined(alloc, name, self.base_of(name), Texts::new(alloc), active),
+        }
+    }
+}
+
+/// Puts a flag with its name at the end, where there is one.
+fn push_flag(
+    list: &mut ListOf<(Text, Text)>,
+    alloc: Global,
+    flag: &str,
+    text: Option<&str>,
+) -> Result<(), Mem>
+    ensures { OnOk result (list.new ≡ list.old ++ option_to_list (option_map (λ t. (flag.now, t)) (option_copied text.entry))) }
+{
+    match text {
+        Some(text) => list.push((Text::from_str(alloc, flag)?, Text::from_str(alloc, text)?)),
+        None => Ok(()),
+    }
+}

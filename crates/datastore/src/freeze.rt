@@ -1,0 +1,371 @@
+// Names that hold references, moved to what they expand to.
+ghost use Rattle.std.specs.Prelude.{◌≡◌, ◌++◌, ◌∷◌, [], List, OnOk, IfOk, IfErr, Ok, map, flat_map, filter};
+ghost use Rattle.std.specs.BTreeMap.{IsOrdered};
+ghost use Rattle.std.specs.String.{string_cmp};
+ghost use Rattle.meta_model.specs.declared.entry.EntryLine.TheVariants.{Flag};
+ghost use Rattle.meta_model.specs.declared.entry.EntryLine.{EntryLine as Line};
+ghost use Rattle.meta_model.specs.Active as entries;
+ghost use Rattle.meta_model.specs.Frozen as frozen;
+ghost use Rattle.datastore.specs.Faults.{IsDataFault};
+ghost use Rattle.datastore.specs.Looked.{IsMeant};
+ghost use Rattle.datastore.specs.Telling.{move_of, behind, parted, IsPushed, value_lines, flag_lines, told_kept, named_lines};
+ghost use Rattle.datastore.specs.Maps.{Keeps};
+ghost use Rattle.datastore.specs.Kept.{slot_of};
+ghost use Rattle.datastore.specs.Left.{kept_set};
+ghost use Rattle.datastore.specs.Picked.{picked};
+
+use crate::fault::DataFault;
+use crate::kept::Kept;
+use crate::looked::{Overrides, expand_over};
+use crate::maps::Maps;
+use crate::store::Datastore;
+use meta_model::{EntryLine, LateLine, Op};
+use std::alloc::Global;
+use std::collections::BTreeMap;
+use tree_model::{Mem, Text, Texts};
+use var_expand::{are_name_bytes, holds_opening};
+
+/// The name that a name goes to: what it expands to where it holds `${`, unless that is no name of a reference.
+fn target_of(
+    alloc: Global,
+    store: &Datastore,
+    overrides: &Overrides,
+    name: &str,
+) -> Result<Text, DataFault>
+    requires { IsMeant overrides.now (entries.active store.now) }
+    ensures ok { IfOk result (λ made. frozen.target_of store.now name.now (frozen.holds_reference name.now) ≡ Ok made) }
+    ensures err { IfErr result (λ fault. IsDataFault fault (frozen.target_of store.now name.now (frozen.holds_reference name.now))) }
+{
+    if !holds_opening(name.as_bytes()) {
+        return Ok(Text::from_str(alloc, name)?);
+    }
+    let target = expand_over(alloc, name, store, overrides)?;
+    if are_name_bytes(target.as_str().as_bytes()) {
+        return Ok(target);
+    }
+    Ok(Text::from_str(alloc, name)?)
+}
+
+/// Each name with the name that it goes to.
+fn moves_of(
+    alloc: Global,
+    store: &Datastore,
+    overrides: &Overrides,
+    names: &[Text],
+) -> Result<Vec<(Text, Text)>, DataFault>
+    requires { IsMeant overrides.now (entries.active store.now) }
+    ensures ok { IfOk result (λ made. frozen.moves store.now names.now ≡ Ok (map move_of made.items)) }
+    ensures err { IfErr result (λ fault. IsDataFault fault (frozen.moves store.now names.now)) }
+{
+    let mut made = Vec::new(alloc);
+    for name in names {
+        let target = target_of(alloc, store, overrides, name.as_str())?;
+        made.push((name.copy()?, target))?;
+    }
+    Ok(made)
+}
+
+/// Conditions, expanded.
+fn conditions_of(
+    alloc: Global,
+    store: &Datastore,
+    overrides: &Overrides,
+    when: &[Text],
+) -> Result<Texts, DataFault>
+    requires { IsMeant overrides.now (entries.active store.now) }
+    ensures ok { IfOk result (λ made. frozen.conditions store.now when.now ≡ Ok made) }
+    ensures err { IfErr result (λ fault. IsDataFault fault (frozen.conditions store.now when.now)) }
+{
+    let mut made = Texts::new(alloc);
+    for text in when {
+        made.push(expand_over(alloc, text.as_str(), store, overrides)?)?;
+    }
+    Ok(made)
+}
+
+/// Puts late entries behind the lines, as those of another name.
+fn push_lates(
+    lines: &mut Vec<EntryLine>,
+    alloc: Global,
+    store: &Datastore,
+    overrides: &Overrides,
+    target: &str,
+    lates: &[LateLine],
+) -> Result<(), DataFault>
+    requires { IsMeant overrides.now (entries.active store.now) }
+    ensures ok { OnOk result (behind lines.old.items (frozen.told_lates store.now target.now lates.now) ≡ Ok lines.new.items) }
+    ensures err { IfErr result (λ fault. IsDataFault fault (frozen.told_lates store.now target.now lates.now)) }
+{
+    for late in lates {
+        let when = conditions_of(alloc, store, overrides, late.when.as_slice())?;
+        lines.push(EntryLine::Later {
+            target: Text::from_str(alloc, target)?,
+            kind: late.kind,
+            when,
+            text: late.text.copy()?,
+        })?;
+    }
+    Ok(())
+}
+
+/// The value and the weak default as lines of a name, behind the lines.
+fn push_value(
+    lines: &mut Vec<EntryLine>,
+    alloc: Global,
+    target: &str,
+    kept: &Kept,
+) -> Result<(), Mem>
+    ensures { OnOk result (lines.new.items ≡ lines.old.items ++ value_lines target.now (slot_of kept.now)) }
+{
+    if let Some(text) = &kept.value {
+        lines.push(EntryLine::Set {
+            name: Text::from_str(alloc, target)?,
+            op: Op::Set,
+            text: text.copy()?,
+        })?;
+    }
+    if let Some(text) = &kept.weak {
+        lines.push(EntryLine::Set {
+            name: Text::from_str(alloc, target)?,
+            op: Op::Weak,
+            text: text.copy()?,
+        })?;
+    }
+    Ok(())
+}
+
+/// An assignment to a flag behind the lines, where there is a text.
+fn push_flag_text(
+    lines: &mut Vec<EntryLine>,
+    alloc: Global,
+    target: &str,
+    flag: &str,
+    op: Op,
+    text: &Option<Text>,
+) -> Result<(), Mem>
+    ensures { OnOk result (lines.new.items ≡ lines.old.items ++ frozen.given (Flag target.now flag.now op) text.now) }
+{
+    if let Some(text) = text {
+        lines.push(EntryLine::Flag {
+            name: Text::from_str(alloc, target)?,
+            flag: Text::from_str(alloc, flag)?,
+            op,
+            text: text.copy()?,
+        })?;
+    }
+    Ok(())
+}
+
+/// A flag as lines of a name, behind the lines.
+fn push_flag(
+    lines: &mut Vec<EntryLine>,
+    alloc: Global,
+    target: &str,
+    flag: &str,
+    kept: &Kept,
+) -> Result<(), Mem>
+    ensures { OnOk result (lines.new.items ≡ lines.old.items ++ flag_lines target.now flag.now (slot_of kept.now)) }
+{
+    lines.push(EntryLine::UnsetFlag {
+        name: Text::from_str(alloc, target)?,
+        flag: Text::from_str(alloc, flag)?,
+    })?;
+    push_flag_text(lines, alloc, target, flag, Op::Set, &kept.value)?;
+    push_flag_text(lines, alloc, target, flag, Op::Weak, &kept.weak)
+}
+
+/// The flags that are set, in byte order.
+fn flags_of(alloc: Global, flags: &BTreeMap<String, Kept>) -> Result<Texts, Mem>
+    ensures flags { IfOk result (λ made. made ≡ picked kept_set flags.now.entries) }
+    ensures ordered { OnOk result (IsOrdered string_cmp flags.now) }
+{
+    let mut made = Texts::new(alloc);
+    for (flag, kept) in flags {
+        if kept.is_set() {
+            made.push(Text::from_str(alloc, flag.as_str())?)?;
+        }
+    }
+    Ok(made)
+}
+
+/// A flag that is kept as lines of a name, behind the lines.
+fn push_kept(
+    lines: &mut Vec<EntryLine>,
+    alloc: Global,
+    target: &str,
+    flags: &BTreeMap<String, Kept>,
+    flag: &str,
+) -> Result<(), Mem>
+    ensures { OnOk result (lines.new.items ≡ lines.old.items ++ told_kept target.now flags.now flag.now) }
+{
+    match flags.get(flag) {
+        Some(kept) => push_flag(lines, alloc, target, flag, kept),
+        None => Ok(()),
+    }
+}
+
+/// The set flags as lines of a name, behind the lines.
+fn push_flags(
+    lines: &mut Vec<EntryLine>,
+    alloc: Global,
+    target: &str,
+    flags: &BTreeMap<String, Kept>,
+    names: &[Text],
+) -> Result<(), Mem>
+    ensures { OnOk result (lines.new.items ≡ lines.old.items ++ flat_map (told_kept target.now flags.now) names.now) }
+{
+    for name in names {
+        push_kept(lines, alloc, target, flags, name.as_str())?;
+    }
+    Ok(())
+}
+
+impl Maps {
+    /// The value and the flags of a name as lines of another, behind the lines.
+    fn push_named(
+        &self,
+        lines: &mut Vec<EntryLine>,
+        alloc: Global,
+        source: &str,
+        target: &str,
+    ) -> Result<(), Mem>
+        ensures { (list : List Line) → Keeps list self.now → OnOk result (lines.new.items ≡ lines.old.items ++ named_lines list (move_of (source.now, target.now))) }
+    {
+        match self.named.get(source) {
+            Some(named) => {
+                let flags = flags_of(alloc, &named.flags)?;
+                push_value(lines, alloc, target, &named.kept)?;
+                push_flags(lines, alloc, target, &named.flags, flags.as_slice())
+            }
+            None => Ok(()),
+        }
+    }
+}
+
+/// All that a name has as lines of another, behind the lines.
+fn push_told(
+    lines: &mut Vec<EntryLine>,
+    alloc: Global,
+    store: &Datastore,
+    overrides: &Overrides,
+    source: &str,
+    target: &str,
+) -> Result<(), DataFault>
+    requires { IsMeant overrides.now (entries.active store.now) }
+    ensures ok { OnOk result (behind lines.old.items (frozen.told store.now (move_of (source.now, target.now))) ≡ Ok lines.new.items) }
+    ensures err { IfErr result (λ fault. IsDataFault fault (frozen.told store.now (move_of (source.now, target.now)))) }
+{
+    let maps = store.maps();
+    maps.push_named(lines, alloc, source, target)?;
+    push_lates(
+        lines,
+        alloc,
+        store,
+        overrides,
+        target,
+        maps.lates_of(source),
+    )
+}
+
+/// All that one name has, behind the lines of the names that stay or behind those of the names that move.
+fn push_move(
+    staying: &mut Vec<EntryLine>,
+    moving: &mut Vec<EntryLine>,
+    alloc: Global,
+    store: &Datastore,
+    overrides: &Overrides,
+    pair: &(Text, Text),
+) -> Result<(), DataFault>
+    requires { IsMeant overrides.now (entries.active store.now) }
+    ensures ok { OnOk result (IsPushed staying.old.items moving.old.items staying.new.items moving.new.items (frozen.stays (move_of pair.now)) (frozen.told store.now (move_of pair.now))) }
+    ensures err { IfErr result (λ fault. IsDataFault fault (frozen.told store.now (move_of pair.now))) }
+{
+    let source = pair.0.as_str();
+    let target = pair.1.as_str();
+    if source == target {
+        push_told(staying, alloc, store, overrides, source, target)
+    } else {
+        push_told(moving, alloc, store, overrides, source, target)
+    }
+}
+
+/// All that names have: the lines of those that stay, and the lines of those that move.
+fn push_moves(
+    staying: &mut Vec<EntryLine>,
+    moving: &mut Vec<EntryLine>,
+    alloc: Global,
+    store: &Datastore,
+    overrides: &Overrides,
+    moves: &[(Text, Text)],
+) -> Result<(), DataFault>
+    requires { IsMeant overrides.now (entries.active store.now) }
+    ensures ok { OnOk result (parted staying.old.items moving.old.items (frozen.told_all store.now (map move_of moves.now)) ≡ Ok (staying.new.items, moving.new.items)) }
+    ensures err { IfErr result (λ fault. IsDataFault fault (parted staying.old.items moving.old.items (frozen.told_all store.now (map move_of moves.now)))) }
+{
+    for pair in moves {
+        push_move(staying, moving, alloc, store, overrides, pair)?;
+    }
+    Ok(())
+}
+
+/// Applies these entries.
+fn apply_all(store: &mut Datastore, alloc: Global, lines: &[EntryLine]) -> Result<(), Mem>
+    ensures { OnOk result (store.new ≡ store.old ++ lines.now) }
+{
+    for line in lines {
+        store.apply(alloc, line)?;
+    }
+    Ok(())
+}
+
+/// Applies an entry if it is one of a task.
+fn apply_task(store: &mut Datastore, alloc: Global, line: &EntryLine) -> Result<(), Mem>
+    ensures { OnOk result (store.new ≡ store.old ++ filter frozen.is_task_line (line.now ∷ [])) }
+{
+    match line {
+        EntryLine::Task { .. } => store.apply(alloc, line),
+        EntryLine::NoTask { .. } => store.apply(alloc, line),
+        _ => Ok(()),
+    }
+}
+
+/// Applies the entries of tasks.
+fn apply_tasks(store: &mut Datastore, alloc: Global, lines: &[EntryLine]) -> Result<(), Mem>
+    ensures { OnOk result (store.new ≡ store.old ++ filter frozen.is_task_line lines.now) }
+{
+    for line in lines {
+        apply_task(store, alloc, line)?;
+    }
+    Ok(())
+}
+
+/// The store of the frozen entries.
+pub(crate) fn freeze(
+    alloc: Global,
+    store: &Datastore,
+    overrides: &Overrides,
+    lines: &[EntryLine],
+) -> Result<Datastore, DataFault>
+    requires overrides { IsMeant overrides.now (entries.active store.now) }
+    requires lines { lines.now ≡ store.now }
+    ensures ok { IfOk result (λ made. frozen.frozen store.now ≡ Ok made) }
+    ensures err { IfErr result (λ fault. IsDataFault fault (frozen.frozen store.now)) }
+{
+    let names = store.names(alloc)?;
+    let moves = moves_of(alloc, store, overrides, names.as_slice())?;
+    let mut staying = Vec::new(alloc);
+    let mut moving = Vec::new(alloc);
+    push_moves(
+        &mut staying,
+        &mut moving,
+        alloc,
+        store,
+        overrides,
+        moves.as_slice(),
+    )?;
+    let mut made = Datastore::new(alloc);
+    apply_all(&mut made, alloc, staying.as_slice())?;
+    apply_all(&mut made, alloc, moving.as_slice())?;
+    apply_tasks(&mut made, alloc, lines)?;
+    Ok(made)
+}

@@ -1,0 +1,162 @@
+// Values and texts over a store.
+ghost use Rattle.std.specs.Prelude.{◌≡◌, List, ℕ, Result, IfOk, IfErr, IfSome, Ok, Err};
+ghost use Rattle.meta_model.specs.Refusal.{Refusal};
+ghost use Rattle.meta_model.specs.Active as entries;
+ghost use Rattle.meta_model.specs.Expansion.{value_by};
+ghost use Rattle.var_expand.specs.Faults.{IsFaultOf};
+ghost use Rattle.datastore.specs.Faults.{IsDataFault, refusal_of};
+ghost use Rattle.datastore.specs.Looked.{IsMeant, found_under};
+
+use crate::fault::{DataFault, again};
+use crate::store::Datastore;
+use meta_model::Resolved;
+use override_eval::{OverrideFault, OverrideText, settle};
+use std::alloc::Global;
+use tree_model::{Mem, Text, Texts};
+use var_expand::{ExpandFault, Lookup, expand, value};
+
+/// The active overrides of a store, or why there are none.
+#[derive(Drop)]
+pub(crate) enum Overrides {
+    /// They settle.
+    Settled(Texts),
+    /// They don't. It is never want of memory.
+    Refused(ExpandFault),
+}
+
+/// A store as a map from names to what they have under these active overrides.
+#[derive(Drop)]
+struct Under<'a> {
+    store: &'a Datastore,
+    active: &'a [Text],
+}
+
+impl Lookup for Under<'_> {
+    ghost use Rattle.datastore.specs.Looked.{found_under};
+
+    ghost finds = { λ u. found_under u.store.now u.active.now };
+
+    fn find(&self, alloc: Global, name: &str) -> Result<Option<Resolved>, ExpandFault> {
+        Ok(self.store.resolved_under(alloc, name, self.active)?)
+    }
+}
+
+impl OverrideText for Datastore {
+    ghost use Rattle.override_eval.specs.Settled.{overrides_under};
+    ghost use Rattle.datastore.specs.Faults.{refusal_of};
+
+    type Fault = ExpandFault;
+
+    ghost text = { overrides_under };
+
+    ghost told = { refusal_of };
+
+    fn under(&self, alloc: Global, active: &[Text]) -> Result<Text, ExpandFault> {
+        match value_under(alloc, "OVERRIDES", self, active)? {
+            Some(text) => Ok(text),
+            None => Ok(Text::new(alloc)),
+        }
+    }
+}
+
+/// The expanded value of a name under these active overrides.
+fn value_under(
+    alloc: Global,
+    name: &str,
+    store: &Datastore,
+    active: &[Text],
+) -> Result<Option<Text>, ExpandFault>
+    ensures ok { IfOk result (λ made. value_by (found_under store.now active.now) name.now ≡ Ok made) }
+    ensures err { IfErr result (λ fault. IsFaultOf fault (value_by (found_under store.now active.now) name.now)) }
+{
+    value(alloc, name, &Under { store, active })
+}
+
+/// No active overrides because of this fault, unless it is want of memory.
+fn refused(fault: ExpandFault) -> Result<Overrides, Mem>
+    ensures { (meant : Result (List (List ℕ)) Refusal) → IfSome (refusal_of fault) (λ refusal. meant ≡ Err refusal) → IfOk result (λ made. IsMeant made meant) }
+{
+    match fault {
+        ExpandFault::Memory => Err(Mem),
+        other => Ok(Overrides::Refused(other)),
+    }
+}
+
+/// The active overrides of a store.
+pub(crate) fn overrides_of(alloc: Global, store: &Datastore) -> Result<Overrides, Mem>
+    ensures { IfOk result (λ made. IsMeant made (entries.active store.now)) }
+{
+    match settle(alloc, store) {
+        Ok(active) => Ok(Overrides::Settled(active)),
+        Err(OverrideFault::Unstable { before, last }) => {
+            Ok(Overrides::Refused(ExpandFault::Unstable { before, last }))
+        }
+        Err(OverrideFault::Under(fault)) => refused(fault),
+        Err(OverrideFault::Memory) => Err(Mem),
+    }
+}
+
+/// A store as a map from names to what they have, where its active overrides are worked out.
+#[derive(Drop)]
+struct Over<'a> {
+    store: &'a Datastore,
+    overrides: &'a Overrides,
+}
+
+impl Lookup for Over<'_> {
+    ghost use Rattle.datastore.specs.Looked.{found_over};
+
+    ghost finds = { λ o. found_over o.store.now o.overrides.now };
+
+    fn find(&self, alloc: Global, name: &str) -> Result<Option<Resolved>, ExpandFault> {
+        match self.overrides {
+            Overrides::Settled(active) => {
+                Ok(self.store.resolved_under(alloc, name, active.as_slice())?)
+            }
+            Overrides::Refused(fault) => Err(again(fault)),
+        }
+    }
+}
+
+/// What a name has.
+pub(crate) fn resolved_over(
+    alloc: Global,
+    name: &str,
+    store: &Datastore,
+    overrides: &Overrides,
+) -> Result<Option<Resolved>, DataFault>
+    requires { IsMeant overrides.now (entries.active store.now) }
+    ensures ok { IfOk result (λ made. entries.find_in store.now name.now ≡ Ok made) }
+    ensures err { IfErr result (λ fault. IsDataFault fault (entries.find_in store.now name.now)) }
+{
+    let over = Over { store, overrides };
+    Ok(over.find(alloc, name)?)
+}
+
+/// The expanded value of a name.
+pub(crate) fn value_over(
+    alloc: Global,
+    name: &str,
+    store: &Datastore,
+    overrides: &Overrides,
+) -> Result<Option<Text>, DataFault>
+    requires { IsMeant overrides.now (entries.active store.now) }
+    ensures ok { IfOk result (λ made. entries.value store.now name.now ≡ Ok made) }
+    ensures err { IfErr result (λ fault. IsDataFault fault (entries.value store.now name.now)) }
+{
+    Ok(value(alloc, name, &Over { store, overrides })?)
+}
+
+/// A text expanded over a store.
+pub(crate) fn expand_over(
+    alloc: Global,
+    text: &str,
+    store: &Datastore,
+    overrides: &Overrides,
+) -> Result<Text, DataFault>
+    requires { IsMeant overrides.now (entries.active store.now) }
+    ensures ok { IfOk result (λ made. entries.expand store.now text.now ≡ Ok made) }
+    ensures err { IfErr result (λ fault. IsDataFault fault (entries.expand store.now text.now)) }
+{
+    Ok(expand(alloc, text, &Over { store, overrides })?)
+}
