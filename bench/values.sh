@@ -16,6 +16,10 @@ program=${1:-crates/values_bench/out/values_bench}
 if [ ! -x "$program" ]; then
     (cd crates/values_bench && rt run -- 2000 100 > /dev/null)
 fi
+if [ ! -x "$program" ]; then
+    echo "there is no program at $program"
+    exit 1
+fi
 scratch=$(mktemp -d)
 trap 'rm -rf "$scratch"' EXIT
 
