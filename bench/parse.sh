@@ -56,10 +56,10 @@ make() {
     }' > "$3"
 }
 
-# microseconds FILE TIMES sets `spent` to the microseconds of processor time of one parse, the best of five runs
+# microseconds FILE TIMES sets `spent` to the microseconds of processor time of one parse, the best of three runs
 microseconds() {
     spent=
-    for run in 1 2 3 4 5; do
+    for run in 1 2 3; do
         times > "$scratch/before"
         "$program" "$1" "$2" > /dev/null
         times > "$scratch/after"
@@ -74,9 +74,9 @@ missed=0
 for shape in bodies assignments joined quotes name; do
     make "$shape" 1048576 "$scratch/large"
     make "$shape" 102400 "$scratch/small"
-    microseconds "$scratch/large" 50
+    microseconds "$scratch/large" 300
     large=$spent
-    microseconds "$scratch/small" 500
+    microseconds "$scratch/small" 3000
     small=$spent
     awk -v shape="$shape" -v large="$large" -v small="$small" -v bytes="$(wc -c < "$scratch/large")" 'BEGIN {
         speed = bytes / large; ratio = large / (small > 0 ? small : 1)
