@@ -1,0 +1,4 @@
+pub mod BuildLemmas
+pub mod NumberLemmas
+pub mod ParseLemmas
+pub mod RowLemmas
