@@ -1,0 +1,4 @@
+pub mod Walking
+pub mod Deepest
+pub mod Finding
+pub mod Searching

@@ -1,0 +1,6 @@
+use Rattle.std.proofs.Common.{◌≡◌, take, map}
+use Rattle.graph_walk.specs.Depths.{depth_at}
+use Rattle.graph_walk.proofs.depth.depths_in.Given as goal
+
+abbrev pub invariant-loop-mark : goal.invariant-loop-mark
+invariant-loop-mark l = l.made.items ≡ map depth_at (take l.mark-index l.marks)

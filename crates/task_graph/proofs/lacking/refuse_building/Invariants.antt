@@ -1,0 +1,8 @@
+use Rattle.std.proofs.Common.{◌≡◌, take, filter, not, false}
+use Rattle.meta_model.specs.Text.{is_in}
+use Rattle.meta_model.specs.Providers.{provider}
+use Rattle.task_graph.specs.Needed.{lacks_provider}
+use Rattle.task_graph.proofs.lacking.refuse_building.Given as goal
+
+abbrev pub invariant-loop-name : goal.invariant-loop-name
+invariant-loop-name l = lacks_provider (provider l.facts) (filter (λ name. not (is_in name l.facts.assumed)) (take l.name-index l.name-items)) ≡ false

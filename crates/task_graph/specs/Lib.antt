@@ -1,0 +1,13 @@
+pub mod Faults
+pub mod Candidates
+pub mod Only
+pub mod Index
+pub mod Table
+pub mod Needed
+pub mod Below
+pub mod Context
+pub mod Edges
+pub mod Reached
+pub mod Levels
+pub mod Order
+pub mod Turn
