@@ -1,0 +1,9 @@
+pub mod Adding
+pub mod Parts
+pub mod Classes
+pub mod LayerText
+pub mod Told
+pub mod Faulting
+pub mod Searching
+pub mod Loading
+pub mod Firsts

@@ -1,0 +1,4 @@
+pub mod Faults
+pub mod Late
+pub mod Adding
+pub mod Reading

@@ -1,0 +1,69 @@
+// Values and flags as texts and words.
+ghost use Rattle.std.specs.Prelude.{◌≡◌, IfOk, IfErr, Ok};
+ghost use Rattle.datastore.specs.Faults.{IsDataFault};
+ghost use Rattle.load_model.specs.Layers as layers;
+ghost use Rattle.load_model.specs.Recipes as recipes;
+ghost use Rattle.load_model.specs.Facts as facts;
+
+use crate::brackets::without_brackets;
+use datastore::{DataFault, Datastore};
+use path_words::words;
+use std::alloc::Global;
+use tree_model::{Text, Texts};
+
+/// The expanded value of a name, or the empty text where it has none.
+///
+/// It is refused where the value is.
+pub fn text_of(alloc: Global, store: &Datastore, name: &str) -> Result<Text, DataFault>
+    ensures ok { IfOk result (λ made. recipes.text_of store.now name.now ≡ Ok made) }
+    ensures err { IfErr result (λ fault. IsDataFault fault (recipes.text_of store.now name.now)) }
+{
+    match store.value(alloc, name)? {
+        Some(text) => Ok(text),
+        None => Ok(Text::new(alloc)),
+    }
+}
+
+/// The words of the expanded value of a name, none where it has no value.
+///
+/// It is refused where the value is.
+pub fn words_of(alloc: Global, store: &Datastore, name: &str) -> Result<Texts, DataFault>
+    ensures ok { IfOk result (λ made. layers.words_of store.now name.now ≡ Ok made) }
+    ensures err { IfErr result (λ fault. IsDataFault fault (layers.words_of store.now name.now)) }
+{
+    match store.value(alloc, name)? {
+        Some(text) => Ok(words(alloc, text.as_str())?),
+        None => Ok(Texts::new(alloc)),
+    }
+}
+
+/// The same words without text in parentheses: a `(` takes away all up to the `)` that belongs to it, and one without a
+/// partner is a character like others (own rule).
+///
+/// It is refused where the value is.
+pub fn needed_words(alloc: Global, store: &Datastore, name: &str) -> Result<Texts, DataFault>
+    ensures ok { IfOk result (λ made. facts.needed_words store.now name.now ≡ Ok made) }
+    ensures err { IfErr result (λ fault. IsDataFault fault (facts.needed_words store.now name.now)) }
+{
+    match store.value(alloc, name)? {
+        Some(text) => {
+            let kept = without_brackets(alloc, text.as_str())?;
+            Ok(words(alloc, kept.as_str())?)
+        }
+        None => Ok(Texts::new(alloc)),
+    }
+}
+
+/// The words of the expanded text of a flag, none where it isn't set.
+pub(crate) fn flag_words(
+    alloc: Global,
+    store: &Datastore,
+    name: &str,
+    flag: &str,
+) -> Result<Texts, DataFault>
+    ensures ok { IfOk result (λ made. facts.flag_words store.now name.now flag.now ≡ Ok made) }
+    ensures err { IfErr result (λ fault. IsDataFault fault (facts.flag_words store.now name.now flag.now)) }
+{
+    let text = store.expand(alloc, store.flag(name, flag).unwrap_or(""))?;
+    Ok(words(alloc, text.as_str())?)
+}
