@@ -1,0 +1,5 @@
+pub mod Globs
+pub mod Globbing
+pub mod Placing
+pub mod Layering
+pub mod Listing

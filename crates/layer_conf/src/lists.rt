@@ -1,0 +1,112 @@
+// The configuration with its lists.
+ghost use Rattle.std.specs.Prelude.{◌≡◌, [], List, ℕ, Ok, None, IfOk, IfErr, filter_map, false};
+ghost use Rattle.std.specs.List.Sorted.{IsStrictlySortedBy};
+ghost use Rattle.std.specs.Ordering.{nat_cmp};
+ghost use Rattle.std.specs.Cmp.Lexicographic.{slice_cmp};
+ghost use Rattle.outside_traits.specs.Fault.{Counts};
+ghost use Rattle.outside_traits.specs.Store.{IsListing};
+ghost use Rattle.load_model.specs.Paths.{path_named};
+ghost use Rattle.load_model.specs.Loading.{sources_of};
+ghost use Rattle.load_model.specs.Layers as meant;
+ghost use Rattle.layer_conf.specs.Faults.{layer_refusal, IsLayerFault, layers_failed};
+ghost use Rattle.layer_conf.specs.Config.{config_meant, configured_meant, lists_over, patterns_over, AreGlobs};
+
+use crate::fault::{LayerFault, data_told};
+use crate::files::named_files;
+use crate::order::in_layer_order;
+use crate::patterns::{bad_pattern, globs_of};
+use crate::reads::{Config, Configured, read_configured};
+use datastore::Datastore;
+use outside_traits::{Layers, ReadFault};
+use recipe_facts::words_of;
+use std::alloc::Global;
+use tree_model::{Mem, Text, Texts};
+
+/// The paths that these words of BBFILES name.
+fn good_globs(alloc: Global, words: &[Text]) -> Result<Vec<Text>, LayerFault>
+    ensures ok { IfOk result (λ made. AreGlobs made.items (meant.patterns words.now)) }
+    ensures err { IfErr result (λ fault. IsLayerFault fault (meant.patterns words.now)) }
+    ensures no_failure { layers_failed result ≡ false }
+{
+    match bad_pattern(words) {
+        Ok(Some(word)) => Err(LayerFault::BadPattern { word }),
+        Ok(None) => match globs_of(alloc, words) {
+            Ok(globs) => Ok(globs),
+            Err(_) => Err(LayerFault::Memory),
+        },
+        Err(_) => Err(LayerFault::Memory),
+    }
+}
+
+/// The paths that the words of BBFILES name.
+fn globs_over(alloc: Global, store: &Datastore) -> Result<Vec<Text>, LayerFault>
+    ensures ok { IfOk result (λ made. AreGlobs made.items (patterns_over store.now)) }
+    ensures err { IfErr result (λ fault. IsLayerFault fault (patterns_over store.now)) }
+    ensures no_failure { layers_failed result ≡ false }
+{
+    match words_of(alloc, store, "BBFILES") {
+        Ok(words) => good_globs(alloc, words.as_slice()),
+        Err(fault) => Err(data_told(fault)),
+    }
+}
+
+/// The paths of all files.
+fn listed<L: Layers>(alloc: Global, layers: &mut L) -> Result<Texts, LayerFault>
+    ensures paths { IfOk result (λ paths. L.tells → IsListing [] (L.files layers.old) paths) }
+    ensures free { IfErr result (λ fault. layer_refusal fault ≡ None) }
+    ensures same { L.files layers.new ≡ L.files layers.old }
+    ensures cause { Counts (L.faults layers.old) (L.faults layers.new) (layers_failed result) }
+{
+    match layers.list(alloc, "") {
+        Ok(paths) => Ok(paths),
+        Err(ReadFault::Failed) => Err(LayerFault::List),
+        Err(ReadFault::TooLong) | Err(ReadFault::Memory) => Err(LayerFault::Memory),
+    }
+}
+
+/// The lists over the paths of all files.
+fn lists_of(alloc: Global, made: Configured, globs: &[Text], paths: &[Text]) -> Result<Config, Mem>
+    ensures { IfOk result (λ config. IsStrictlySortedBy (slice_cmp nat_cmp) paths.now → (words : List (List ℕ)) → globs.now ≡ filter_map path_named words → config_meant config ≡ lists_over (configured_meant made) words paths.now) }
+{
+    let recipes = named_files(alloc, globs, ".bb", paths)?;
+    let appends = named_files(alloc, globs, ".bbappend", paths)?;
+    let appends = in_layer_order(alloc, made.layers.as_slice(), appends.as_slice())?;
+    Ok(Config {
+        store: made.store,
+        layers: made.layers,
+        recipes,
+        appends,
+    })
+}
+
+/// Reads the configuration of a project: with layers `conf/bblayers.conf`, then `conf/layer.conf` of each word of BBLAYERS, then
+/// `conf/bitbake.conf`, which has to be there; without `conf/bblayers.conf` that last file, which may be missing ("Parsing the
+/// Base Configuration Metadata"; the rest is own). Then the files are listed, and taken as BBFILES says. The store isn't frozen.
+///
+/// The definition is meant for the paths of all files, each once and in byte order: there is one such list.
+///
+/// Refused as the definition is: NoSuchLayer, BadPattern, Load and Data, each with its place; `List`, and `Load` of the kind
+/// `Read`, only where the layers' count of faults rose; `Memory`. No call changes a file.
+pub fn read_layers<L: Layers>(alloc: Global, layers: &mut L) -> Result<Config, LayerFault>
+    ensures ok { IfOk result (λ made. L.tells → (paths : List (List ℕ)) → IsListing [] (L.files layers.old) paths → meant.config (sources_of (L.files layers.old)) paths ≡ Ok (config_meant made)) }
+    ensures err { IfErr result (λ fault. L.tells → (paths : List (List ℕ)) → IsListing [] (L.files layers.old) paths → IsLayerFault fault (meant.config (sources_of (L.files layers.old)) paths)) }
+    ensures same { L.files layers.new ≡ L.files layers.old }
+    ensures cause { Counts (L.faults layers.old) (L.faults layers.new) (layers_failed result) }
+{
+    let made = match read_configured(alloc, layers) {
+        Ok(made) => made,
+        Err(fault) => return Err(fault),
+    };
+    let globs = match globs_over(alloc, &made.store) {
+        Ok(globs) => globs,
+        Err(fault) => return Err(fault),
+    };
+    let paths = match listed(alloc, layers) {
+        Ok(paths) => paths,
+        Err(fault) => return Err(fault),
+    };
+    match lists_of(alloc, made, globs.as_slice(), paths.as_slice()) {
+        Ok(config) => Ok(config),
+        Err(_) => Err(LayerFault::Memory),
+    }
+}

@@ -1,0 +1,7 @@
+//! Tests of the crates that read layers and recipes: each public call answers at a concrete type and with ample memory.
+#![tactic(auto)]
+
+#[cfg(test)]
+mod config_tests;
+#[cfg(test)]
+mod support;
