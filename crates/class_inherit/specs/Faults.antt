@@ -82,3 +82,18 @@ is_read Memory = false
 abbrev pub load_failed : {T : Type 0} → Result T LoadFault → Bool
 load_failed (Ok x) = false
 load_failed (Err fault) = is_read fault.kind
+
+-- the refusal that a fault is; none where the layers failed or memory ran out
+abbrev pub load_refusal : LoadFault → Option LoadRefusal
+load_refusal fault = option_map (refused_at (place_of fault)) (cause_of fault.kind)
+
+-- whether a kind is want of memory
+abbrev pub is_memory : LoadKind → Bool
+is_memory (MissingRequired path) = false
+is_memory (MissingClass name) = false
+is_memory IncludeDepth = false
+is_memory Read = false
+is_memory (Parse wrong) = false
+is_memory (Data fault) = false
+is_memory FileBytes = false
+is_memory Memory = true

@@ -3,7 +3,7 @@ ghost use Rattle.std.specs.Prelude.{◌≡◌, not, is_some, true, false, Some};
 ghost use Rattle.std.specs.Option.{option_map};
 ghost use Rattle.load_model.specs.LoadRefusal.{no_value};
 ghost use Rattle.datastore.specs.Faults.{refusal_of};
-ghost use Rattle.class_inherit.specs.Faults.{cause_of, data_refusal, where_is, is_read, IsSaid, IsOutOfMemory, IsUntold};
+ghost use Rattle.class_inherit.specs.Faults.{cause_of, data_refusal, where_is, is_memory, is_read, IsSaid, IsOutOfMemory, IsUntold};
 
 use datastore::DataFault;
 use meta_model::SyntaxFault;
@@ -51,6 +51,20 @@ pub struct LoadFault {
     pub line: u32,
     /// What is wrong.
     pub kind: LoadKind,
+}
+
+impl LoadFault {
+    /// Whether it is want of memory.
+    pub fn is_memory(&self) -> bool
+        ensures { result ≡ is_memory self.now.kind }
+    {
+        match &self.kind {
+            LoadKind::MissingRequired { .. } | LoadKind::MissingClass { .. } => false,
+            LoadKind::IncludeDepth | LoadKind::Read | LoadKind::FileBytes => false,
+            LoadKind::Parse(_) | LoadKind::Data(_) => false,
+            LoadKind::Memory => true,
+        }
+    }
 }
 
 /// A place of the input: a file and a line of it, or the empty path and 0.
@@ -113,7 +127,7 @@ fn is_expand_memory(fault: &ExpandFault) -> bool
 }
 
 /// Whether a fault of a store is want of memory.
-fn is_memory(fault: &DataFault) -> bool
+fn is_data_memory(fault: &DataFault) -> bool
     ensures { result ≡ not (is_some (data_refusal fault.now)) }
 {
     match fault {
@@ -128,7 +142,7 @@ pub(crate) fn refused_value(alloc: Global, place: &Place, fault: DataFault) -> L
     ensures said { IsSaid result (where_is place.now) (option_map no_value (data_refusal fault)) }
     ensures not_read { is_read result.kind ≡ false }
 {
-    if is_memory(&fault) {
+    if is_data_memory(&fault) {
         out_of_memory(alloc)
     } else {
         refused(alloc, place, LoadKind::Data(fault))

@@ -10,11 +10,11 @@ use Rattle.datastore.specs.declared.fault.DataFault.{DataFault}
 use Rattle.datastore.specs.Faults.{IsDataFault}
 use Rattle.layer_conf.specs.Config.{layered_from, patterns_over, lists_over}
 use Rattle.class_inherit.specs.declared.fault.LoadFault.{LoadFault}
-use Rattle.class_inherit.specs.Faults.{cause_of, place_of, IsLoadFault}
+use Rattle.class_inherit.specs.Faults.{cause_of, place_of, load_refusal, IsLoadFault}
 use Rattle.recipe_facts.specs.Said.{IsRefused, data_refusal}
 use Rattle.recipe_facts.proofs.Binding.{refused_on, refused_same, goes_on, next_of, said}
 use Rattle.layer_conf.specs.declared.fault.LayerFault.{LayerFault}
-use Rattle.layer_conf.specs.Faults.{load_refusal, layer_refusal, IsLayerFault}
+use Rattle.layer_conf.specs.Faults.{layer_refusal, IsLayerFault}
 
 at_cause : {A : Type 0} (P : Type 0) (place : Place) (o : Option LoadCause) (m : Result A LoadRefusal) → MatchOption o P (λ c. m ≡ Err (refused_at place c)) → IsRefused (option_map (refused_at place) o) m
 at_cause P place None m h = tt

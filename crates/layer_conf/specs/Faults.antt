@@ -1,19 +1,11 @@
 -- What a fault says of the configuration that was meant.
 use Rattle.std.specs.Prelude.{◌≡◌, ◌⊎◌, Bool, true, false, Option, Some, None, Result, Ok, Err}
 use Rattle.std.specs.Option.{option_map}
-use Rattle.load_model.specs.LoadRefusal.{LoadRefusal, refused_at}
 use Rattle.load_model.specs.Layers.{LayerRefusal, no_such_layer, bad_pattern, load, no_list}
-use Rattle.class_inherit.specs.declared.fault.LoadFault.{LoadFault}
-use Rattle.class_inherit.specs.declared.fault.LoadKind.{LoadKind}
-use Rattle.class_inherit.specs.declared.fault.LoadKind.TheVariants as kind
-use Rattle.class_inherit.specs.Faults.{cause_of, place_of, is_read}
+use Rattle.class_inherit.specs.Faults.{is_read, load_refusal}
 use Rattle.recipe_facts.specs.Said.{IsRefused, data_refusal}
 use Rattle.layer_conf.specs.declared.fault.LayerFault.{LayerFault}
 use Rattle.layer_conf.specs.declared.fault.LayerFault.TheVariants.{NoSuchLayer, BadPattern, Load, Data, List, Memory}
-
--- the refusal that a fault of loading is; none where the layers failed or memory ran out
-abbrev pub load_refusal : LoadFault → Option LoadRefusal
-load_refusal fault = option_map (refused_at (place_of fault)) (cause_of fault.kind)
 
 -- the refusal that a fault is; none where the layers failed or memory ran out
 abbrev pub layer_refusal : LayerFault → Option LayerRefusal
@@ -45,14 +37,3 @@ is_failure Memory = false
 abbrev pub layers_failed : {T : Type 0} → Result T LayerFault → Bool
 layers_failed (Ok x) = false
 layers_failed (Err fault) = is_failure fault
-
--- whether a kind is want of memory
-abbrev pub is_memory : LoadKind → Bool
-is_memory (kind.MissingRequired path) = false
-is_memory (kind.MissingClass name) = false
-is_memory kind.IncludeDepth = false
-is_memory kind.Read = false
-is_memory (kind.Parse wrong) = false
-is_memory (kind.Data fault) = false
-is_memory kind.FileBytes = false
-is_memory kind.Memory = true

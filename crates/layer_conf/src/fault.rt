@@ -2,11 +2,11 @@
 ghost use Rattle.std.specs.Prelude.{◌≡◌, false, Some, None};
 ghost use Rattle.std.specs.Option.{option_map};
 ghost use Rattle.load_model.specs.Layers as meant;
-ghost use Rattle.class_inherit.specs.Faults.{is_read};
+ghost use Rattle.class_inherit.specs.Faults.{is_read, load_refusal};
 ghost use Rattle.recipe_facts.specs.Said.{data_refusal};
-ghost use Rattle.layer_conf.specs.Faults.{layer_refusal, load_refusal, is_failure, is_memory, IsOrMemory};
+ghost use Rattle.layer_conf.specs.Faults.{layer_refusal, is_failure, IsOrMemory};
 
-use class_inherit::{LoadFault, LoadKind};
+use class_inherit::LoadFault;
 use datastore::DataFault;
 use std::alloc::Global;
 use tree_model::Text;
@@ -44,22 +44,10 @@ pub(crate) fn load_told(fault: LoadFault) -> LayerFault
     ensures told { layer_refusal result ≡ option_map meant.load (load_refusal fault) }
     ensures failure { is_failure result ≡ is_read fault.kind }
 {
-    if is_memory(&fault.kind) {
+    if fault.is_memory() {
         LayerFault::Memory
     } else {
         LayerFault::Load(fault)
-    }
-}
-
-/// Whether a fault of loading is want of memory.
-fn is_memory(kind: &LoadKind) -> bool
-    ensures { result ≡ is_memory kind.now }
-{
-    match kind {
-        LoadKind::MissingRequired { .. } | LoadKind::MissingClass { .. } => false,
-        LoadKind::IncludeDepth | LoadKind::Read | LoadKind::FileBytes => false,
-        LoadKind::Parse(_) | LoadKind::Data(_) => false,
-        LoadKind::Memory => true,
     }
 }
 

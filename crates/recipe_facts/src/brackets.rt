@@ -25,15 +25,15 @@ fn bracket_at(bytes: &[u8]) -> Option<usize>
 
 /// What goes on behind a parenthesis: after `(` a text of its own; after a `)` that has a partner the text before that one,
 /// without what stands between them; after another `)` the same text with it.
-fn behind_bracket(open: &mut Vec<Text>, last: Text, alloc: Global, byte: u8) -> Result<Text, Mem>
+fn behind_bracket(kept: &mut Vec<Text>, last: Text, alloc: Global, byte: u8) -> Result<Text, Mem>
     requires { (byte ≡ 40) ⊎ (byte ≡ 41) }
-    ensures { IfOk result (λ made. (text : List ℕ) (texts : List (List ℕ)) → with_open (reverse open.new.items) made (text ∷ texts) ≡ with_open (reverse open.old.items) last (facts.bracket_before byte (text ∷ texts))) }
+    ensures { IfOk result (λ made. (text : List ℕ) (texts : List (List ℕ)) → with_open (reverse kept.new.items) made (text ∷ texts) ≡ with_open (reverse kept.old.items) last (facts.bracket_before byte (text ∷ texts))) }
 {
     if byte == b'(' {
-        open.push(last)?;
+        kept.push(last)?;
         return Ok(Text::new(alloc));
     }
-    match open.pop() {
+    match kept.pop() {
         Some(before) => Ok(before),
         None => {
             let mut text = last;
@@ -44,11 +44,11 @@ fn behind_bracket(open: &mut Vec<Text>, last: Text, alloc: Global, byte: u8) -> 
 }
 
 /// The open texts, each with its `(`, and the last one.
-fn all_texts(alloc: Global, open: &[Text], last: &str) -> Result<Text, Mem>
-    ensures { IfOk result (λ made. made ≡ open_texts (reverse open.now) last.now) }
+fn all_texts(alloc: Global, kept: &[Text], last: &str) -> Result<Text, Mem>
+    ensures { IfOk result (λ made. made ≡ open_texts (reverse kept.now) last.now) }
 {
     let mut made = Text::new(alloc);
-    for text in open {
+    for text in kept {
         made.push_str(text.as_str())?;
         made.push_str("(")?;
     }
@@ -60,14 +60,14 @@ fn all_texts(alloc: Global, open: &[Text], last: &str) -> Result<Text, Mem>
 pub(crate) fn without_brackets(alloc: Global, text: &str) -> Result<Text, Mem>
     ensures { IfOk result (λ made. made ≡ facts.without_brackets text.now) }
 {
-    let mut open = Vec::new(alloc);
+    let mut kept = Vec::new(alloc);
     let mut last = Text::new(alloc);
     let mut rest = text;
     while let Some(end) = bracket_at(rest.as_bytes()) {
         last.push_str(&rest[..end])?;
-        last = behind_bracket(&mut open, last, alloc, rest.as_bytes()[end])?;
+        last = behind_bracket(&mut kept, last, alloc, rest.as_bytes()[end])?;
         rest = &rest[end + 1..];
     }
     last.push_str(rest)?;
-    all_texts(alloc, open.as_slice(), last.as_str())
+    all_texts(alloc, kept.as_slice(), last.as_str())
 }

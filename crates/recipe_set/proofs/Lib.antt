@@ -1,2 +1,7 @@
 mod Digits
 mod Pieces
+pub mod Naming
+pub mod Appending
+pub mod Picking
+pub mod Loads
+pub mod Setting

@@ -1,1 +1,10 @@
 pub mod Kinds
+pub mod Names
+pub mod Stems
+pub mod Appends
+pub mod Held
+pub mod Picks
+pub mod Firsts
+pub mod Faults
+pub mod Loaded
+pub mod Chosen

@@ -4,4 +4,10 @@
 #[cfg(test)]
 mod config_tests;
 #[cfg(test)]
+mod set_support;
+#[cfg(test)]
+mod set_tests;
+#[cfg(test)]
 mod support;
+#[cfg(test)]
+mod version_tests;

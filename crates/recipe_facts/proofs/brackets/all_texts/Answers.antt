@@ -6,7 +6,7 @@ use Rattle.recipe_facts.proofs.brackets.all_texts.Goals as goal
 
 pub loop-text-preserved : goal.loop-text-preserved
 loop-text-preserved c = λ last.
-    let all = c.args.open.now in
+    let all = c.args.kept.now in
     let i = c.loop-text.text-index in
     let x = c.text-item.result in
     let more : take (i + 1) all ≡ take i all ++ x ∷ [] = take_more all i x c.loop-text-test.true ∙ ap (λ y. take i all ++ y ∷ []) (sym c.text-item.is) in

@@ -9,7 +9,7 @@ use Rattle.recipe_facts.proofs.brackets.without_brackets.Given as goal
 abbrev pub invariant-loop-end : goal.invariant-loop-end
 invariant-loop-end l = record {
   text : shadow (Utf8 l.rest);
-  texts : with_open (reverse l.open.items) l.last (outside_brackets l.rest) ≡ without_brackets l.text;
+  texts : with_open (reverse l.kept.items) l.last (outside_brackets l.rest) ≡ without_brackets l.text;
 }
 
 abbrev pub decreases-loop-end : goal.decreases-loop-end
