@@ -1,7 +1,7 @@
 //! The program `bitbake`: the top call over the real things.
 //!
 //! What is decided is decided in `bitbake_top`, and what it promises is the promise of this program; the devices stand in
-//! `outside_os`. Here are the reading of words and the making of devices. `tests/program.sh` tests it by runs.
+//! `outside_os`. Here the words are taken from the system and the devices made. `tests/program.sh` tests it by runs.
 #![tactic(auto)]
 
 use bitbake_top::bitbake;
@@ -16,8 +16,8 @@ const LAST_BENCH: u32 = 16;
 /// The exit status for want of memory, as the top call has it.
 const OUT_OF_MEMORY: u8 = 11;
 
-/// A word that the command never takes. It stands for words that aren't UTF-8.
-const NO_WORD: &str = "\u{fffd}";
+/// An option that the command doesn't have. It stands for words that aren't UTF-8, which have no reading either.
+const NO_WORD: &str = "--not-utf-8";
 
 /// Ends with the status of the top call over the current folder and standard output.
 fn main(rt: HostRuntime) -> ExitCode {

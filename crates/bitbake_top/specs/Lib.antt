@@ -1,6 +1,2 @@
-pub mod Find
-pub mod Hello
-pub mod Recipe
-pub mod Report
-pub mod Run
-pub mod Status
+pub mod Asked
+pub mod Answers

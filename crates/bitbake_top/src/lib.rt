@@ -1,26 +1,23 @@
 //! The top call: everything that the program does, over the devices that it is handed.
 //!
-//! So far it builds one recipe with one task: `bitbake` finds the recipe that the words name, runs its task on the
-//! last bench, puts what that gives into the task's work folder on the disk, prints what it does, and hands the
-//! devices back with its status and its tale.
+//! `bitbake` reads the words behind the program's name and does what they ask for: it runs targets (`single_run`), prints what a
+//! mode gives that only reads metadata (`read_modes`), or refuses the words. It hands the devices back with its status and its
+//! tale.
 //!
-//! Promised, for devices that tell their content: under `Ok` the work folder holds exactly what a clean build gives;
-//! the call answers `Ok` exactly where that build succeeds, where no device failed and memory wasn't wanting; the
-//! printed text is the report of the call's own tale; the benches ran just the started tasks; each other answer has
-//! its cause.
+//! The definitions stand in `specs/`: what words ask for, of what is built so far (`Asked`), and how the status and the printed
+//! text of an answer without a run fit what was meant (`Answers`). A run and its text are defined in `single_run`, the text of a
+//! mode in `read_modes`, the reading of words in `command_words`, the lines of refusals in `bb_report`.
+//!
+//! Promised: words that ask for a run keep all that `single_run` promises of it. A mode prints exactly its text, and answers
+//! `Ok` exactly where no rule refuses, where no device failed and memory wasn't wanting. Neither a mode nor refused words touch
+//! the disk or a bench, and refused words don't touch the layers. Words are refused as `Usage` exactly where they have no
+//! reading. Each refusal's line is printed, and each fault of a device has its cause. Beside these comes want of memory alone.
 #![tactic(auto)]
 
-mod attempt;
-mod ending;
-mod find;
-mod finish;
-mod plan;
-mod printer;
-mod recipe;
-mod refusal;
-mod room;
-mod run;
+mod answer;
+mod asked;
+mod examples;
 mod top;
 
-pub use finish::Finish;
+pub use single_run::Finish;
 pub use top::bitbake;

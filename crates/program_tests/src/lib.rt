@@ -8,4 +8,8 @@ mod fixture;
 #[cfg(test)]
 mod hello_tests;
 #[cfg(test)]
+mod mode_tests;
+#[cfg(test)]
 mod recipe_tests;
+#[cfg(test)]
+mod word_tests;

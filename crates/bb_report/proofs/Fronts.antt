@@ -1,0 +1,26 @@
+-- A text is written piece by piece.
+use Rattle.std.proofs.Common.{◌≡◌, ◌++◌, ◌∙◌, sym, ap, refl, ℕ, List, [], take, drop, append_assoc, append-nil}
+use Rattle.std.proofs.lemmas.List.{take-append-drop}
+use Rattle.bb_report.specs.Written.{WritesFront}
+
+-- the text up to this rest is written
+pub record IsPartWritten (old now text rest : List ℕ) : Type 0 where
+  pub front : List ℕ
+  pub cut : text ≡ front ++ rest
+  pub is : now ≡ old ++ front
+
+pub part_start : (old text : List ℕ) → IsPartWritten old old text text
+part_start old text = record { front = []; cut = refl; is = sym (append-nil old) }
+
+pub part_more : (old now next text rest : List ℕ) (n : ℕ) → IsPartWritten old now text rest → next ≡ now ++ take n rest → IsPartWritten old next text (drop n rest)
+part_more old now next text rest n part more = record {
+  front = part.front ++ take n rest;
+  cut = part.cut ∙ ap (λ l. part.front ++ l) (sym (take-append-drop n rest)) ∙ sym (append_assoc part.front (take n rest) (drop n rest));
+  is = more ∙ ap (λ l. l ++ take n rest) part.is ∙ append_assoc old part.front (take n rest);
+}
+
+pub part_done : (old now text : List ℕ) → IsPartWritten old now text [] → now ≡ old ++ text
+part_done old now text part = part.is ∙ ap (λ l. old ++ l) (sym (part.cut ∙ append-nil part.front))
+
+pub part_front : (old now next text rest : List ℕ) → IsPartWritten old now text rest → next ≡ now → WritesFront old next text
+part_front old now next text rest part same = record { front = part.front; rest = rest; cut = part.cut; written = same ∙ part.is }

@@ -1,0 +1,16 @@
+//! The texts that the program prints, and how a text is written.
+//!
+//! The definitions stand in `specs/Texts.antt`, as functions from plain values to bytes; each call gives just that text, and
+//! fails for want of memory alone. `write_all` writes a text whole, or a front of it where the sink failed, and takes no
+//! memory.
+#![tactic(auto)]
+
+mod fault;
+mod values;
+mod versions;
+mod written;
+
+pub use fault::fault_text;
+pub use values::{env_text, recipe_line};
+pub use versions::{parsed_text, versions_text};
+pub use written::write_all;

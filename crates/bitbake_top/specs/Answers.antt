@@ -1,0 +1,42 @@
+-- What is answered where there is no run.
+use Rattle.std.specs.Prelude.{◌≡◌, ◌⊎◌, ℕ, Bool, true, false, List, ◌++◌, Result, Ok, Err, IsOk}
+use Rattle.meta_model.specs.declared.event.Status.{Status}
+use Rattle.meta_model.specs.declared.event.Status.TheVariants as status
+use Rattle.bb_report.specs.Written.{WritesFront}
+use Rattle.read_modes.specs.Answered.{is_refusal}
+use Rattle.single_run.specs.Run.{IsUnchanged}
+
+-- the status is that of the refusal that was meant, unless memory ran out
+abbrev pub IsRefusal : {A : Type 0} → Result A Status → Status → Type 0
+IsRefusal meant s = (meant ≡ Err s) ⊎ (s ≡ status.OutOfMemory)
+
+-- the statuses of words that are refused: no reading, what isn't built, want of memory
+abbrev pub is_words_refusal : Status → Bool
+is_words_refusal status.Usage = true
+is_words_refusal (status.Metadata file line kind detail) = true
+is_words_refusal status.OutOfMemory = true
+is_words_refusal _ = false
+
+-- the statuses of a reading
+abbrev pub is_read_status : Status → Bool
+is_read_status status.Ok = true
+is_read_status status.WriteFault = true
+is_read_status s = is_refusal s
+
+-- The status of a reading fits what was meant, a text or the status of a refusal: it is `Ok` or, where the sink failed,
+-- `WriteFault` only where there is a text, and a fault of metadata or a limit only where that is the refusal. It may say
+-- besides that the layers failed or that memory was wanting, and nothing else.
+abbrev pub HasRead : Status → Result (List ℕ) Status → Type 0
+HasRead status.Ok meant = IsOk meant
+HasRead status.WriteFault meant = IsOk meant
+HasRead (status.Metadata file line kind detail) meant = meant ≡ Err (status.Metadata file line kind detail)
+HasRead (status.Limit kind) meant = meant ≡ Err (status.Limit kind)
+HasRead status.ReadFault meant = Unit {0}
+HasRead status.OutOfMemory meant = Unit {0}
+HasRead _ meant = ⊥
+
+-- A text was written behind the base: a front of it, and all of it where the sink didn't fail. The numbers are the counts of
+-- the sink's faults, before and after.
+pub record Says (text base now : List ℕ) (before after : ℕ) : Type 0 where
+  pub whole : IsUnchanged before after → now ≡ base ++ text
+  pub front : WritesFront base now text

@@ -1,0 +1,51 @@
+// Worked words. Each expected answer is derived from the rules by hand.
+ghost use Rattle.std.specs.Prelude.{◌≡◌, [], ◌∷◌, Ok, Err, codes};
+ghost use Rattle.meta_model.specs.declared.event.Status.TheVariants.{Usage};
+ghost use Rattle.read_modes.specs.declared.modes.ReadMode.TheVariants.{Parse, Versions, Environment};
+ghost use Rattle.single_run.specs.Status.{not_built};
+ghost use Rattle.bitbake_top.specs.declared.asked.Asked.TheVariants.{Runs, Reads};
+ghost use Rattle.bitbake_top.specs.Asked.{asked_of};
+
+/// Runs, and what a mode prints.
+#[tactic(auto, unfolding(crate::specs::Asked::asked_of, command_words::specs::Command::command, clap::proofs::OnLiterals::clap_on_literals))]
+pub fn example_of_asking()
+    ensures one_name { asked_of (codes "hello" ∷ []) ≡ Ok (Runs (codes "hello" ∷ [])) }
+    ensures two_names { asked_of (codes "b" ∷ codes "a" ∷ []) ≡ Ok (Runs (codes "b" ∷ codes "a" ∷ [])) }
+    // behind `--` each word is a target
+    ensures behind_two_hyphens { asked_of (codes "--" ∷ codes "-e" ∷ []) ≡ Ok (Runs (codes "-e" ∷ [])) }
+    // the configuration's values
+    ensures environment { asked_of (codes "-e" ∷ []) ≡ Ok (Reads Environment []) }
+    ensures environment_of_a_target { asked_of (codes "-e" ∷ codes "x" ∷ []) ≡ Ok (Reads Environment (codes "x" ∷ [])) }
+    ensures versions { asked_of (codes "-s" ∷ []) ≡ Ok (Reads Versions []) }
+    ensures parse { asked_of (codes "x" ∷ codes "--parse-only" ∷ []) ≡ Ok (Reads Parse (codes "x" ∷ [])) }
+    // of several modes one counts
+    ensures versions_and_parse { asked_of (codes "-s" ∷ codes "-p" ∷ []) ≡ Ok (Reads Parse []) }
+    ensures letters_in_one_word { asked_of (codes "-ep" ∷ []) ≡ Ok (Reads Parse []) }
+    ensures dry_environment { asked_of (codes "-n" ∷ codes "-e" ∷ []) ≡ Ok (Reads Environment []) }
+{}
+
+/// What isn't built so far.
+#[tactic(auto, unfolding(crate::specs::Asked::asked_of, command_words::specs::Command::command, clap::proofs::OnLiterals::clap_on_literals))]
+pub fn example_of_unbuilt_options()
+    ensures task { asked_of (codes "-c" ∷ codes "build" ∷ codes "hello" ∷ []) ≡ Err not_built }
+    ensures force { asked_of (codes "-f" ∷ codes "hello" ∷ []) ≡ Err not_built }
+    ensures keep_going { asked_of (codes "-k" ∷ codes "hello" ∷ []) ≡ Err not_built }
+    ensures no_setscene { asked_of (codes "--no-setscene" ∷ codes "hello" ∷ []) ≡ Err not_built }
+    // also where the mode is built
+    ensures force_in_a_mode { asked_of (codes "-f" ∷ codes "-p" ∷ []) ≡ Err not_built }
+    ensures dry { asked_of (codes "-n" ∷ codes "hello" ∷ []) ≡ Err not_built }
+    ensures sample { asked_of (codes "--sample" ∷ codes "5" ∷ []) ≡ Err not_built }
+{}
+
+/// Words without a reading.
+#[tactic(auto, unfolding(crate::specs::Asked::asked_of, command_words::specs::Command::command, clap::proofs::OnLiterals::clap_on_literals))]
+pub fn example_of_misread_words()
+    // a run needs a target
+    ensures no_words { asked_of [] ≡ Err Usage }
+    ensures only_two_hyphens { asked_of (codes "--" ∷ []) ≡ Err Usage }
+    ensures unknown_name { asked_of (codes "--not-utf-8" ∷ []) ≡ Err Usage }
+    ensures unknown_letter { asked_of (codes "-x" ∷ []) ≡ Err Usage }
+    // before what isn't built
+    ensures no_target { asked_of (codes "-f" ∷ []) ≡ Err Usage }
+    ensures task_without_a_value { asked_of (codes "hello" ∷ codes "-c" ∷ []) ≡ Err Usage }
+{}

@@ -1,0 +1,4 @@
+pub mod Joins
+pub mod Told
+pub mod Reading
+pub mod Numbers

@@ -1,0 +1,19 @@
+-- What the modes print over small projects, as the worked examples use it.
+use Rattle.std.specs.Prelude.{ℕ, List, Result, Ok, Err, map}
+use Rattle.meta_model.specs.declared.event.Status.{Status}
+use Rattle.load_model.specs.LoadSamples.{Files, sample}
+use Rattle.read_modes.specs.declared.modes.ReadMode.{ReadMode}
+use Rattle.bb_report.specs.Texts.{fault_text}
+use Rattle.read_modes.specs.Modes.{mode_text}
+
+-- what a mode gives over these files
+abbrev pub mode_over : Files → ReadMode → List (List ℕ) → Result (List ℕ) Status
+mode_over files mode targets = mode_text mode (sample files) (map (λ file. file.0) files) targets
+
+-- what is printed: the text, or the line of the status
+abbrev pub text_or_fault : Result (List ℕ) Status → List ℕ
+text_or_fault (Ok text) = text
+text_or_fault (Err status) = fault_text status
+
+abbrev pub printed : Files → ReadMode → List (List ℕ) → List ℕ
+printed files mode targets = text_or_fault (mode_over files mode targets)

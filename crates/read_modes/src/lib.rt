@@ -1,0 +1,20 @@
+//! What the modes print that only read metadata: the values of recipes or of the configuration, the chosen versions, and how many
+//! recipe files were read.
+//!
+//! The text of a mode, or the status that it is refused with, is a definition over the files of the layers (`specs/Modes.antt`,
+//! `mode_text`), which stands over those of `load_model`; `specs/Said.antt` has the status of each refusal, with its place, kind and
+//! texts. `mode_examples` works such answers out over small projects, each derived from the rules by hand.
+//!
+//! Promised of `read_mode`, for any layers that tell what they hold: it gives that text, and is refused with that status exactly
+//! where the definition refuses. `ReadFault` comes only where the layers' count of faults rose in the call; want of memory alone is
+//! free. No file is changed, and nothing but the layers is touched. The line that a status is printed with stands in `bb_report`.
+#![tactic(auto)]
+
+mod mode_examples;
+mod modes;
+mod refused;
+mod said;
+mod targets;
+mod values;
+
+pub use modes::{ReadMode, read_mode};

@@ -1,0 +1,163 @@
+// The modes that only read metadata.
+ghost use Rattle.std.specs.Prelude.{◌≡◌, [], List, ℕ, true, Ok, IfOk, IfErr};
+ghost use Rattle.outside_traits.specs.Fault.{Counts};
+ghost use Rattle.outside_traits.specs.Store.{IsListing};
+ghost use Rattle.load_model.specs.Loading.{sources_of};
+ghost use Rattle.layer_conf.specs.Config.{config_meant};
+ghost use Rattle.read_modes.specs.Modes as modes;
+ghost use Rattle.read_modes.specs.Steps as steps;
+ghost use Rattle.read_modes.specs.Answered.{IsRefusedAs, is_refusal, mode_failed};
+
+use crate::refused::{layer_status, set_status};
+use crate::targets::values_of_targets;
+use crate::values::{config_values, or_status};
+use bb_report::{parsed_text, versions_text};
+use layer_conf::{Config, read_layers};
+use meta_model::Status;
+use outside_traits::Layers;
+use recipe_set::{RecipeSet, read_all};
+use std::alloc::Global;
+use tree_model::Text;
+
+/// A mode that only reads metadata, and touches neither disk nor bench.
+#[derive(Clone, Copy, Debug, PartialEq, Eq)]
+pub enum ReadMode {
+    /// Reads everything, and prints how many recipe files there were (`-p`).
+    Parse,
+    /// Prints the chosen version of each recipe (`-s`).
+    Versions,
+    /// Prints the values of the targets' recipes, or of the configuration (`-e`).
+    Environment,
+}
+
+/// Reads all recipes of a configuration.
+fn read_recipes<L: Layers>(
+    alloc: Global,
+    layers: &mut L,
+    config: &Config,
+) -> Result<RecipeSet, Status>
+    ensures ok { IfOk result (λ set. L.tells → modes.read_recipes (sources_of (L.files layers.old)) (config_meant config.now) ≡ Ok set) }
+    ensures err { IfErr result (λ status. L.tells → IsRefusedAs status (modes.read_recipes (sources_of (L.files layers.old)) (config_meant config.now))) }
+    ensures refusal { IfErr result (λ status. is_refusal status ≡ true) }
+    ensures same { L.files layers.new ≡ L.files layers.old }
+    ensures cause { Counts (L.faults layers.old) (L.faults layers.new) (mode_failed result) }
+{
+    let recipes = config.recipes.as_slice();
+    let appends = config.appends.as_slice();
+    match read_all(alloc, layers, &config.store, recipes, appends) {
+        Ok(set) => Ok(set),
+        Err(fault) => Err(set_status(alloc, fault)),
+    }
+}
+
+/// How many recipe files were read.
+fn parsed<L: Layers>(alloc: Global, layers: &mut L, config: &Config) -> Result<Text, Status>
+    ensures ok { IfOk result (λ text. L.tells → steps.parsed_over (sources_of (L.files layers.old)) (config_meant config.now) ≡ Ok text) }
+    ensures err { IfErr result (λ status. L.tells → IsRefusedAs status (steps.parsed_over (sources_of (L.files layers.old)) (config_meant config.now))) }
+    ensures refusal { IfErr result (λ status. is_refusal status ≡ true) }
+    ensures same { L.files layers.new ≡ L.files layers.old }
+    ensures cause { Counts (L.faults layers.old) (L.faults layers.new) (mode_failed result) }
+{
+    match read_recipes(alloc, layers, config) {
+        Ok(_) => or_status(parsed_text(alloc, config.recipes.len())),
+        Err(status) => Err(status),
+    }
+}
+
+/// The chosen versions.
+fn versions<L: Layers>(alloc: Global, layers: &mut L, config: &Config) -> Result<Text, Status>
+    ensures ok { IfOk result (λ text. L.tells → steps.versions_over (sources_of (L.files layers.old)) (config_meant config.now) ≡ Ok text) }
+    ensures err { IfErr result (λ status. L.tells → IsRefusedAs status (steps.versions_over (sources_of (L.files layers.old)) (config_meant config.now))) }
+    ensures refusal { IfErr result (λ status. is_refusal status ≡ true) }
+    ensures same { L.files layers.new ≡ L.files layers.old }
+    ensures cause { Counts (L.faults layers.old) (L.faults layers.new) (mode_failed result) }
+{
+    match read_recipes(alloc, layers, config) {
+        Ok(set) => or_status(versions_text(alloc, set.facts())),
+        Err(status) => Err(status),
+    }
+}
+
+/// The values of the recipes that targets name.
+fn target_values<L: Layers>(
+    alloc: Global,
+    layers: &mut L,
+    config: &Config,
+    targets: &[Text],
+) -> Result<Text, Status>
+    ensures ok { IfOk result (λ text. L.tells → steps.targets_over (sources_of (L.files layers.old)) (config_meant config.now) targets.now ≡ Ok text) }
+    ensures err { IfErr result (λ status. L.tells → IsRefusedAs status (steps.targets_over (sources_of (L.files layers.old)) (config_meant config.now) targets.now)) }
+    ensures refusal { IfErr result (λ status. is_refusal status ≡ true) }
+    ensures same { L.files layers.new ≡ L.files layers.old }
+    ensures cause { Counts (L.faults layers.old) (L.faults layers.new) (mode_failed result) }
+{
+    match read_recipes(alloc, layers, config) {
+        Ok(set) => values_of_targets(alloc, &set, targets),
+        Err(status) => Err(status),
+    }
+}
+
+/// The values of the recipes that targets name; without targets those of the configuration, for which no recipe is read.
+fn environment_of<L: Layers>(
+    alloc: Global,
+    layers: &mut L,
+    config: Config,
+    targets: &[Text],
+) -> Result<Text, Status>
+    ensures ok { IfOk result (λ text. L.tells → modes.environment_of (sources_of (L.files layers.old)) (config_meant config) targets.now ≡ Ok text) }
+    ensures err { IfErr result (λ status. L.tells → IsRefusedAs status (modes.environment_of (sources_of (L.files layers.old)) (config_meant config) targets.now)) }
+    ensures refusal { IfErr result (λ status. is_refusal status ≡ true) }
+    ensures same { L.files layers.new ≡ L.files layers.old }
+    ensures cause { Counts (L.faults layers.old) (L.faults layers.new) (mode_failed result) }
+{
+    match targets {
+        [] => config_values(alloc, config),
+        _ => target_values(alloc, layers, &config, targets),
+    }
+}
+
+/// The text of a mode over a configuration.
+fn text_of<L: Layers>(
+    alloc: Global,
+    layers: &mut L,
+    mode: ReadMode,
+    config: Config,
+    targets: &[Text],
+) -> Result<Text, Status>
+    ensures ok { IfOk result (λ text. L.tells → modes.text_of mode (sources_of (L.files layers.old)) (config_meant config) targets.now ≡ Ok text) }
+    ensures err { IfErr result (λ status. L.tells → IsRefusedAs status (modes.text_of mode (sources_of (L.files layers.old)) (config_meant config) targets.now)) }
+    ensures refusal { IfErr result (λ status. is_refusal status ≡ true) }
+    ensures same { L.files layers.new ≡ L.files layers.old }
+    ensures cause { Counts (L.faults layers.old) (L.faults layers.new) (mode_failed result) }
+{
+    match mode {
+        ReadMode::Parse => parsed(alloc, layers, &config),
+        ReadMode::Versions => versions(alloc, layers, &config),
+        ReadMode::Environment => environment_of(alloc, layers, config, targets),
+    }
+}
+
+/// Reads what a mode needs, and gives the text that it prints, or the status that it is refused with.
+///
+/// Which text or status is a definition (`specs/Modes.antt`, `mode_text`) over the files of the layers and the list of their
+/// paths: each once and in byte order, so there is one such list. `ReadFault` comes only where the layers' count of faults rose,
+/// and want of memory alone is free. No call changes a file.
+///
+/// For `-e` with targets only the values of their recipes are worked out, once all recipes are read.
+pub fn read_mode<L: Layers>(
+    alloc: Global,
+    layers: &mut L,
+    mode: ReadMode,
+    targets: &[Text],
+) -> Result<Text, Status>
+    ensures ok { IfOk result (λ text. L.tells → (paths : List (List ℕ)) → IsListing [] (L.files layers.old) paths → modes.mode_text mode (sources_of (L.files layers.old)) paths targets.now ≡ Ok text) }
+    ensures err { IfErr result (λ status. L.tells → (paths : List (List ℕ)) → IsListing [] (L.files layers.old) paths → IsRefusedAs status (modes.mode_text mode (sources_of (L.files layers.old)) paths targets.now)) }
+    ensures refusal { IfErr result (λ status. is_refusal status ≡ true) }
+    ensures same { L.files layers.new ≡ L.files layers.old }
+    ensures cause { Counts (L.faults layers.old) (L.faults layers.new) (mode_failed result) }
+{
+    match read_layers(alloc, layers) {
+        Ok(config) => text_of(alloc, layers, mode, config, targets),
+        Err(fault) => Err(layer_status(alloc, fault)),
+    }
+}
