@@ -83,7 +83,7 @@ runs "$room/links/near" hello
 wants "the example through links" 0 "$done_text"
 cd "$room/links" || exit 1
 runs ./near hello
-wants "a folder without recipes" 3 "fault 3 NotBuilt"
+wants "a folder without recipes" 3 "fault 3 NothingProvides hello"
 holds "nothing is built there" test ! -e build
 
 # The launcher without a program builds it, says so, and becomes it: same words, folder and status.
@@ -120,7 +120,7 @@ for words in '' '--' '--nope' '--nope hello' '-x' '-h hello' '--help' '--version
 done
 runs "$bitbake" "$(printf 'x\377')"
 wants "a word that isn't UTF-8" 2 "$usage"
-for words in '-c build hello' '-cbuild hello' '--cmd=build hello' '-f hello' '--force hello' 'hello -k' '--continue hello' '--no-setscene hello' '-n hello' '--dry-run hello' '--sample 5' '--sample=1000 -p' '-fp' '-k -e hello'; do
+for words in '-n hello' '--dry-run hello' '-n -c build hello' '--sample 5' '--sample=1000 -p' '-fp' '-k -e hello' '--no-setscene -s'; do
     runs "$bitbake" $words
     wants "words that aren't built: '$words'" 3 "fault 3 NotBuilt"
 done
@@ -168,8 +168,20 @@ runs "$bitbake" -e v
 wants "a cycle of references" 3 "fault 3 recipes/v.bb: ValueCycle X"
 runs "$bitbake" -s
 wants "a value that isn't asked for" 0 "v 1.0-r0"
-runs "$bitbake" -e nosuch
-wants "a target that is no recipe's name" 3 "fault 3 NotBuilt"
+runs "$bitbake" -e v nosuch
+wants "a target that nothing provides" 3 "fault 3 NothingProvides nosuch"
+runs "$bitbake" -e mc:a:v
+wants "a target of another configuration" 3 "fault 3 NothingProvides mc:a:v"
+printf 'PROVIDES = "virtual/v"\n' >recipes/v.bb
+runs "$bitbake" -e virtual/v:fetch
+wants "a provided name, whose task isn't looked at" 0 "# v
+$(built_in)
+$(named v | sed '/^PR=/a\
+PROVIDES="virtual/v"')"
+printf 'PROVIDES = "virtual/v"\n' >recipes/w.bb
+runs "$bitbake" -e virtual/v
+wants "several that provide a name" 3 "fault 3 SeveralProvide virtual/v v w"
+rm recipes/w.bb
 
 # What is wrong with files, with their lines.
 project loading
@@ -272,22 +284,52 @@ holds "no folder is made" test ! -e build
 # The exit statuses.
 project forms
 recipe hello 'echo hello > hello.txt'
-runs "$bitbake" -- hello
-wants "a target behind two hyphens" 0 "$done_text"
-rm -r build
-for words in 'other' 'hello hello' 'hello:do_build' './hello'; do
+for words in '-- hello' 'hello hello' 'hello:build' 'hello:do_build' '-c build hello' '-cbuild hello' '--cmd=do_build hello' 'hello:build -c nosuch'; do
     # (words are split on purpose)
     runs "$bitbake" $words
-    wants "the words '$words'" 3 "fault 3 NotBuilt"
+    wants "the words '$words'" 0 "$done_text"
 done
-recipe other 'echo other > other.txt'
+rm -r build
+for words in 'other' './hello' 'mc:a:hello'; do
+    runs "$bitbake" $words
+    wants "the words '$words'" 3 "fault 3 NothingProvides $words"
+done
+for words in 'hello:nosuch' '-c nosuch hello'; do
+    runs "$bitbake" $words
+    wants "the words '$words'" 3 "fault 3 NoSuchTask hello:do_nosuch"
+done
+
+# A run is refused by its targets before what isn't built.
+for option in -f --force -k --continue --no-setscene; do
+    runs "$bitbake" "$option" hello
+    wants "the option $option" 3 "fault 3 NotBuilt"
+    runs "$bitbake" nosuch "$option"
+    wants "the option $option of nothing" 3 "fault 3 NothingProvides nosuch"
+done
+printf 'addtask a after b\naddtask b after a\n' >recipes/x.bb
+runs "$bitbake" -c a x
+wants "tasks that need each other" 3 "fault 3 TaskCycle x:do_a x:do_b"
+mkdir conf
+for threads in 0 17; do
+    printf 'BB_NUMBER_THREADS = "%s"\n' "$threads" >conf/bitbake.conf
+    runs "$bitbake" hello
+    wants "$threads threads" 3 "fault 3 BadThreads $threads"
+done
+printf 'BB_NUMBER_THREADS = "16"\n' >conf/bitbake.conf
 runs "$bitbake" hello
-wants "a second recipe file" 3 "fault 3 NotBuilt"
-rm recipes/other.bb
+wants "a configuration" 3 "fault 3 NotBuilt"
+rm -r conf
+recipe other 'echo other > other.txt'
+runs "$bitbake" hello other
+wants "two tasks" 3 "fault 3 NotBuilt"
+holds "nothing is built for them" test ! -e build
+runs "$bitbake" hello
+wants "other recipes beside it" 0 "$done_text"
+rm -r build
 printf 'A = "b"\n' >>recipes/hello.bb
 runs "$bitbake" hello
 wants "another form of recipe" 3 "fault 3 NotBuilt"
-holds "nothing is built for them" test ! -e build
+holds "nothing is built for it" test ! -e build
 
 project fails
 recipe hello 'exit 3'
@@ -420,7 +462,7 @@ for line in 'A = b' 'python do_x() {' 'fakeroot do_build() {' 'A = "b"c"' 'do_x 
     printf '\n%s\n' "$line" >recipes/hello.bb
     runs "$bitbake" hello
     case $line in
-        do_x*) wants "a plain task variable" 3 "fault 3 NotBuilt" ;;
+        do_x*) wants "a recipe without a task" 3 "fault 3 NoSuchTask hello:do_build" ;;
         *) wants "the line $line" 3 "fault 3 recipes/hello.bb:2: $kind" ;;
     esac
 done

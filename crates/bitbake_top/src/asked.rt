@@ -1,65 +1,77 @@
 // What the words ask for.
-ghost use Rattle.std.specs.Prelude.{◌≡◌, ◌⊎◌, true, Ok, IfOk, IfErr};
-ghost use Rattle.single_run.specs.Status.{not_built as not_built_status};
+ghost use Rattle.std.specs.Prelude.{◌≡◌, true, Ok, IfOk, IfErr};
+ghost use Rattle.read_modes.specs.Faults.{IsAnswered};
+ghost use Rattle.read_modes.specs.Modes.{not_built};
 ghost use Rattle.bitbake_top.specs.Answers.{IsRefusal, is_words_refusal};
 ghost use Rattle.bitbake_top.specs.Asked as asked;
 
 use command_words::{Mode, Request, WordsFault, read_words};
 use meta_model::Status;
-use read_modes::ReadMode;
-use single_run::not_built;
+use read_modes::{ReadMode, plain};
 use std::alloc::Global;
 use tree_model::{Text, Texts};
 
 /// What words ask for, of what is built so far.
 #[derive(Debug, Drop)]
 pub enum Asked {
-    /// A run of these targets.
-    Runs { targets: Texts },
+    /// A run of targets.
+    Runs(RunRequest),
 
     /// What a mode that only reads metadata prints of these targets.
     Reads { mode: ReadMode, targets: Texts },
 }
 
+/// What a run is asked for.
+#[derive(Debug, Drop)]
+pub struct RunRequest {
+    /// The targets, `NAME` or `NAME:TASK`.
+    pub targets: Texts,
+
+    /// The task of the targets that name none, where one was given.
+    pub task: Option<Text>,
+
+    /// Whether all options that were given are built so far. Of others it is said once the run is found.
+    pub built: bool,
+}
+
 /// The status of what isn't built so far, or of want of memory for it.
-fn unbuilt(alloc: Global) -> Status
-    ensures { (result ≡ not_built_status) ⊎ (result ≡ Status.OutOfMemory) }
+pub fn unbuilt(alloc: Global) -> Status
+    ensures { IsAnswered result not_built }
 {
-    match not_built(alloc) {
-        Ok(status) => status,
-        Err(_) => Status::OutOfMemory,
-    }
+    plain(alloc, Text::new(alloc), 0, "NotBuilt")
 }
 
 /// Whether an option was given that isn't built so far.
 fn has_unbuilt_option(request: &Request) -> bool
     ensures { result ≡ asked.has_unbuilt_option request.now }
 {
-    request.task.is_some() || request.force || request.keep_going || !request.setscene
+    request.force || request.keep_going || !request.setscene
 }
 
-/// What a mode asks for, for these targets.
-fn asked_in(alloc: Global, mode: Mode, targets: Texts) -> Result<Asked, Status>
-    ensures ok { IfOk result (λ made. asked.asked_in mode targets ≡ Ok made) }
-    ensures err { IfErr result (λ status. IsRefusal (asked.asked_in mode targets) status) }
+/// The run of a request.
+fn run_of(request: Request) -> RunRequest
+    ensures { result ≡ asked.run_of request }
+{
+    RunRequest {
+        built: !has_unbuilt_option(&request),
+        targets: request.targets,
+        task: request.task,
+    }
+}
+
+/// What a mode prints for a request, unless an option was given that isn't built so far.
+fn reading_of(alloc: Global, mode: ReadMode, request: Request) -> Result<Asked, Status>
+    ensures ok { IfOk result (λ made. asked.reading_of mode request ≡ Ok made) }
+    ensures err { IfErr result (λ status. IsRefusal (asked.reading_of mode request) status) }
     ensures refusal { IfErr result (λ status. is_words_refusal status ≡ true) }
 {
-    match mode {
-        Mode::Run => Ok(Asked::Runs { targets }),
-        Mode::Environment => Ok(Asked::Reads {
-            mode: ReadMode::Environment,
-            targets,
-        }),
-        Mode::Versions => Ok(Asked::Reads {
-            mode: ReadMode::Versions,
-            targets,
-        }),
-        Mode::Parse => Ok(Asked::Reads {
-            mode: ReadMode::Parse,
-            targets,
-        }),
-        Mode::Dry | Mode::Sample(_) => Err(unbuilt(alloc)),
+    if has_unbuilt_option(&request) {
+        return Err(unbuilt(alloc));
     }
+    Ok(Asked::Reads {
+        mode,
+        targets: request.targets,
+    })
 }
 
 /// What a request asks for.
@@ -68,16 +80,20 @@ fn asked_for(alloc: Global, request: Request) -> Result<Asked, Status>
     ensures err { IfErr result (λ status. IsRefusal (asked.asked_for request) status) }
     ensures refusal { IfErr result (λ status. is_words_refusal status ≡ true) }
 {
-    if has_unbuilt_option(&request) {
-        return Err(unbuilt(alloc));
+    match request.mode() {
+        Mode::Run => Ok(Asked::Runs(run_of(request))),
+        Mode::Environment => reading_of(alloc, ReadMode::Environment, request),
+        Mode::Versions => reading_of(alloc, ReadMode::Versions, request),
+        Mode::Parse => reading_of(alloc, ReadMode::Parse, request),
+        Mode::Dry | Mode::Sample(_) => Err(unbuilt(alloc)),
     }
-    asked_in(alloc, request.mode(), request.targets)
 }
 
 /// What the words ask for.
 ///
 /// # Errors
-/// `Usage` where the words have no reading, `NotBuilt` where an option or the mode isn't built so far, `OutOfMemory`.
+/// `Usage` where the words have no reading, `NotBuilt` where the mode, or an option of a mode that reads, isn't built so far,
+/// `OutOfMemory`.
 #[tactic(auto, unfolding(crate::specs::Asked::asked_of))]
 pub fn asked_of(alloc: Global, words: &[Text]) -> Result<Asked, Status>
     ensures ok { IfOk result (λ made. asked.asked_of words.now ≡ Ok made) }

@@ -1,39 +1,42 @@
 // Worked words. Each expected answer is derived from the rules by hand.
-ghost use Rattle.std.specs.Prelude.{◌≡◌, [], ◌∷◌, Ok, Err, codes};
+ghost use Rattle.std.specs.Prelude.{◌≡◌, [], ◌∷◌, Ok, Err, Some, None, true, false, codes};
 ghost use Rattle.meta_model.specs.declared.event.Status.TheVariants.{Usage};
 ghost use Rattle.read_modes.specs.declared.modes.ReadMode.TheVariants.{Parse, Versions, Environment};
-ghost use Rattle.single_run.specs.Status.{not_built};
+ghost use Rattle.read_modes.specs.Modes.{not_built};
 ghost use Rattle.bitbake_top.specs.declared.asked.Asked.TheVariants.{Runs, Reads};
 ghost use Rattle.bitbake_top.specs.Asked.{asked_of};
 
 /// Runs, and what a mode prints.
 #[tactic(auto, unfolding(crate::specs::Asked::asked_of, command_words::specs::Command::command, clap::proofs::OnLiterals::clap_on_literals))]
 pub fn example_of_asking()
-    ensures one_name { asked_of (codes "hello" ∷ []) ≡ Ok (Runs (codes "hello" ∷ [])) }
-    ensures two_names { asked_of (codes "b" ∷ codes "a" ∷ []) ≡ Ok (Runs (codes "b" ∷ codes "a" ∷ [])) }
+    ensures one_name { asked_of (codes "hello" ∷ []) ≡ Ok (Runs (record { targets = codes "hello" ∷ []; task = None; built = true })) }
+    ensures two_names { asked_of (codes "b" ∷ codes "a" ∷ []) ≡ Ok (Runs (record { targets = codes "b" ∷ codes "a" ∷ []; task = None; built = true })) }
     // behind `--` each word is a target
-    ensures behind_two_hyphens { asked_of (codes "--" ∷ codes "-e" ∷ []) ≡ Ok (Runs (codes "-e" ∷ [])) }
+    ensures behind_two_hyphens { asked_of (codes "--" ∷ codes "-e" ∷ []) ≡ Ok (Runs (record { targets = codes "-e" ∷ []; task = None; built = true })) }
+    ensures task { asked_of (codes "-c" ∷ codes "build" ∷ codes "hello" ∷ []) ≡ Ok (Runs (record { targets = codes "hello" ∷ []; task = Some (codes "build"); built = true })) }
     // the configuration's values
     ensures environment { asked_of (codes "-e" ∷ []) ≡ Ok (Reads Environment []) }
     ensures environment_of_a_target { asked_of (codes "-e" ∷ codes "x" ∷ []) ≡ Ok (Reads Environment (codes "x" ∷ [])) }
     ensures versions { asked_of (codes "-s" ∷ []) ≡ Ok (Reads Versions []) }
     ensures parse { asked_of (codes "x" ∷ codes "--parse-only" ∷ []) ≡ Ok (Reads Parse (codes "x" ∷ [])) }
+    // a mode that reads doesn't look at the task
+    ensures task_of_a_mode { asked_of (codes "-c" ∷ codes "build" ∷ codes "-p" ∷ []) ≡ Ok (Reads Parse []) }
     // of several modes one counts
     ensures versions_and_parse { asked_of (codes "-s" ∷ codes "-p" ∷ []) ≡ Ok (Reads Parse []) }
     ensures letters_in_one_word { asked_of (codes "-ep" ∷ []) ≡ Ok (Reads Parse []) }
     ensures dry_environment { asked_of (codes "-n" ∷ codes "-e" ∷ []) ≡ Ok (Reads Environment []) }
 {}
 
-/// What isn't built so far.
+/// Options and modes that aren't built so far.
 #[tactic(auto, unfolding(crate::specs::Asked::asked_of, command_words::specs::Command::command, clap::proofs::OnLiterals::clap_on_literals))]
 pub fn example_of_unbuilt_options()
-    ensures task { asked_of (codes "-c" ∷ codes "build" ∷ codes "hello" ∷ []) ≡ Err not_built }
-    ensures force { asked_of (codes "-f" ∷ codes "hello" ∷ []) ≡ Err not_built }
-    ensures keep_going { asked_of (codes "-k" ∷ codes "hello" ∷ []) ≡ Err not_built }
-    ensures no_setscene { asked_of (codes "--no-setscene" ∷ codes "hello" ∷ []) ≡ Err not_built }
-    // also where the mode is built
+    // the run is found first
+    ensures force { asked_of (codes "-f" ∷ codes "hello" ∷ []) ≡ Ok (Runs (record { targets = codes "hello" ∷ []; task = None; built = false })) }
+    ensures keep_going { asked_of (codes "-k" ∷ codes "hello" ∷ []) ≡ Ok (Runs (record { targets = codes "hello" ∷ []; task = None; built = false })) }
+    ensures no_setscene { asked_of (codes "--no-setscene" ∷ codes "hello" ∷ []) ≡ Ok (Runs (record { targets = codes "hello" ∷ []; task = None; built = false })) }
     ensures force_in_a_mode { asked_of (codes "-f" ∷ codes "-p" ∷ []) ≡ Err not_built }
     ensures dry { asked_of (codes "-n" ∷ codes "hello" ∷ []) ≡ Err not_built }
+    ensures dry_task { asked_of (codes "-n" ∷ codes "-c" ∷ codes "build" ∷ codes "hello" ∷ []) ≡ Err not_built }
     ensures sample { asked_of (codes "--sample" ∷ codes "5" ∷ []) ≡ Err not_built }
 {}
 

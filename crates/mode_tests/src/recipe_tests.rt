@@ -114,7 +114,7 @@ fn no_recipe(rt: HostRuntime) -> Result<(), Fail> {
         &[],
         ReadMode::Environment,
         &["a"],
-        "fault 3 NotBuilt\n",
+        "fault 3 NothingProvides a\n",
     )
 }
 
@@ -228,18 +228,47 @@ fn targets(rt: HostRuntime) -> Result<(), Fail> {
         &["b", "a"],
         "fault 3 recipes/b.bb: ValueCycle Z\n",
     )?;
-    assert_printed(&rt, alloc, &files, mode, &["a", "c"], "fault 3 NotBuilt\n")?;
     assert_printed(
         &rt,
         alloc,
         &files,
         mode,
-        &["d:do_build"],
-        "fault 3 NotBuilt\n",
+        &["a", "c"],
+        "fault 3 NothingProvides c\n",
     )?;
     let want =
         "# d\nBBFILES=\"recipes/*.bb recipes/*.bbappend\"\nBB_DEFAULT_TASK=\"build\"\nBB_NUMBER_THREADS=\"4\"\nFILE=\"recipes/c.bb\"\nPACKAGES=\"d\"\nPN=\"d\"\nPR=\"r0\"\nPV=\"1.0\"\nTHISDIR=\"recipes\"\nTOPDIR=\".\"\n";
-    assert_printed(&rt, alloc, &files, mode, &["d"], want)
+    assert_printed(&rt, alloc, &files, mode, &["d"], want)?;
+    assert_printed(&rt, alloc, &files, mode, &["d:do_nosuch"], want)
+}
+
+/// A target's recipe is the provider of its name: a recipe's own name comes before a provided one, a preference before both. Of
+/// several the PNs are told, and a word of another configuration is told whole.
+#[test]
+fn providers(rt: HostRuntime) -> Result<(), Fail> {
+    let alloc = rt.alloc();
+    let files = [
+        ("conf/bitbake.conf", "PREFERRED_PROVIDER_v = \"b\"\n"),
+        ("recipes/c.bb", "PROVIDES = \"v x\"\nX = \"${X}\"\n"),
+        ("recipes/b.bb", "PROVIDES = \"v virtual/x x c\"\n"),
+    ];
+    let mode = ReadMode::Environment;
+    let b =
+        "# b\nBBFILES=\"recipes/*.bb recipes/*.bbappend\"\nBB_DEFAULT_TASK=\"build\"\nBB_NUMBER_THREADS=\"4\"\nFILE=\"recipes/b.bb\"\nPACKAGES=\"b\"\nPN=\"b\"\nPR=\"r0\"\nPREFERRED_PROVIDER_v=\"b\"\nPROVIDES=\"v virtual/x x c\"\nPV=\"1.0\"\nTHISDIR=\"recipes\"\nTOPDIR=\".\"\n";
+    let cases = [
+        ("b", b),
+        ("virtual/x", b),
+        ("v:do_build", b),
+        ("c", "fault 3 recipes/c.bb: ValueCycle X\n"),
+        ("x", "fault 3 SeveralProvide x b c\n"),
+        ("do_build:b", "fault 3 NothingProvides do_build\n"),
+        ("mc:b", "fault 3 NothingProvides mc:b\n"),
+        ("", "fault 3 NothingProvides \n"),
+    ];
+    for case in &cases {
+        assert_printed(&rt, alloc, &files, mode, &[case.0], case.1)?;
+    }
+    Ok(())
 }
 
 /// What is printed of versions where the call with this number fails.

@@ -6,6 +6,8 @@
 #[cfg(test)]
 mod fixture;
 #[cfg(test)]
+mod graph_tests;
+#[cfg(test)]
 mod hello_tests;
 #[cfg(test)]
 mod mode_tests;

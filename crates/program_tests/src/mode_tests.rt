@@ -25,6 +25,7 @@ fn is_answer(
 fn recipes_are_counted(rt: HostRuntime) -> Result<(), Fail> {
     assert!(rt; is_answer(&rt, &["-p"], 0, "parsed 1 recipes\n")?);
     assert!(rt; is_answer(&rt, &["-s", "-p", "other"], 0, "parsed 1 recipes\n")?);
+    assert!(rt; is_answer(&rt, &["-c", "nosuch", "-p"], 0, "parsed 1 recipes\n")?);
     Ok(())
 }
 
@@ -49,10 +50,10 @@ fn values_are_printed(rt: HostRuntime) -> Result<(), Fail> {
     Ok(())
 }
 
-// A target of `-e` is a recipe's PN so far.
 #[test]
 fn unknown_target(rt: HostRuntime) -> Result<(), Fail> {
-    assert!(rt; is_answer(&rt, &["-e", "other"], 3, "fault 3 NotBuilt\n")?);
+    let text = "fault 3 NothingProvides other\n";
+    assert!(rt; is_answer(&rt, &["-e", "other"], 3, text)?);
     Ok(())
 }
 

@@ -26,6 +26,12 @@ fn is_refused(rt: &HostRuntime, recipe: &'static str) -> Result<bool, Fail> {
     Ok(same && text.as_str() == "3 fault 3 NotBuilt\n")
 }
 
+/// Whether the recipe has no task `do_build`: nothing is written to the disk.
+fn lacks_task(rt: &HostRuntime, recipe: &'static str) -> Result<bool, Fail> {
+    let (text, _, same) = outcome(rt, recipe)?;
+    Ok(same && text.as_str() == "3 fault 3 NoSuchTask hello:do_build\n")
+}
+
 /// Whether the recipe has this fault: the line and the kind. Nothing is written to the disk.
 fn faults(rt: &HostRuntime, recipe: &'static str, fault: &'static str) -> Result<bool, Fail> {
     let (text, _, same) = outcome(rt, recipe)?;
@@ -75,10 +81,17 @@ fn lines_that_are_built(rt: HostRuntime) -> Result<(), Fail> {
     Ok(())
 }
 
+// A function is no task before `addtask` names it.
+#[test]
+fn recipes_without_the_task(rt: HostRuntime) -> Result<(), Fail> {
+    assert!(rt; lacks_task(&rt, "\n")?);
+    assert!(rt; lacks_task(&rt, "do_build() {\n}\n")?);
+    assert!(rt; lacks_task(&rt, "do_build() {\n}\naddtask other\n")?);
+    Ok(())
+}
+
 #[test]
 fn other_statements_are_not_built(rt: HostRuntime) -> Result<(), Fail> {
-    assert!(rt; is_refused(&rt, "\n")?);
-    assert!(rt; is_refused(&rt, "do_build() {\n}\n")?);
     assert!(rt; is_refused(&rt, "addtask build\ndo_build() {\n}\n")?);
     assert!(rt; is_refused(&rt, "do_build() {\n}\naddtask build\na = \"b\"\n")?);
     assert!(rt; is_refused(&rt, "do_build() {\n}\naddtask build after do_x\n")?);
@@ -141,13 +154,21 @@ fn first_of_two_faults(rt: HostRuntime) -> Result<(), Fail> {
     Ok(())
 }
 
-// A file beside it makes the form one that isn't built, and hides no fault.
+// A fault of any recipe is told, of several that of the first file.
 #[test]
-fn a_fault_comes_before_the_form(rt: HostRuntime) -> Result<(), Fail> {
+fn a_fault_beside_the_recipe(rt: HostRuntime) -> Result<(), Fail> {
     let mut project = Project::of(HELLO_ALONE, &[("recipes/a.bb", HELLO)], "");
     project.recipe = "A = b\n";
     let left = call(&rt, &project)?;
     assert_eq!(rt; left.code, 3);
     assert_eq!(rt; left.text.as_str(), "fault 3 recipes/hello.bb:1: BadLine\n");
+    project.files = &[("recipes/a.bb", "\nA = c\n")];
+    let left = call(&rt, &project)?;
+    assert_eq!(rt; left.code, 3);
+    assert_eq!(rt; left.text.as_str(), "fault 3 recipes/a.bb:2: BadLine\n");
+    project.recipe = HELLO;
+    let left = call(&rt, &project)?;
+    assert_eq!(rt; left.code, 3);
+    assert_eq!(rt; left.text.as_str(), "fault 3 recipes/a.bb:2: BadLine\n");
     Ok(())
 }

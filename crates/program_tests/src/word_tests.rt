@@ -26,7 +26,7 @@ fn is_usage(rt: &HostRuntime, words: &'static [&'static str]) -> Result<bool, Fa
     is_answer(rt, words, 2, USAGE)
 }
 
-/// Whether the words ask for what isn't built.
+/// Whether the words ask for a mode that isn't built.
 fn is_unbuilt(rt: &HostRuntime, words: &'static [&'static str]) -> Result<bool, Fail> {
     is_answer(rt, words, 3, "fault 3 NotBuilt\n")
 }
@@ -51,17 +51,16 @@ fn faulty_words(rt: HostRuntime) -> Result<(), Fail> {
     Ok(())
 }
 
+// Nothing is read for these.
 #[test]
-fn unbuilt_options(rt: HostRuntime) -> Result<(), Fail> {
-    assert!(rt; is_unbuilt(&rt, &["-c", "build", "hello"])?);
-    assert!(rt; is_unbuilt(&rt, &["--cmd=build", "hello"])?);
-    assert!(rt; is_unbuilt(&rt, &["-f", "hello"])?);
-    assert!(rt; is_unbuilt(&rt, &["hello", "-k"])?);
-    assert!(rt; is_unbuilt(&rt, &["--no-setscene", "hello"])?);
+fn unbuilt_modes(rt: HostRuntime) -> Result<(), Fail> {
     assert!(rt; is_unbuilt(&rt, &["-n", "hello"])?);
+    assert!(rt; is_unbuilt(&rt, &["-n", "-c", "build", "hello"])?);
     assert!(rt; is_unbuilt(&rt, &["--sample", "5"])?);
     assert!(rt; is_unbuilt(&rt, &["--sample", "1000", "-p"])?);
     assert!(rt; is_unbuilt(&rt, &["-kp"])?);
+    assert!(rt; is_unbuilt(&rt, &["-fs"])?);
+    assert!(rt; is_unbuilt(&rt, &["--no-setscene", "-e"])?);
     Ok(())
 }
 

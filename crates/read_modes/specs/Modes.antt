@@ -1,20 +1,25 @@
 -- What the modes that only read metadata print.
-use Rattle.std.specs.Prelude.{ℕ, List, [], ◌∷◌, ◌++◌, length, Option, Some, None, Result, Ok, codes, bytes_eq, if◌then◌else◌}
+use Rattle.std.specs.Prelude.{ℕ, List, [], ◌∷◌, ◌++◌, length, slice_get, slice_index_or, Option, Result, Ok, Err, codes, if◌then◌else◌}
+use Rattle.std.specs.Option.{option_map, option_map_or}
 use Rattle.meta_model.specs.declared.entry.EntryLine.{EntryLine}
+use Rattle.meta_model.specs.declared.facts.FactSet.{FactSet}
 use Rattle.meta_model.specs.declared.facts.RecipeFacts.{RecipeFacts}
 use Rattle.meta_model.specs.declared.event.Status.{Status}
 use Rattle.meta_model.specs.declared.event.Status.TheVariants.{Metadata}
+use Rattle.meta_model.specs.Text.{colon, begins_with, split_at_first}
 use Rattle.meta_model.specs.Frozen.{frozen}
-use Rattle.load_model.specs.LoadRefusal.{◌>>=◌, refused_as, there}
+use Rattle.meta_model.specs.Providers.{provider}
+use Rattle.meta_model.specs.GraphRefusal.{nothing_provides, unprovided}
+use Rattle.load_model.specs.LoadRefusal.{◌>>=◌, refused_as}
 use Rattle.load_model.specs.Loading.{Sources}
 use Rattle.load_model.specs.Layers.{Config, config}
 use Rattle.load_model.specs.Facts.{RecipeSet, recipe_set, environment}
 use Rattle.bb_report.specs.Texts.{env_text, recipe_line, versions_text, parsed_text}
 use Rattle.read_modes.specs.declared.modes.ReadMode.{ReadMode}
 use Rattle.read_modes.specs.declared.modes.ReadMode.TheVariants.{Parse, Versions, Environment}
-use Rattle.read_modes.specs.Said.{value_status, layer_status, set_status}
+use Rattle.read_modes.specs.Said.{value_status, layer_status, set_status, lack_status}
 
--- what isn't built so far
+-- what isn't built so far, which is no answer of these modes
 abbrev pub not_built : Status
 not_built = Metadata [] 0 (codes "NotBuilt") []
 
@@ -26,29 +31,49 @@ read_config sources paths = refused_as layer_status (config sources paths)
 abbrev pub read_recipes : Sources → Config → Result RecipeSet Status
 read_recipes sources made = refused_as set_status (recipe_set sources made.lines made.recipes made.appends)
 
--- the recipe with this PN, with its entries
-abbrev pub recipe_named : List ℕ → List RecipeFacts → List (List EntryLine) → Option (RecipeFacts × List EntryLine)
-recipe_named pn (recipe ∷ recipes) (lines ∷ stores) = if bytes_eq recipe.pn pn then Some (recipe, lines) else recipe_named pn recipes stores
-recipe_named pn _ _ = None
+-- the name of a target: what stands before its first colon, or the whole word
+abbrev pub target_name : List ℕ → List ℕ
+target_name word = option_map_or (λ cut. cut.0) (split_at_first colon word) word
 
--- The recipes of the targets, in their order. So far a target is the PN of a recipe (own rule).
-abbrev pub target_recipes : RecipeSet → List (List ℕ) → Result (List (RecipeFacts × List EntryLine)) Status
-target_recipes set [] = Ok []
-target_recipes set (target ∷ targets) = do
-  first ← there not_built (recipe_named target set.facts.recipes set.stores)
-  others ← target_recipes set targets
+-- the number of the recipe that provides a name
+abbrev pub provider_number : FactSet → List ℕ → Result ℕ Status
+provider_number facts name = refused_as (λ pns. lack_status (unprovided name pns)) (provider facts name)
+
+-- The number of a target's recipe. A target is NAME or NAME:TASK: its recipe is the provider of NAME, and its task isn't looked at.
+-- A word that begins with `mc:` asks for another configuration, which nothing provides until several are built (own rules).
+abbrev pub target_recipe : FactSet → List ℕ → Result ℕ Status
+target_recipe facts word = if begins_with (codes "mc:") word then Err (lack_status (nothing_provides word)) else provider_number facts (target_name word)
+
+-- the numbers of the targets' recipes, in the order of the targets
+abbrev pub target_recipes : FactSet → List (List ℕ) → Result (List ℕ) Status
+target_recipes facts [] = Ok []
+target_recipes facts (target ∷ targets) = do
+  first ← target_recipe facts target
+  others ← target_recipes facts targets
   Ok (first ∷ others)
+
+-- the recipe with a number, with its entries
+abbrev pub recipe_at : RecipeSet → ℕ → Option (RecipeFacts × List EntryLine)
+recipe_at set n = option_map (λ recipe. (recipe, slice_index_or set.stores n [])) (slice_get set.facts.recipes n)
 
 -- the values of a recipe behind its own line
 abbrev pub recipe_values : RecipeFacts × List EntryLine → Result (List ℕ) Status
 recipe_values recipe = refused_as (value_status recipe.0.file 0) (environment recipe.1) >>= λ rows. Ok (recipe_line recipe.0.pn ++ env_text rows)
 
-abbrev pub all_values : List (RecipeFacts × List EntryLine) → Result (List ℕ) Status
-all_values [] = Ok []
-all_values (recipe ∷ rest) = do
-  first ← recipe_values recipe
-  others ← all_values rest
+-- the values of the recipe with a number; a number without a recipe, which no provider has, gives nothing
+abbrev pub values_of_number : RecipeSet → ℕ → Result (List ℕ) Status
+values_of_number set n = option_map_or recipe_values (recipe_at set n) (Ok [])
+
+abbrev pub all_values : RecipeSet → List ℕ → Result (List ℕ) Status
+all_values set [] = Ok []
+all_values set (number ∷ numbers) = do
+  first ← values_of_number set number
+  others ← all_values set numbers
   Ok (first ++ others)
+
+-- The values of the targets' recipes, each behind its own line. All targets are looked up before the first value (own rule).
+abbrev pub values_of_targets : RecipeSet → List (List ℕ) → Result (List ℕ) Status
+values_of_targets set targets = target_recipes set.facts targets >>= λ numbers. all_values set numbers
 
 -- The values of the configuration, once its names are moved. No recipe is read for them (own rule).
 abbrev pub config_values : Config → Result (List ℕ) Status
@@ -62,8 +87,7 @@ abbrev pub environment_of : Sources → Config → List (List ℕ) → Result (L
 environment_of sources made [] = config_values made
 environment_of sources made (target ∷ targets) = do
   set ← read_recipes sources made
-  named ← target_recipes set (target ∷ targets)
-  all_values named
+  values_of_targets set (target ∷ targets)
 
 abbrev pub text_of : ReadMode → Sources → Config → List (List ℕ) → Result (List ℕ) Status
 text_of Parse sources made targets = read_recipes sources made >>= λ set. Ok (parsed_text (length made.recipes))

@@ -1,13 +1,15 @@
 -- The status that a refusal of metadata is answered as: the kind is the innermost cause's name, the detail its texts (own
 -- rule).
-use Rattle.std.specs.Prelude.{ℕ, List, [], ◌∷◌, codes}
+use Rattle.std.specs.Prelude.{ℕ, List, [], ◌∷◌, ◌++◌, map, codes}
 use Rattle.std.specs.List.{join_with_byte}
 use Rattle.meta_model.specs.Text.{colon}
 use Rattle.meta_model.specs.declared.line.SyntaxFault.{SyntaxFault}
 use Rattle.meta_model.specs.declared.line.SyntaxFault.TheVariants as wrong
 use Rattle.meta_model.specs.declared.event.Status.{Status}
 use Rattle.meta_model.specs.declared.event.Status.TheVariants.{Metadata, Limit}
+use Rattle.meta_model.specs.declared.facts.TaskId.{TaskId}
 use Rattle.meta_model.specs.Refusal.{Refusal, value_cycle, too_deep, too_long, unstable}
+use Rattle.meta_model.specs.GraphRefusal.{GraphRefusal, nothing_provides, several_provide, no_such_task}
 use Rattle.load_model.specs.LoadRefusal.{LoadCause, missing_required, missing_class, include_depth, syntax, no_value, file_bytes, LoadRefusal}
 use Rattle.load_model.specs.Layers.{LayerRefusal, no_such_layer, bad_pattern, load as layer_load, no_list}
 use Rattle.load_model.specs.Recipes.{SetRefusal, bad_name, dangling_append, load as set_load, too_many, no_value as set_value}
@@ -57,3 +59,31 @@ set_status (dangling_append file) = Metadata file 0 (codes "DanglingAppend") []
 set_status (set_load refusal) = load_status refusal
 set_status too_many = Limit (codes "Recipes")
 set_status (set_value file refusal) = value_status file 0 refusal
+
+-- Why names and tasks lack what they ask for, why there is no graph of tasks, and why there is no number of threads. None of these
+-- has a place, and a task is written PN:TASK (own rules).
+
+-- how a task is written
+abbrev pub task_text : List ℕ → List ℕ → List ℕ
+task_text pn task = pn ++ colon ∷ task
+
+abbrev pub id_text : TaskId → List ℕ
+id_text id = task_text id.pn id.task
+
+-- what is asked for and nobody has
+abbrev pub lack_status : GraphRefusal → Status
+lack_status (nothing_provides name) = Metadata [] 0 (codes "NothingProvides") (name ∷ [])
+lack_status (several_provide name pns) = Metadata [] 0 (codes "SeveralProvide") (name ∷ pns)
+lack_status (no_such_task pn task) = Metadata [] 0 (codes "NoSuchTask") (task_text pn task ∷ [])
+
+-- tasks that need each other
+abbrev pub cycle_status : List TaskId → Status
+cycle_status ids = Metadata [] 0 (codes "TaskCycle") (map id_text ids)
+
+-- more tasks than a graph may have
+abbrev pub too_many_status : Status
+too_many_status = Limit (codes "Tasks")
+
+-- a text that is no number of threads
+abbrev pub threads_status : List ℕ → Status
+threads_status text = Metadata [] 0 (codes "BadThreads") (text ∷ [])

@@ -3,14 +3,15 @@
 
 ghost use Rattle.std.specs.Prelude.{◌≡◌, ◌∷◌, [], codes, bytes_eq, Some, None, Ok, Err, if◌then◌else◌};
 ghost use Rattle.meta_model.specs.declared.event.Status.TheVariants as status;
+ghost use Rattle.meta_model.specs.GraphRefusal.{no_such_task, nothing_provides, several_provide};
 ghost use Rattle.load_model.specs.LoadRefusal.{file_bytes};
 ghost use Rattle.load_model.specs.Recipes.{too_many};
 ghost use Rattle.load_model.specs.LibraryAndApplication.{library_and_application, text};
 ghost use Rattle.bb_report.specs.Texts.{parsed_text, fault_text};
 ghost use Rattle.read_modes.specs.declared.modes.ReadMode.TheVariants as mode;
-ghost use Rattle.read_modes.specs.Said.{set_status};
+ghost use Rattle.read_modes.specs.Said.{cycle_status, lack_status, set_status, threads_status, too_many_status};
 ghost use Rattle.read_modes.specs.Modes.{mode_text, not_built};
-ghost use Rattle.read_modes.specs.ModeSamples.{mode_over, printed};
+ghost use Rattle.read_modes.specs.ModeSamples.{mode_over, named, printed};
 
 /// A library and an application in two layers.
 pub fn example_of_two_layers()
@@ -104,7 +105,7 @@ pub fn example_of_recipe_values()
         ∷ codes "THISDIR=\"recipes\""
         ∷ codes "TOPDIR=\".\""
         ∷ []) }
-    // a target is the PN after all files, and not the name of the file
+    // the PN after all files counts, and not the name of the file
     ensures moved_pn { printed ((codes "recipes/a.bb", codes "PN = \"z\"") ∷ []) mode.Environment (codes "z" ∷ []) ≡ text (
         codes "# z"
         ∷ codes "BBFILES=\"recipes/*.bb recipes/*.bbappend\""
@@ -118,12 +119,6 @@ pub fn example_of_recipe_values()
         ∷ codes "THISDIR=\"recipes\""
         ∷ codes "TOPDIR=\".\""
         ∷ []) }
-    // a target that is no PN
-    ensures no_pn { mode_over ((codes "recipes/a.bb", codes "PN = \"z\"") ∷ []) mode.Environment (codes "a" ∷ []) ≡ Err not_built }
-    // ... nor is one with a task
-    ensures with_task { mode_over ((codes "recipes/a.bb", codes "") ∷ []) mode.Environment (codes "a:do_build" ∷ []) ≡ Err not_built }
-    // ... is refused before any value
-    ensures no_pn_first { mode_over ((codes "recipes/a.bb", codes "X = \"${X}\"") ∷ []) mode.Environment (codes "a" ∷ codes "nosuch" ∷ []) ≡ Err not_built }
     // two names that need one another: the one that is met again
     ensures cycle { mode_over ((codes "recipes/v.bb", codes "X = \"${Y}\"\nY = \"${X}\"") ∷ []) mode.Environment (codes "v" ∷ []) ≡ Err (status.Metadata (codes "recipes/v.bb") 0 (codes "ValueCycle") (codes "X" ∷ [])) }
     // of several refusals that of the first name
@@ -144,6 +139,38 @@ pub fn example_of_recipe_values()
         ∷ codes "THISDIR=\"recipes\""
         ∷ codes "TOPDIR=\".\""
         ∷ []) }
+{}
+
+/// Which recipes targets name.
+pub fn example_of_targets()
+    // the name stands before the first colon; the task isn't looked at, and none of these is there
+    ensures with_task { named ((codes "recipes/a.bb", codes "") ∷ []) (codes "a:do_build" ∷ codes "a:b:c" ∷ codes "a:" ∷ []) ≡ Ok (codes "a" ∷ codes "a" ∷ codes "a" ∷ []) }
+    // each word of PROVIDES
+    ensures provided { named ((codes "recipes/a.bb", codes "PROVIDES = \"u virtual/x\"") ∷ []) (codes "virtual/x" ∷ codes "u:do_y" ∷ []) ≡ Ok (codes "a" ∷ codes "a" ∷ []) }
+    // a recipe of that very name comes before one that provides it
+    ensures own_name { named ((codes "recipes/a.bb", codes "PROVIDES = \"b\"") ∷ (codes "recipes/b.bb", codes "") ∷ []) (codes "b" ∷ []) ≡ Ok (codes "b" ∷ []) }
+    // ... unless the configuration prefers another one
+    ensures preferred { named ((codes "recipes/a.bb", codes "PROVIDES = \"b\"") ∷ (codes "recipes/b.bb", codes "") ∷ (codes "conf/bitbake.conf", codes "PREFERRED_PROVIDER_b = \"a\"") ∷ []) (codes "b" ∷ []) ≡ Ok (codes "a" ∷ []) }
+    // a preference that names no candidate has no effect
+    ensures no_candidate { named ((codes "recipes/a.bb", codes "PROVIDES = \"x\"") ∷ (codes "recipes/b.bb", codes "") ∷ (codes "conf/bitbake.conf", codes "PREFERRED_PROVIDER_x = \"b\"") ∷ []) (codes "x" ∷ []) ≡ Ok (codes "a" ∷ []) }
+    // `mc` is a name like another one
+    ensures no_colon { named ((codes "recipes/mc.bb", codes "") ∷ []) (codes "mc" ∷ []) ≡ Ok (codes "mc" ∷ []) }
+{}
+
+/// Targets without a recipe. All are looked up before any value.
+pub fn example_of_lacking_targets()
+    // the file's name isn't the PN
+    ensures nothing { mode_over ((codes "recipes/a.bb", codes "PN = \"z\"") ∷ []) mode.Environment (codes "a" ∷ []) ≡ Err (status.Metadata [] 0 (codes "NothingProvides") (codes "a" ∷ [])) }
+    // what stands behind the colon is no part of the name
+    ensures with_task { mode_over ((codes "recipes/a.bb", codes "") ∷ []) mode.Environment (codes "x:do_build" ∷ []) ≡ Err (status.Metadata [] 0 (codes "NothingProvides") (codes "x" ∷ [])) }
+    // with the PNs in byte order
+    ensures several { mode_over ((codes "recipes/b.bb", codes "PROVIDES = \"x\"") ∷ (codes "recipes/a.bb", codes "PROVIDES = \"x\"") ∷ (codes "recipes/c.bb", codes "") ∷ []) mode.Environment (codes "x" ∷ []) ≡ Err (status.Metadata [] 0 (codes "SeveralProvide") (codes "x" ∷ codes "a" ∷ codes "b" ∷ [])) }
+    // a word of another configuration has no provider, whatever its name; the whole word is told
+    ensures other_configuration { mode_over ((codes "recipes/mc.bb", codes "") ∷ []) mode.Environment (codes "mc:x" ∷ []) ≡ Err (status.Metadata [] 0 (codes "NothingProvides") (codes "mc:x" ∷ [])) }
+    // a value is worked out behind all targets only
+    ensures before_values { mode_over ((codes "recipes/a.bb", codes "X = \"${X}\"") ∷ []) mode.Environment (codes "a" ∷ codes "nosuch" ∷ []) ≡ Err (status.Metadata [] 0 (codes "NothingProvides") (codes "nosuch" ∷ [])) }
+    // of several such targets the first one is told
+    ensures first_target { mode_over ((codes "recipes/a.bb", codes "") ∷ []) mode.Environment (codes "a" ∷ codes "nosuch" ∷ codes "mc:x" ∷ []) ≡ Err (status.Metadata [] 0 (codes "NothingProvides") (codes "nosuch" ∷ [])) }
 {}
 
 /// The values of the configuration.
@@ -260,6 +287,15 @@ pub fn example_of_lines()
     ensures two_texts { fault_text (status.Metadata [] 0 (codes "Unstable") (codes "k:b" ∷ codes "k:a" ∷ [])) ≡ codes "fault 3 Unstable k:b k:a\n" }
     // an empty text has its blank
     ensures empty_text { fault_text (status.Metadata [] 0 (codes "TooLong") (codes "" ∷ [])) ≡ codes "fault 3 TooLong \n" }
+    // a name without a provider, and one with several
+    ensures nothing_provides { fault_text (lack_status (nothing_provides (codes "nosuch"))) ≡ codes "fault 3 NothingProvides nosuch\n" }
+    ensures several_provide { fault_text (lack_status (several_provide (codes "x") (codes "a" ∷ codes "b" ∷ []))) ≡ codes "fault 3 SeveralProvide x a b\n" }
+    // tasks: one that isn't there, some that need each other, too many of them
+    ensures no_such_task { fault_text (lack_status (no_such_task (codes "x") (codes "do_y"))) ≡ codes "fault 3 NoSuchTask x:do_y\n" }
+    ensures cycle { fault_text (cycle_status (record { mc = []; pn = codes "x"; task = codes "do_a" } ∷ record { mc = []; pn = codes "x"; task = codes "do_b" } ∷ [])) ≡ codes "fault 3 TaskCycle x:do_a x:do_b\n" }
+    ensures tasks { fault_text too_many_status ≡ codes "fault 10 Tasks\n" }
+    // no number of threads
+    ensures threads { fault_text (threads_status (codes "17")) ≡ codes "fault 3 BadThreads 17\n" }
     // what isn't built
     ensures not_built { fault_text not_built ≡ codes "fault 3 NotBuilt\n" }
     // a limit

@@ -30,8 +30,28 @@ pub enum ReadMode {
     Environment,
 }
 
-/// Reads all recipes of a configuration.
-fn read_recipes<L: Layers>(
+/// Reads the configuration.
+///
+/// Refused as the definition is (`specs/Modes.antt`, `read_config`), over the list of the paths of all files. `ReadFault` comes
+/// only where the layers' count of faults rose, and want of memory alone is free. No call changes a file.
+pub fn read_config<L: Layers>(alloc: Global, layers: &mut L) -> Result<Config, Status>
+    ensures ok { IfOk result (λ made. L.tells → (paths : List (List ℕ)) → IsListing [] (L.files layers.old) paths → modes.read_config (sources_of (L.files layers.old)) paths ≡ Ok (config_meant made)) }
+    ensures err { IfErr result (λ status. L.tells → (paths : List (List ℕ)) → IsListing [] (L.files layers.old) paths → IsRefusedAs status (modes.read_config (sources_of (L.files layers.old)) paths)) }
+    ensures refusal { IfErr result (λ status. is_refusal status ≡ true) }
+    ensures same { L.files layers.new ≡ L.files layers.old }
+    ensures cause { Counts (L.faults layers.old) (L.faults layers.new) (mode_failed result) }
+{
+    match read_layers(alloc, layers) {
+        Ok(config) => Ok(config),
+        Err(fault) => Err(layer_status(alloc, fault)),
+    }
+}
+
+/// Reads all recipes of a configuration, and chooses one of each PN.
+///
+/// Refused as the definition is (`specs/Modes.antt`, `read_recipes`). `ReadFault` comes only where the layers' count of faults
+/// rose, and want of memory alone is free. No call changes a file.
+pub fn read_recipes<L: Layers>(
     alloc: Global,
     layers: &mut L,
     config: &Config,
@@ -78,7 +98,7 @@ fn versions<L: Layers>(alloc: Global, layers: &mut L, config: &Config) -> Result
     }
 }
 
-/// The values of the recipes that targets name.
+/// The values of the targets' recipes.
 fn target_values<L: Layers>(
     alloc: Global,
     layers: &mut L,
@@ -97,7 +117,7 @@ fn target_values<L: Layers>(
     }
 }
 
-/// The values of the recipes that targets name; without targets those of the configuration, for which no recipe is read.
+/// The values of the targets' recipes; without targets those of the configuration, for which no recipe is read.
 fn environment_of<L: Layers>(
     alloc: Global,
     layers: &mut L,
@@ -143,7 +163,8 @@ fn text_of<L: Layers>(
 /// paths: each once and in byte order, so there is one such list. `ReadFault` comes only where the layers' count of faults rose,
 /// and want of memory alone is free. No call changes a file.
 ///
-/// For `-e` with targets only the values of their recipes are worked out, once all recipes are read.
+/// For `-e` a target's recipe is the provider of its name (BitBake User Manual, "Execution", section "Providers"). Only the values
+/// of the targets' recipes are worked out, once all recipes are read and all targets are found.
 pub fn read_mode<L: Layers>(
     alloc: Global,
     layers: &mut L,
@@ -156,8 +177,8 @@ pub fn read_mode<L: Layers>(
     ensures same { L.files layers.new ≡ L.files layers.old }
     ensures cause { Counts (L.faults layers.old) (L.faults layers.new) (mode_failed result) }
 {
-    match read_layers(alloc, layers) {
+    match read_config(alloc, layers) {
         Ok(config) => text_of(alloc, layers, mode, config, targets),
-        Err(fault) => Err(layer_status(alloc, fault)),
+        Err(status) => Err(status),
     }
 }

@@ -34,7 +34,7 @@ fn syntax_name(fault: SyntaxFault) -> &'static str
 }
 
 /// A fault of metadata of this kind, with texts.
-fn metadata(alloc: Global, file: Text, line: u32, kind: &str, detail: Texts) -> Status
+pub(crate) fn metadata(alloc: Global, file: Text, line: u32, kind: &str, detail: Texts) -> Status
     ensures { IsAnswered result (status.Metadata file line kind.now detail) }
 {
     match Text::from_str(alloc, kind) {
@@ -77,8 +77,8 @@ pub(crate) fn named(alloc: Global, file: Text, line: u32, kind: &str, name: Text
     }
 }
 
-/// A fault of metadata of this kind alone.
-pub(crate) fn plain(alloc: Global, file: Text, line: u32, kind: &str) -> Status
+/// A fault of metadata of this kind alone, or want of memory; without a file the path is empty, and without a line it is 0.
+pub fn plain(alloc: Global, file: Text, line: u32, kind: &str) -> Status
     ensures { IsAnswered result (status.Metadata file line kind.now []) }
 {
     metadata(alloc, file, line, kind, Texts::new(alloc))
@@ -142,8 +142,9 @@ fn expand_status(alloc: Global, file: Text, line: u32, fault: ExpandFault) -> St
     }
 }
 
-/// The status of a value that is refused.
-pub(crate) fn value_status(alloc: Global, file: Text, line: u32, fault: DataFault) -> Status
+/// The status of a value that is refused, at a place; without a file the path is empty, and without a line it is 0. Want of
+/// memory alone is free.
+pub fn value_status(alloc: Global, file: Text, line: u32, fault: DataFault) -> Status
     ensures { IsAnsweredAs result (said.value_status file line) (data_refusal fault) }
 {
     match fault {

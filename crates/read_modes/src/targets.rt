@@ -1,93 +1,96 @@
 // The recipes that targets name.
-ghost use Rattle.std.specs.Prelude.{◌≡◌, ◌≤◌, List, ℕ, length, true, false, Some, Ok, IfOk, IfErr, OnOk, bytes_eq, if◌then◌else◌};
-ghost use Rattle.std.specs.HashMap.{get_by_text};
-ghost use Rattle.load_model.specs.LoadRefusal.{there};
+ghost use Rattle.std.specs.Prelude.{◌≡◌, ◌<◌, ◌≤◌, All, length, true, false, Ok, IfOk, IfErr};
+ghost use Rattle.meta_model.specs.Text.{begins_with as begins};
 ghost use Rattle.read_modes.specs.Modes as modes;
-ghost use Rattle.read_modes.specs.Steps as steps;
-ghost use Rattle.read_modes.specs.Faults.{IsAnswered};
 ghost use Rattle.read_modes.specs.Answered.{IsRefusedAs, is_refusal, mode_failed};
 
-use crate::said::plain;
-use crate::values::{or_status, values_of_numbers};
-use meta_model::{ListOf, RecipeFacts, Status};
+use crate::graph_faults::{graph_status, nothing_provides};
+use crate::values::{all_values, or_status};
+use meta_model::{FactSet, ListOf, Status};
 use recipe_set::RecipeSet;
 use std::alloc::Global;
-use std::collections::HashMap;
-use tree_model::{Mem, Text};
+use task_graph::provider;
+use tree_model::Text;
 
-/// The numbers of recipes by their PNs.
-type Numbers = HashMap<String, u32>;
-
-/// Notes the number of a recipe.
-fn note(numbers: &mut Numbers, alloc: Global, pn: &str, number: u32) -> Result<(), Mem>
-    ensures { OnOk result ((q : List ℕ) → get_by_text numbers.new q ≡ (if bytes_eq pn.now q then Some number else get_by_text numbers.old q)) }
+/// Whether a text begins with the other.
+fn begins_with(front: &str, text: &str) -> bool
+    ensures { result ≡ begins front.now text.now }
 {
-    numbers.insert(String::from_str(alloc, pn)?, number)?;
-    Ok(())
+    text.as_bytes().starts_with(front.as_bytes())
 }
 
-/// The number of the first recipe of each PN.
-fn numbers_by_pn(alloc: Global, recipes: &[RecipeFacts]) -> Result<Numbers, Mem>
-    requires { length recipes.now ≤ 2000 }
-    ensures { IfOk result (λ numbers. (pn : List ℕ) → get_by_text numbers pn ≡ steps.number_from 0 recipes.now pn) }
+/// The name of a target: what stands before its first colon, or the whole word.
+fn target_name(word: &str) -> &str
+    ensures { result.now ≡ modes.target_name word.now }
 {
-    let mut numbers = HashMap::new(alloc);
-    let mut left = recipes.len();
-    while left > 0 {
-        left -= 1;
-        note(&mut numbers, alloc, recipes[left].pn.as_str(), left as u32)?;
+    match word.split_once(':') {
+        Some((name, _)) => name,
+        None => word,
     }
-    Ok(numbers)
 }
 
-/// The status of what isn't built so far.
-fn not_built(alloc: Global) -> Status
-    ensures { IsAnswered result modes.not_built }
-{
-    plain(alloc, Text::new(alloc), 0, "NotBuilt")
-}
-
-/// The number of the recipe that a target names: so far its PN (own rule).
-fn number_of(alloc: Global, numbers: &Numbers, target: &str) -> Result<u32, Status>
-    ensures ok { IfOk result (λ number. there modes.not_built (get_by_text numbers.now target.now) ≡ Ok number) }
-    ensures err { IfErr result (λ fault. IsRefusedAs fault (there modes.not_built (get_by_text numbers.now target.now))) }
+/// The number of the recipe that provides a name, found by going through all recipes.
+fn provider_number(alloc: Global, facts: &FactSet, name: &str) -> Result<u32, Status>
+    requires { length facts.now.recipes ≤ 2000 }
+    ensures ok { IfOk result (λ number. modes.provider_number facts.now name.now ≡ Ok number) }
+    ensures within { IfOk result (λ number. number < length facts.now.recipes) }
+    ensures err { IfErr result (λ fault. IsRefusedAs fault (modes.provider_number facts.now name.now)) }
     ensures refusal { IfErr result (λ fault. is_refusal fault ≡ true) }
     ensures no_failure { mode_failed result ≡ false }
 {
-    match numbers.get(target).copied() {
-        Some(number) => Ok(number),
-        None => Err(not_built(alloc)),
+    match provider(alloc, facts, name) {
+        Ok(number) => Ok(number),
+        Err(fault) => Err(graph_status(alloc, fault)),
     }
 }
 
-/// The numbers of the recipes that targets name, in the order of the targets.
-fn numbers_of(alloc: Global, numbers: &Numbers, targets: &[Text]) -> Result<ListOf<u32>, Status>
-    ensures ok { IfOk result (λ found. steps.numbers_of (get_by_text numbers.now) targets.now ≡ Ok found) }
-    ensures err { IfErr result (λ fault. IsRefusedAs fault (steps.numbers_of (get_by_text numbers.now) targets.now)) }
+/// The number of a target's recipe. The task of a target isn't looked at, and a word that begins with `mc:` is refused, which
+/// asks for another configuration.
+fn target_recipe(alloc: Global, facts: &FactSet, word: &str) -> Result<u32, Status>
+    requires { length facts.now.recipes ≤ 2000 }
+    ensures ok { IfOk result (λ number. modes.target_recipe facts.now word.now ≡ Ok number) }
+    ensures within { IfOk result (λ number. number < length facts.now.recipes) }
+    ensures err { IfErr result (λ fault. IsRefusedAs fault (modes.target_recipe facts.now word.now)) }
+    ensures refusal { IfErr result (λ fault. is_refusal fault ≡ true) }
+    ensures no_failure { mode_failed result ≡ false }
+{
+    if begins_with("mc:", word) {
+        return Err(nothing_provides(alloc, word));
+    }
+    provider_number(alloc, facts, target_name(word))
+}
+
+/// The numbers of the targets' recipes, in the order of the targets.
+fn target_recipes(alloc: Global, facts: &FactSet, targets: &[Text]) -> Result<ListOf<u32>, Status>
+    requires { length facts.now.recipes ≤ 2000 }
+    ensures ok { IfOk result (λ found. modes.target_recipes facts.now targets.now ≡ Ok found) }
+    ensures within { IfOk result (λ found. All (λ number. number < length facts.now.recipes) found) }
+    ensures err { IfErr result (λ fault. IsRefusedAs fault (modes.target_recipes facts.now targets.now)) }
     ensures refusal { IfErr result (λ fault. is_refusal fault ≡ true) }
     ensures no_failure { mode_failed result ≡ false }
 {
     let mut found = ListOf::new(alloc);
     for target in targets {
-        let number = number_of(alloc, numbers, target.as_str())?;
+        let number = target_recipe(alloc, facts, target.as_str())?;
         or_status(found.push(number))?;
     }
     Ok(found)
 }
 
-/// The values of the recipes that targets name, each behind its own line, in the order of the targets. All targets are looked up
-/// before the first value, in a map from PNs to recipes that is made once.
+/// The values of the targets' recipes, each behind its own line, in the order of the targets. All targets are looked up before
+/// the first value.
 pub(crate) fn values_of_targets(
     alloc: Global,
     set: &RecipeSet,
     targets: &[Text],
 ) -> Result<Text, Status>
-    ensures ok { IfOk result (λ text. length set.now.stores ≡ length set.now.facts.recipes → steps.values_of_targets set.now targets.now ≡ Ok text) }
-    ensures err { IfErr result (λ fault. length set.now.stores ≡ length set.now.facts.recipes → IsRefusedAs fault (steps.values_of_targets set.now targets.now)) }
+    ensures ok { IfOk result (λ text. modes.values_of_targets set.now targets.now ≡ Ok text) }
+    ensures err { IfErr result (λ fault. IsRefusedAs fault (modes.values_of_targets set.now targets.now)) }
     ensures refusal { IfErr result (λ fault. is_refusal fault ≡ true) }
     ensures no_failure { mode_failed result ≡ false }
 {
-    let numbers = or_status(numbers_by_pn(alloc, set.facts().recipes.as_slice()))?;
-    let found = numbers_of(alloc, &numbers, targets)?;
-    values_of_numbers(alloc, set, found.as_slice())
+    match target_recipes(alloc, set.facts(), targets) {
+        Ok(numbers) => all_values(alloc, set, numbers.as_slice()),
+        Err(status) => Err(status),
+    }
 }

@@ -21,7 +21,7 @@ use std::alloc::Global;
 use tree_model::{Mem, Text};
 
 /// What was made, or the status of want of memory.
-pub(crate) fn or_status<T>(made: Result<T, Mem>) -> Result<T, Status>
+pub fn or_status<T>(made: Result<T, Mem>) -> Result<T, Status>
     ensures ok { IfOk result (λ value. made ≡ Ok value) }
     ensures err { IfErr result (λ fault. fault ≡ status.OutOfMemory) }
 {
@@ -106,8 +106,8 @@ fn recipe_values(alloc: Global, recipe: &RecipeFacts, store: &Datastore) -> Resu
 /// The values of the recipe with this number.
 fn values_of_number(alloc: Global, set: &RecipeSet, number: u32) -> Result<Text, Status>
     requires { number < length set.now.facts.recipes }
-    ensures ok { IfOk result (λ text. steps.values_of_number set.now number ≡ Ok text) }
-    ensures err { IfErr result (λ fault. IsRefusedAs fault (steps.values_of_number set.now number)) }
+    ensures ok { IfOk result (λ text. modes.values_of_number set.now number ≡ Ok text) }
+    ensures err { IfErr result (λ fault. IsRefusedAs fault (modes.values_of_number set.now number)) }
     ensures refusal { IfErr result (λ fault. is_refusal fault ≡ true) }
     ensures no_failure { mode_failed result ≡ false }
 {
@@ -116,14 +116,10 @@ fn values_of_number(alloc: Global, set: &RecipeSet, number: u32) -> Result<Text,
 }
 
 /// The values of the recipes with these numbers, each behind its own line. Only these are evaluated.
-pub(crate) fn values_of_numbers(
-    alloc: Global,
-    set: &RecipeSet,
-    numbers: &[u32],
-) -> Result<Text, Status>
+pub(crate) fn all_values(alloc: Global, set: &RecipeSet, numbers: &[u32]) -> Result<Text, Status>
     requires { All (λ number. number < length set.now.facts.recipes) numbers.now }
-    ensures ok { IfOk result (λ text. steps.values_of_numbers set.now numbers.now ≡ Ok text) }
-    ensures err { IfErr result (λ fault. IsRefusedAs fault (steps.values_of_numbers set.now numbers.now)) }
+    ensures ok { IfOk result (λ text. modes.all_values set.now numbers.now ≡ Ok text) }
+    ensures err { IfErr result (λ fault. IsRefusedAs fault (modes.all_values set.now numbers.now)) }
     ensures refusal { IfErr result (λ fault. is_refusal fault ≡ true) }
     ensures no_failure { mode_failed result ≡ false }
 {

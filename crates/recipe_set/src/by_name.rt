@@ -96,7 +96,7 @@ pub(crate) fn index_of(alloc: Global, appends: &[Text]) -> Result<Appends, Mem>
 }
 
 /// Whether one of the appends belongs to the recipe.
-fn has_any(recipe: &str, appends: &[Text]) -> bool
+pub fn has_any(recipe: &str, appends: &[Text]) -> bool
     ensures { result ≡ list_any (recipes.belongs recipe.now) appends.now }
 {
     for append in appends {

@@ -26,6 +26,8 @@ mod set;
 mod versions;
 
 pub use all::read_all;
+pub use by_name::has_any;
 pub use fault::SetFault;
+pub use names::is_pn;
 pub use set::RecipeSet;
 pub use versions::compare_versions;

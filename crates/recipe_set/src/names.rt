@@ -104,7 +104,7 @@ fn are_pn_bytes(bytes: &[u8]) -> bool
 
 /// Whether the text may be a PN: it is made of letters, digits, `+`, `-` and `.`, is neither `.` nor `..`, and has at most 255
 /// bytes (own rule).
-pub(crate) fn is_pn(pn: &str) -> bool
+pub fn is_pn(pn: &str) -> bool
     ensures { result ≡ recipes.is_pn pn.now }
 {
     are_pn_bytes(pn.as_bytes()) && pn.len() <= 255 && pn != "." && pn != ".."

@@ -1,9 +1,6 @@
 pub mod Written
-pub mod Texts
-pub mod Listed
 pub mod Folder
 pub mod Said
 pub mod Limits
 pub mod Steps
-pub mod Calls
-pub mod Found
+pub mod Ends

@@ -17,12 +17,10 @@ use Rattle.single_run.specs.declared.attempt.Attempt.TheVariants as attempt
 use Rattle.single_run.specs.declared.ending.Ending.{Ending}
 use Rattle.single_run.specs.declared.ending.Ending.TheVariants as ending
 use Rattle.meta_model.specs.CleanBuild.{Entries}
-use Rattle.single_run.specs.Recipe.{recipe_path}
 use Rattle.bb_report.specs.Texts.{fault_text}
 use Rattle.bb_report.specs.Written.{WritesFront}
-use Rattle.single_run.specs.Report.{Prints, PrintsCall, end_text, event_line, event_lines, place_line, plan_text, report}
-use Rattle.single_run.proofs.Said.{place_is}
-use Rattle.single_run.specs.Run.{Concludes, ConcludesAll, ConcludesRun, DidAttempt, DidRun, closing_of, ending_after, ending_at_last, ending_text, status_of_ending, tale_of}
+use Rattle.single_run.specs.Report.{Prints, PrintsCall, end_text, event_line, event_lines, plan_text, report}
+use Rattle.single_run.specs.Run.{Concludes, ConcludesRun, DidAttempt, DidRun, closing_of, ending_after, ending_at_last, ending_text, status_of_ending, tale_of}
 
 -- the status after an attempt, by whether the sink failed before the last line and by the end
 abbrev pub status_by : Attempt → Bool → Bool → Status
@@ -154,7 +152,7 @@ at_last_or_sink ending.Write = inl refl
 at_last_or_sink ending.Memory = inl refl
 
 -- the status before the last line fits the tale
-met_fits : (a : Attempt) (f : Bool) → ConcludesAll (tale_of (closing_of a) ∷ []) (status_of_ending (ending_after a f))
+met_fits : (a : Attempt) (f : Bool) → ConcludesRun (tale_of (closing_of a) ∷ []) (status_of_ending (ending_after a f))
 met_fits a f = (refl, (closing_of a, refl, subst (Concludes (closing_of a)) (ap status_of_ending (at_last_same (ending_after a f))) (concludes a f false)))
 
 -- a text that is a run's, or a front of it
@@ -207,12 +205,3 @@ counts_none n false is = record { later = omega arith; rose = tt; stayed = refl 
 pub prints_none : (base : List ℕ) (failed : Bool) → failed ≡ false → Prints base base [] failed
 prints_none base true is = absurd (false≢true (sym is))
 prints_none base false is = record { whole = sym (append-nil base); front = tt }
-
--- the line of a fault at a place is printed
-pub place_printed : (base now file kind word text name : List ℕ) (line : ℕ) (labels : List (List ℕ)) (detail : List (List ℕ)) (failed : Bool) → file ≡ recipe_path word → text ≡ file → name ≡ kind → detail ≡ []
-    → Prints base now ([] ++ place_line text line name) failed → PrintsCall base now labels 4 [] (status.Metadata file line kind detail) failed
-place_printed base now file kind word text name line labels detail failed file_is text_is name_is none prints =
-    prints_fault base now _ labels 4 (status.Metadata file line kind detail) (status.Metadata file line kind []) failed prints
-    (ap (λ (t : List ℕ). place_line t line name) text_is ∙ ap (λ (n : List ℕ). place_line file line n) name_is
-    ∙ subst (λ (f : List ℕ). place_line f line kind ≡ fault_text (status.Metadata f line kind [])) (sym file_is) (place_is word kind line))
-    (ap (λ (d : List (List ℕ)). status.Metadata file line kind d) none)

@@ -1,6 +1,5 @@
 -- A text is written piece by piece.
-use Rattle.std.proofs.Common.{◌≡◌, ◌++◌, ◌∙◌, sym, ap, refl, ℕ, List, [], take, drop, append_assoc, append-nil, Bool, true, false, subst}
-use Rattle.std.proofs.lemmas.List.{take-append-drop}
+use Rattle.std.proofs.Common.{◌≡◌, ◌++◌, ◌∙◌, sym, ap, refl, ℕ, List, append_assoc, Bool, true, false, subst}
 use Rattle.bb_report.specs.Written.{WritesFront}
 use Rattle.single_run.specs.Report.{Prints}
 

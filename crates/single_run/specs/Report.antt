@@ -13,7 +13,7 @@ use Rattle.meta_model.specs.declared.event.Status.{Status}
 use Rattle.meta_model.specs.declared.event.Status.TheVariants as status
 use Rattle.bb_report.specs.Texts.{fault_text}
 use Rattle.bb_report.specs.Written.{WritesFront}
-use Rattle.single_run.specs.Run.{ConcludesAll}
+use Rattle.single_run.specs.Run.{ConcludesRun}
 
 -- the plan's line: the number of its tasks and of its threads
 abbrev pub plan_text : ℕ → ℕ → List ℕ
@@ -98,11 +98,6 @@ comma_joined [] = []
 comma_joined (text ∷ []) = text
 comma_joined (text ∷ more) = text ++ (codes ", " ++ comma_joined more)
 
--- the line of a fault at a line of a file, or of a file alone
-abbrev pub place_line : List ℕ → ℕ → List ℕ → List ℕ
-place_line file zero kind = codes "fault 3 " ++ (file ++ (codes ": " ++ (kind ++ codes "\n")))
-place_line file (suc line) kind = codes "fault 3 " ++ (file ++ (codes ":" ++ (decimal (suc line) ++ (codes ": " ++ (kind ++ codes "\n")))))
-
 -- the last line of a run
 abbrev pub end_text : List (List ℕ) → List Logged → Status → List ℕ
 end_text labels tale status.Ok =
@@ -134,7 +129,7 @@ abbrev pub WritesCallFront : List ℕ → List ℕ → List (List ℕ) → ℕ �
 WritesCallFront base now labels threads [] s =
     WritesFront base now (fault_text s) ⊎ ((s ≡ status.WriteFault) × WritesFront base now (plan_text (length labels) threads))
 WritesCallFront base now labels threads (tale ∷ tales) s =
-    (met : Status) × ((s ≡ met) ⊎ (s ≡ status.WriteFault)) × (ConcludesAll (tale ∷ tales) met × WritesFront base now (report labels threads tale met))
+    (met : Status) × ((s ≡ met) ⊎ (s ≡ status.WriteFault)) × (ConcludesRun (tale ∷ tales) met × WritesFront base now (report labels threads tale met))
 
 -- What a call wrote: all of its text, or a front of such a text where the sink failed.
 pub record PrintsCall (base now : List ℕ) (labels : List (List ℕ)) (threads : ℕ) (tales : List (List Logged)) (s : Status) (failed : Bool) : Type 0 where

@@ -1,5 +1,5 @@
--- What a run of the one task is: its tale, its bench runs, what it leaves, and how its status fits.
-use Rattle.std.specs.Prelude.{◌≡◌, ◌≢◌, ◌<◌, ◌⊎◌, ◌-◌, ◌^◌, ℕ, Bool, true, false, List, [], ◌∷◌, ◌++◌, Option, Result, Ok, Err, IsOk, length, slice_index, slice_index_or, slice_set, All, ◌≤◌, codes, if◌then◌else◌}
+-- What a run of the one task is, of a recipe with a name and a body: its tale, its bench runs, what it leaves, and how its status fits.
+use Rattle.std.specs.Prelude.{◌≡◌, ◌<◌, ◌⊎◌, ◌-◌, ◌^◌, ℕ, Bool, true, false, List, [], ◌∷◌, ◌++◌, Result, Ok, Err, IsOk, length, slice_index, slice_index_or, slice_set, All, ◌≤◌, codes, if◌then◌else◌}
 use Rattle.tree_model.specs.Tree.{IsTree}
 use Rattle.outside_traits.specs.Fault.{Rose}
 use Rattle.outside_traits.specs.Store.{Store, HoldsTree}
@@ -17,13 +17,8 @@ use Rattle.single_run.specs.declared.ending.Ending.{Ending}
 use Rattle.single_run.specs.declared.ending.Ending.TheVariants as ending
 use Rattle.single_run.specs.declared.attempt.Given.{Given}
 use Rattle.single_run.specs.declared.attempt.Given.TheVariants as given
-use Rattle.single_run.specs.declared.find.FindFault.{FindFault}
-use Rattle.single_run.specs.declared.find.FindFault.TheVariants as find
 use Rattle.meta_model.specs.CleanBuild.{Entries, clean_output}
-use Rattle.meta_model.specs.declared.line.SyntaxFault.{SyntaxFault}
-use Rattle.single_run.specs.Hello.{IsHello, fault_status}
-use Rattle.single_run.specs.Recipe.{label_of, script_of, work_folder}
-use Rattle.single_run.specs.Status.{not_built}
+use Rattle.single_run.specs.Recipe.{script_of, work_folder}
 
 abbrev pub Runs : Type 0
 Runs = List (List ℕ × Entries)
@@ -31,11 +26,6 @@ Runs = List (List ℕ × Entries)
 -- what the one task gives in a clean build
 abbrev pub clean_task : (List ℕ → Entries → Result Entries ℕ) → List ℕ → Result Entries Why
 clean_task gives body = clean_output gives (script_of body) []
-
--- the names of the tasks of the plan, in its order
-abbrev pub labels_of : List (List ℕ) → List (List ℕ)
-labels_of [] = []
-labels_of (name ∷ words) = label_of name ∷ []
 
 -- the number of threads of the plan
 abbrev pub threads : ℕ
@@ -61,10 +51,10 @@ Closes clean _ = ⊥
 abbrev pub IsLegal : Result Entries Why → List Logged → Type 0
 IsLegal clean tale = (closing : Event) × (tale ≡ tale_of closing) × Closes clean closing
 
--- the tales of a call: none, or the legal tale of the one recipe's task
-abbrev pub AreLegal : List (List ℕ) → (List ℕ → Option (List ℕ)) → (List ℕ → Entries → Result Entries ℕ) → List (List Logged) → Type 0
-AreLegal words files gives [] = Unit {0}
-AreLegal words files gives (tale ∷ more) = (more ≡ []) × ((name body : List ℕ) × IsHello words files name body × IsLegal (clean_task gives body) tale)
+-- the tales of a run: none, or the legal one of the one task
+abbrev pub AreLegal : Result Entries Why → List (List Logged) → Type 0
+AreLegal clean [] = Unit {0}
+AreLegal clean (tale ∷ more) = (more ≡ []) × IsLegal clean tale
 
 -- the bench ran the script of a body over the empty layout, once and for the last
 abbrev pub ran_once : Runs → List ℕ → Runs
@@ -81,17 +71,16 @@ abbrev pub RanGiven : {T E : Type 0} → Runs → Runs → List ℕ → Result T
 RanGiven before now body (Ok given) = now ≡ ran_once before body
 RanGiven before now body (Err fault) = (now ≡ before) ⊎ (now ≡ ran_once before body)
 
--- the new runs of the calling thread's bench, for the tales of a call
-abbrev pub RanTales : List (List ℕ) → (List ℕ → Option (List ℕ)) → List (List Logged) → Runs → Runs → Type 0
-RanTales words files [] before now = now ≡ before
-RanTales words files (tale ∷ more) before now =
-    (name body : List ℕ) × IsHello words files name body × ((closing : Event) × (tale ≡ tale_of closing) × RanFor before now body closing)
+-- what a bench ran, for the tales of a run
+abbrev pub RanRun : Runs → Runs → List ℕ → List (List Logged) → Type 0
+RanRun before now body [] = now ≡ before
+RanRun before now body (tale ∷ more) = (closing : Event) × (tale ≡ tale_of closing) × RanFor before now body closing
 
 -- of the benches only the last ran anything, and that ran what the tales say
-pub record RanLast (words : List (List ℕ)) (files : List ℕ → Option (List ℕ)) (tales : List (List Logged)) (before now : List Runs) : Type 0 where
+pub record RanLast (body : List ℕ) (tales : List (List Logged)) (before now : List Runs) : Type 0 where
   pub runs : Runs
   pub only_last : now ≡ slice_set before (length before - 1) runs
-  pub by_tales : RanTales words files tales (slice_index_or before (length before - 1) []) runs
+  pub by_tales : RanRun (slice_index_or before (length before - 1) []) runs body tales
 
 -- The status fits the event that closed the one task. A failed sink makes every status WriteFault but that of a disk
 -- that failed before it.
@@ -103,62 +92,26 @@ Concludes (event.Broke task cut.Bench) s = (s ≡ status.BenchFault) ⊎ (s ≡ 
 Concludes (event.Broke task cut.Fault) s = (s ≡ status.DiskFault) ⊎ (s ≡ status.WriteFault)
 Concludes _ s = ⊥
 
--- the status is a fault of a file's text
-abbrev pub IsFileFault : Status → Type 0
-IsFileFault s = (name : List ℕ) × (line : ℕ) × (w : SyntaxFault) × (s ≡ fault_status name line w)
-
--- the statuses of a call that reached no run
-abbrev pub IsUnreached : Status → Type 0
-IsUnreached s = (s ≡ not_built) ⊎ ((s ≡ status.ReadFault) ⊎ ((s ≡ status.WriteFault) ⊎ ((s ≡ status.OutOfMemory) ⊎ IsFileFault s)))
-
--- the status of a call fits its tales
-abbrev pub ConcludesAll : List (List Logged) → Status → Type 0
-ConcludesAll [] s = IsUnreached s
-ConcludesAll (tale ∷ more) s = (more ≡ []) × ((closing : Event) × (tale ≡ tale_of closing) × Concludes closing s)
-
--- the status of a run fits its tale; without a tale the plan's line failed
+-- The status of a run fits its tales. Without a tale nothing was begun: the plan's line failed, or memory ran out before it.
 abbrev pub ConcludesRun : List (List Logged) → Status → Type 0
-ConcludesRun [] s = s ≡ status.WriteFault
+ConcludesRun [] s = (s ≡ status.WriteFault) ⊎ (s ≡ status.OutOfMemory)
 ConcludesRun (tale ∷ more) s = (more ≡ []) × ((closing : Event) × (tale ≡ tale_of closing) × Concludes closing s)
 
 -- the tale of a run is legal, and under Ok the disk holds the clean output
 abbrev pub DidRun : Type 0 → Result Entries Why → List ℕ → Store → List (List Logged) → Status → Type 0
-DidRun told clean folder held [] s = s ≡ status.WriteFault
+DidRun told clean folder held [] s = (s ≡ status.WriteFault) ⊎ (s ≡ status.OutOfMemory)
 DidRun told clean folder held (tale ∷ more) s =
     (more ≡ []) × (IsLegal clean tale × (s ≡ status.Ok → (tree : Entries) × (clean ≡ Ok tree) × (told → HoldsTree folder tree held)))
-
--- what a bench ran in a run
-abbrev pub RanRun : Runs → Runs → List ℕ → List (List Logged) → Type 0
-RanRun before now body [] = now ≡ before
-RanRun before now body (tale ∷ more) = (closing : Event) × (tale ≡ tale_of closing) × RanFor before now body closing
 
 -- the bench of the calling thread failed in a run
 abbrev pub HasBrokenBench : List (List Logged) → Type 0
 HasBrokenBench tales = tales ≡ tale_of (event.Broke 0 cut.Bench) ∷ []
 
--- the disk holds exactly what a clean build of the one recipe gives
-pub record IsBuilt (words : List (List ℕ)) (files : List ℕ → Option (List ℕ)) (gives : List ℕ → Entries → Result Entries ℕ) (held : Store) : Type 0 where
-  pub name : List ℕ
-  pub body : List ℕ
+-- the disk holds, in the task's work folder, exactly what a clean build gives
+pub record IsBuilt (name body : List ℕ) (gives : List ℕ → Entries → Result Entries ℕ) (held : Store) : Type 0 where
   pub tree : Entries
-  pub hello : IsHello words files name body
   pub clean : clean_task gives body ≡ Ok tree
   pub holds : HoldsTree (work_folder name) tree held
-
--- there is a plan, and the clean build of its one task succeeds
-pub record Succeeds (words : List (List ℕ)) (files : List ℕ → Option (List ℕ)) (gives : List ℕ → Entries → Result Entries ℕ) : Type 0 where
-  pub name : List ℕ
-  pub body : List ℕ
-  pub hello : IsHello words files name body
-  pub clean : IsOk (clean_task gives body)
-
--- there is a plan
-abbrev pub IsPlanned : List (List ℕ) → (List ℕ → Option (List ℕ)) → Type 0
-IsPlanned words files = (name : List ℕ) × (body : List ℕ) × IsHello words files name body
-
--- the statuses of a call that had a plan, but for want of memory
-abbrev pub IsPastPlan : Status → Type 0
-IsPastPlan s = (s ≢ not_built) × ((s ≢ status.ReadFault) × ((s ≢ status.OutOfMemory) × (IsFileFault s → ⊥)))
 
 -- the count of one of the list rose
 abbrev pub SomeRose : List ℕ → List ℕ → Type 0
@@ -241,15 +194,3 @@ abbrev pub DidAttempt : Type 0 → Result Entries Why → List ℕ → Store →
 DidAttempt told clean folder held attempt.Ended = (tree : Entries) × (clean ≡ Ok tree) × (told → HoldsTree folder tree held)
 DidAttempt told clean folder held (attempt.Failed why) = clean ≡ Err why
 DidAttempt told clean folder held _ = Unit {0}
-
--- the first of the words
-abbrev pub first_word : List (List ℕ) → List ℕ
-first_word [] = []
-first_word (word ∷ words) = word
-
--- the status of a refused plan; want of memory may take the place of one that carries texts
-abbrev pub RefusedAs : List (List ℕ) → FindFault → Status → Type 0
-RefusedAs words find.NotBuilt s = (s ≡ not_built) ⊎ (s ≡ status.OutOfMemory)
-RefusedAs words (find.Faulty line w) s = (s ≡ fault_status (first_word words) line w) ⊎ (s ≡ status.OutOfMemory)
-RefusedAs words find.Failed s = s ≡ status.ReadFault
-RefusedAs words find.Memory s = s ≡ status.OutOfMemory

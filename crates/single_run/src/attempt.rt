@@ -1,11 +1,12 @@
 // One task is run, and what it gives is put on the disk.
-ghost use Rattle.std.specs.Prelude.{◌≡◌, ◌≤◌, ◌↔◌, [], IsTrue, Ok, OnOk, IfOk, All, length};
+ghost use Rattle.std.specs.Prelude.{◌≡◌, ◌≤◌, ◌↔◌, [], IsTrue, true, Ok, OnOk, IfOk, All, length};
 ghost use Rattle.tree_model.specs.Tree.{IsTree};
 ghost use Rattle.outside_traits.specs.Fault.{Counts, bench_failed, disk_failed};
 ghost use Rattle.outside_traits.specs.Bench.{Gave, IsTaken};
 ghost use Rattle.outside_traits.specs.Store.{HoldsTree};
 ghost use Rattle.meta_model.specs.CleanBuild.{Entries, limited, output_limit};
-ghost use Rattle.single_run.specs.Recipe.{IsName, script_of, work_folder};
+ghost use Rattle.load_model.specs.Recipes.{is_pn};
+ghost use Rattle.single_run.specs.Recipe.{script_of, work_folder};
 ghost use Rattle.single_run.specs.Run.{DidAttempt, IsShort, RanFor, RanGiven, clean_task, closing_of, ending_after, is_bench, is_disk, outcome_of};
 
 use crate::ending::Ending;
@@ -108,7 +109,7 @@ pub fn try_unless<D: Disk, B: Bench>(
     bench: &mut B,
 ) -> Attempt
     requires reach { 3900 ≤ D.reach }
-    requires name { IsName recipe.now.name }
+    requires name { is_pn recipe.now.name ≡ true }
     ensures did { B.tells → DidAttempt D.tells (clean_task (B.gives bench.old) recipe.now.body) (work_folder recipe.now.name) (D.story disk.new).held result }
     ensures ran { B.tells → RanFor (B.place bench.old).runs (B.place bench.new).runs recipe.now.body (closing_of result) }
     ensures held_back { result ≡ Attempt.Write → IsTrue sink_failed }
@@ -129,7 +130,7 @@ fn try_task<D: Disk, B: Bench>(
     bench: &mut B,
 ) -> Attempt
     requires reach { 3900 ≤ D.reach }
-    requires name { IsName recipe.now.name }
+    requires name { is_pn recipe.now.name ≡ true }
     ensures did { B.tells → DidAttempt D.tells (clean_task (B.gives bench.old) recipe.now.body) (work_folder recipe.now.name) (D.story disk.new).held result }
     ensures ran { B.tells → RanFor (B.place bench.old).runs (B.place bench.new).runs recipe.now.body (closing_of result) }
     ensures tried { result ≡ Attempt.Write → ⊥ }
@@ -211,7 +212,7 @@ fn put_output<D: Disk>(
     tree: &Tree,
 ) -> Result<(), DiskFault>
     requires reach { 3900 ≤ D.reach }
-    requires name { IsName recipe.now.name }
+    requires name { is_pn recipe.now.name ≡ true }
     requires paths { All (λ e. length e.0 ≤ 3072) tree.now }
     requires tree { IsTree tree.now }
     ensures put { OnOk result (D.tells → HoldsTree (work_folder recipe.now.name) tree.now (D.story disk.new).held) }

@@ -1,30 +1,26 @@
-//! The run of one recipe with one task, over the devices that it is handed.
+//! The run of one task, `do_build` of a recipe, over the devices that it is handed.
 //!
-//! `run_recipe` finds the recipe that the words name, runs its task on the last bench, puts what that gives into the task's
-//! work folder on the disk, prints what it does, and hands the devices back with its status and its tale. It is the form of
-//! run that is built so far; other words and files are refused as `NotBuilt`, and a fault of the named recipe's file with its
-//! place.
+//! `run_single` is given the recipe's PN and the body of the function. It runs the task on the last bench, puts what that gives
+//! into the task's work folder on the disk, prints what it does, and hands the devices back with its status and its tale. Which
+//! targets have such a run is worked out in `single_plan`.
 //!
-//! The definitions stand in `specs/`: which words and files are that form (`Hello`, `Recipe`), the tale, the bench runs and the
-//! status of a run (`Run`), and the text that it prints (`Report`).
+//! The definitions stand in `specs/`: the texts of the task (`Recipe`), the tale, the bench runs and the status of a run (`Run`), and
+//! the text that it prints (`Report`).
 //!
 //! Promised, for devices that tell their content: under `Ok` the work folder holds exactly what a clean build gives; the answer
 //! is `Ok` exactly where that build succeeds, where no device failed and memory wasn't wanting; the printed text is the report
-//! of the call's own tale; the bench ran just the started task; each other answer has its cause.
+//! of the run's own tale; the bench ran just the started task; each other answer has its cause.
 #![tactic(auto)]
 
 mod attempt;
-mod call;
 mod ending;
-mod find;
-mod finish;
 mod plan;
 mod printer;
+mod ran;
 mod recipe;
-mod refusal;
 mod room;
 mod run;
+mod single;
 
-pub use call::run_recipe;
-pub use finish::Finish;
-pub use refusal::not_built;
+pub use ran::Ran;
+pub use single::run_single;

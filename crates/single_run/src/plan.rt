@@ -1,23 +1,15 @@
-// What is run.
-ghost use Rattle.std.specs.Prelude.{◌≡◌, ◌∷◌, [], IfOk, IfErr};
-ghost use Rattle.outside_traits.specs.Fault.{Counts};
-ghost use Rattle.single_run.specs.Find.{find_failed};
-ghost use Rattle.single_run.specs.Hello.{IsHello, IsRefusal};
-ghost use Rattle.single_run.specs.Recipe.{IsName, label_of};
+// What a run needs before it begins.
+ghost use Rattle.std.specs.Prelude.{◌≡◌, IfOk};
+ghost use Rattle.single_run.specs.Recipe.{label_of};
 
-use crate::find::FindFault;
-use crate::recipe::{Recipe, find_recipe};
+use crate::recipe::Recipe;
 use crate::room::Room;
-use outside_traits::Layers;
 use std::alloc::Global;
-use tree_model::Text;
+use tree_model::{Mem, Text};
 
 /// A plan of one task.
 #[derive(Drop)]
 pub struct Plan {
-    /// The recipe of the task.
-    pub recipe: Recipe,
-
     /// How the task is written, as `hello:do_build`.
     pub label: Text,
 
@@ -25,25 +17,12 @@ pub struct Plan {
     pub room: Room,
 }
 
-/// Plans the one task that the words name.
-pub fn find_plan<L: Layers>(
-    alloc: Global,
-    words: &[Text],
-    layers: &mut L,
-) -> Result<Plan, FindFault>
-    ensures name { IfOk result (λ plan. IsName plan.recipe.name) }
-    ensures label { IfOk result (λ plan. plan.label ≡ label_of plan.recipe.name) }
-    ensures words { IfOk result (λ plan. words.now ≡ plan.recipe.name ∷ []) }
-    ensures found { IfOk result (λ plan. L.tells → IsHello words.now (L.files layers.old) plan.recipe.name plan.recipe.body) }
-    ensures refused { IfErr result (λ fault. L.tells → IsRefusal words.now (L.files layers.old) fault) }
-    ensures cause { Counts (L.faults layers.old) (L.faults layers.new) (find_failed result) }
+/// Plans the recipe's task.
+pub fn plan_of(alloc: Global, recipe: &Recipe) -> Result<Plan, Mem>
+    ensures { IfOk result (λ plan. plan.label ≡ label_of recipe.now.name) }
 {
-    let recipe = find_recipe(alloc, words, layers)?;
-    let label = recipe.label(alloc)?;
-    let room = Room::new(alloc)?;
     Ok(Plan {
-        recipe,
-        label,
-        room,
+        label: recipe.label(alloc)?,
+        room: Room::new(alloc)?,
     })
 }

@@ -2,7 +2,7 @@
 ghost use Rattle.std.specs.Prelude.{◌≡◌, ◌++◌, ◌∷◌, [], ℕ, List, IsTrue};
 ghost use Rattle.std.specs.Fmt.{decimal};
 ghost use Rattle.outside_traits.specs.Fault.{Counts};
-ghost use Rattle.single_run.specs.Report.{Prints, event_line, place_line, status_line};
+ghost use Rattle.single_run.specs.Report.{Prints, event_line, status_line};
 
 use bb_report::write_all;
 use meta_model::{Cut, Event, Why};
@@ -60,22 +60,6 @@ impl<W: Sink> Printer<W> {
         self.say_line(b"failed ", label, b" status ");
         self.say_number(status);
         self.say(b"\n");
-    }
-
-    /// Prints the line of a fault at a line of a file, or where the line is 0 at a file. Takes no memory.
-    pub fn say_place(&mut self, file: &[u8], line: u32, kind: &[u8])
-        ensures text { W.tells → (base said : List ℕ) → Prints base (W.written self.old.sink) said self.old.failed → Prints base (W.written self.new.sink) (said ++ place_line file.now line kind.now) self.new.failed }
-        ensures cause { (before : ℕ) → Counts before (W.faults self.old.sink) self.old.failed → Counts before (W.faults self.new.sink) self.new.failed }
-    {
-        if line == 0 {
-            self.say_line(b"fault 3 ", file, b": ");
-            self.say(kind);
-            self.say(b"\n");
-        } else {
-            self.say_line(b"fault 3 ", file, b":");
-            self.say_number(line);
-            self.say_line(b": ", kind, b"\n");
-        }
     }
 
     /// Prints the line of an event of the task with this name. Takes no memory.

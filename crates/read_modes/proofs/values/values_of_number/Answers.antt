@@ -1,8 +1,7 @@
 use Rattle.std.proofs.Common.{◌≡◌, ◌∙◌, ap, Ok, get_or}
 use Rattle.std.proofs.lemmas.Result.{IfOk-weaker}
 use Rattle.recipe_facts.proofs.Binding.{if_err_weaker}
-use Rattle.read_modes.specs.Modes.{recipe_values}
-use Rattle.read_modes.specs.Steps.{values_of_number}
+use Rattle.read_modes.specs.Modes.{recipe_values, values_of_number}
 use Rattle.read_modes.specs.Answered.{IsRefusedAs}
 use Rattle.read_modes.proofs.Told.{told_same}
 use Rattle.read_modes.proofs.Numbers.{value_is}

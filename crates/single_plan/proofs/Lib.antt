@@ -1,0 +1,8 @@
+pub mod Forms
+pub mod OneTask
+pub mod AnyGraph
+pub mod OneRun
+pub mod Texts
+pub mod Nodes
+pub mod Formed
+pub mod Told

@@ -1,0 +1,160 @@
+// The one task that a run is for.
+ghost use Rattle.std.specs.Prelude.{◌≡◌, ◌⊎◌, [], List, ℕ, true, IfOk, IfErr};
+ghost use Rattle.std.specs.Option.{option_copied};
+ghost use Rattle.outside_traits.specs.Fault.{Counts};
+ghost use Rattle.outside_traits.specs.Store.{IsListing};
+ghost use Rattle.load_model.specs.Recipes.{is_pn};
+ghost use Rattle.read_modes.specs.Faults.{IsAnswered};
+ghost use Rattle.read_modes.specs.Modes as modes;
+ghost use Rattle.read_modes.specs.Answered.{is_refusal, mode_failed};
+ghost use Rattle.single_plan.specs.Meaning.{asked_meant};
+ghost use Rattle.single_plan.specs.Runs.{HasGraph};
+ghost use Rattle.single_plan.specs.Single.{IsBuilt, IsNoSingle, IsOnlyRecipe, IsSingle};
+ghost use Rattle.single_plan.specs.Steps.{IsDeviceStatus, IsNoForm, IsNoSingleOf, IsSingleOf};
+
+use crate::asked::{Asked, read_asked};
+use crate::form::{body_of_form, only_recipe};
+use crate::graph::{graph_of, number_of_threads};
+use meta_model::{Graph, RecipeFacts, Status};
+use outside_traits::Layers;
+use read_modes::{or_status, plain};
+use std::alloc::Global;
+use tree_model::{Mem, Text};
+
+/// The one task that a run is for, which is `do_build` of a recipe.
+#[derive(Debug, Drop)]
+pub struct Single {
+    /// The recipe's PN.
+    pub name: Text,
+    /// The body of its function `do_build`.
+    pub body: Text,
+}
+
+/// The status of what isn't built so far.
+fn not_built(alloc: Global) -> Status
+    ensures { IsAnswered result modes.not_built }
+{
+    plain(alloc, Text::new(alloc), 0, "NotBuilt")
+}
+
+/// The task of a recipe, with this body.
+fn with_body(recipe: &RecipeFacts, body: Text) -> Result<Single, Mem>
+    ensures name { IfOk result (λ single. single.name ≡ recipe.now.pn) }
+    ensures body { IfOk result (λ single. single.body ≡ body) }
+{
+    Ok(Single {
+        name: recipe.pn.copy()?,
+        body,
+    })
+}
+
+/// The task of the graph's one recipe, where it has the form that is built so far.
+fn single_from<L: Layers>(
+    alloc: Global,
+    layers: &mut L,
+    asked: &Asked,
+    graph: &Graph,
+    recipe: &RecipeFacts,
+) -> Result<Single, Status>
+    requires { IsOnlyRecipe (asked_meant asked.now) graph.now recipe.now }
+    ensures ok { IfOk result (λ single. L.tells → IsBuilt (L.files layers.old) (asked_meant asked.now) graph.now single.name single.body) }
+    ensures name { IfOk result (λ single. is_pn single.name ≡ true) }
+    ensures err { IfErr result (λ status. L.tells → IsDeviceStatus status ⊎ IsNoForm (L.files layers.old) (asked_meant asked.now) graph.now status) }
+    ensures refusal { IfErr result (λ status. is_refusal status ≡ true) }
+    ensures same { L.files layers.new ≡ L.files layers.old }
+    ensures cause { Counts (L.faults layers.old) (L.faults layers.new) (mode_failed result) }
+{
+    match body_of_form(alloc, layers, asked, recipe) {
+        Ok(Some(body)) => or_status(with_body(recipe, body)),
+        Ok(None) => Err(not_built(alloc)),
+        Err(status) => Err(status),
+    }
+}
+
+/// The one task of a graph, where it has the form that is built so far.
+fn single_in<L: Layers>(
+    alloc: Global,
+    layers: &mut L,
+    asked: &Asked,
+    graph: &Graph,
+) -> Result<Single, Status>
+    ensures ok { IfOk result (λ single. L.tells → IsBuilt (L.files layers.old) (asked_meant asked.now) graph.now single.name single.body) }
+    ensures name { IfOk result (λ single. is_pn single.name ≡ true) }
+    ensures err { IfErr result (λ status. L.tells → IsDeviceStatus status ⊎ IsNoForm (L.files layers.old) (asked_meant asked.now) graph.now status) }
+    ensures refusal { IfErr result (λ status. is_refusal status ≡ true) }
+    ensures same { L.files layers.new ≡ L.files layers.old }
+    ensures cause { Counts (L.faults layers.old) (L.faults layers.new) (mode_failed result) }
+{
+    match only_recipe(asked, graph) {
+        Some(recipe) => single_from(alloc, layers, asked, graph, recipe),
+        None => Err(not_built(alloc)),
+    }
+}
+
+/// The one task of a graph whose run has a number of threads.
+fn single_with<L: Layers>(
+    alloc: Global,
+    layers: &mut L,
+    asked: &Asked,
+    graph: &Graph,
+) -> Result<Single, Status>
+    requires { HasGraph (asked_meant asked.now) graph.now }
+    ensures ok { IfOk result (λ single. L.tells → IsSingleOf (L.files layers.old) (asked_meant asked.now) single.name single.body) }
+    ensures name { IfOk result (λ single. is_pn single.name ≡ true) }
+    ensures err { IfErr result (λ status. L.tells → IsNoSingleOf (L.files layers.old) (asked_meant asked.now) status) }
+    ensures refusal { IfErr result (λ status. is_refusal status ≡ true) }
+    ensures same { L.files layers.new ≡ L.files layers.old }
+    ensures cause { Counts (L.faults layers.old) (L.faults layers.new) (mode_failed result) }
+{
+    match number_of_threads(alloc, asked) {
+        Ok(_) => single_in(alloc, layers, asked, graph),
+        Err(status) => Err(status),
+    }
+}
+
+/// The one task of what is asked for.
+fn single_of<L: Layers>(alloc: Global, layers: &mut L, asked: &Asked) -> Result<Single, Status>
+    ensures ok { IfOk result (λ single. L.tells → IsSingleOf (L.files layers.old) (asked_meant asked.now) single.name single.body) }
+    ensures name { IfOk result (λ single. is_pn single.name ≡ true) }
+    ensures err { IfErr result (λ status. L.tells → IsNoSingleOf (L.files layers.old) (asked_meant asked.now) status) }
+    ensures refusal { IfErr result (λ status. is_refusal status ≡ true) }
+    ensures same { L.files layers.new ≡ L.files layers.old }
+    ensures cause { Counts (L.faults layers.old) (L.faults layers.new) (mode_failed result) }
+{
+    match graph_of(alloc, asked) {
+        Ok(graph) => single_with(alloc, layers, asked, &graph),
+        Err(status) => Err(status),
+    }
+}
+
+/// Finds the one task that words are a run for. `task` is the task of targets that name none, as the option `-c` gives it; where
+/// it isn't given, BB_DEFAULT_TASK of the configuration counts.
+///
+/// The answer is the PN and the body of `do_build` of a recipe: of the run that the words have (`specs/Runs.antt`, `IsRun`), where
+/// its graph is of the form that is built so far (`specs/Single.antt`, `IsSingle`).
+///
+/// - `Metadata` and `Limit`: as `specs/Runs.antt` says (`IsRunRefused`): the configuration, the recipes, the default task, a word
+///   of another configuration, the graph and the number of threads, in this order. `Metadata` of the kind `NotBuilt` comes besides
+///   where the words have a run of another form, and only there.
+/// - `ReadFault`: only where the layers' count of faults rose in the call.
+/// - `OutOfMemory`: memory ran out.
+///
+/// No call changes a file.
+pub fn find_single<L: Layers>(
+    alloc: Global,
+    layers: &mut L,
+    words: &[Text],
+    task: Option<&Text>,
+) -> Result<Single, Status>
+    ensures ok { IfOk result (λ single. L.tells → (paths : List (List ℕ)) → IsListing [] (L.files layers.old) paths → IsSingle (L.files layers.old) paths words.now (option_copied task.entry) single.name single.body) }
+    ensures name { IfOk result (λ single. is_pn single.name ≡ true) }
+    ensures err { IfErr result (λ status. L.tells → (paths : List (List ℕ)) → IsListing [] (L.files layers.old) paths → IsNoSingle (L.files layers.old) paths words.now (option_copied task.entry) status) }
+    ensures refusal { IfErr result (λ status. is_refusal status ≡ true) }
+    ensures same { L.files layers.new ≡ L.files layers.old }
+    ensures cause { Counts (L.faults layers.old) (L.faults layers.new) (mode_failed result) }
+{
+    match read_asked(alloc, layers, words, task) {
+        Ok(asked) => single_of(alloc, layers, &asked),
+        Err(status) => Err(status),
+    }
+}
