@@ -1,13 +1,11 @@
 // What the words ask for.
 ghost use Rattle.std.specs.Prelude.{◌≡◌, true, Ok, IfOk, IfErr};
-ghost use Rattle.read_modes.specs.Faults.{IsAnswered};
-ghost use Rattle.read_modes.specs.Modes.{not_built};
 ghost use Rattle.bitbake_top.specs.Answers.{IsRefusal, is_words_refusal};
 ghost use Rattle.bitbake_top.specs.Asked as asked;
 
 use command_words::{Mode, Request, WordsFault, read_words};
 use meta_model::Status;
-use read_modes::{ReadMode, plain};
+use read_modes::{ReadMode, not_built};
 use std::alloc::Global;
 use tree_model::{Text, Texts};
 
@@ -32,13 +30,6 @@ pub struct RunRequest {
 
     /// Whether all options that were given are built so far. Of others it is said once the run is found.
     pub built: bool,
-}
-
-/// The status of what isn't built so far, or of want of memory for it.
-pub fn unbuilt(alloc: Global) -> Status
-    ensures { IsAnswered result not_built }
-{
-    plain(alloc, Text::new(alloc), 0, "NotBuilt")
 }
 
 /// Whether an option was given that isn't built so far.
@@ -66,7 +57,7 @@ fn reading_of(alloc: Global, mode: ReadMode, request: Request) -> Result<Asked, 
     ensures refusal { IfErr result (λ status. is_words_refusal status ≡ true) }
 {
     if has_unbuilt_option(&request) {
-        return Err(unbuilt(alloc));
+        return Err(not_built(alloc));
     }
     Ok(Asked::Reads {
         mode,
@@ -85,7 +76,7 @@ fn asked_for(alloc: Global, request: Request) -> Result<Asked, Status>
         Mode::Environment => reading_of(alloc, ReadMode::Environment, request),
         Mode::Versions => reading_of(alloc, ReadMode::Versions, request),
         Mode::Parse => reading_of(alloc, ReadMode::Parse, request),
-        Mode::Dry | Mode::Sample(_) => Err(unbuilt(alloc)),
+        Mode::Dry | Mode::Sample(_) => Err(not_built(alloc)),
     }
 }
 

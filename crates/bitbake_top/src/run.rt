@@ -5,7 +5,7 @@ ghost use Rattle.outside_traits.specs.Fault.{Counts, Rose};
 ghost use Rattle.outside_traits.specs.Store.{IsListing};
 ghost use Rattle.load_model.specs.Recipes.{is_pn};
 ghost use Rattle.read_modes.specs.Answered.{is_refusal, mode_failed};
-ghost use Rattle.read_modes.specs.Modes.{not_built};
+ghost use Rattle.read_modes.specs.Modes.{not_built as unbuilt};
 ghost use Rattle.single_plan.specs.Single.{IsSingle};
 ghost use Rattle.single_run.specs.Recipe.{label_of};
 ghost use Rattle.single_run.specs.Report.{WritesCallFront, call_text};
@@ -13,10 +13,11 @@ ghost use Rattle.single_run.specs.Run.{AreLegal, AreUnchanged, HasBrokenBench, I
 ghost use Rattle.bitbake_top.specs.Run.{ConcludesAll, HasRun, IsNotBuilt, IsPlanned, IsUnrun, Names, Succeeds, WhereBegun};
 
 use crate::answer::refuse;
-use crate::asked::{RunRequest, unbuilt};
+use crate::asked::RunRequest;
 use crate::finish::Finish;
 use meta_model::Status;
 use outside_traits::{Bench, Disk, Layers, Sink};
+use read_modes::not_built;
 use single_plan::{Single, find_single};
 use single_run::{Ran, run_single};
 use std::alloc::Global;
@@ -36,7 +37,7 @@ fn find<L: Layers>(alloc: Global, layers: &mut L, request: &RunRequest) -> Resul
         return found;
     }
     match found {
-        Ok(_) => Err(unbuilt(alloc)),
+        Ok(_) => Err(not_built(alloc)),
         Err(status) => Err(status),
     }
 }
@@ -84,14 +85,14 @@ pub fn run<L: Layers, D: Disk, B: Bench, W: Sink>(
     ensures unrun { result.tales.items ≡ [] → result.status ≢ Status.WriteFault → L.tells
         → (paths : List (List ℕ)) → IsListing [] (L.files layers) paths
         → IsUnrun (L.files layers) paths request.now result.status }
-    ensures not_built { result.status ≡ not_built → L.tells
+    ensures not_built { result.status ≡ unbuilt → L.tells
         → (paths : List (List ℕ)) → IsListing [] (L.files layers) paths
         → IsNotBuilt (L.files layers) paths request.now }
     ensures told { L.tells
         → (paths : List (List ℕ)) → IsListing [] (L.files layers) paths
         → IsUnchanged (L.faults layers) (L.faults result.layers)
         → result.status ≢ Status.OutOfMemory
-        → IsNotBuilt (L.files layers) paths request.now → result.status ≡ not_built }
+        → IsNotBuilt (L.files layers) paths request.now → result.status ≡ unbuilt }
     ensures planned { is_refusal result.status ≡ false → L.tells
         → (paths : List (List ℕ)) → IsListing [] (L.files layers) paths
         → IsPlanned (L.files layers) paths request.now }

@@ -180,34 +180,60 @@ fn built(alloc: Global, facts: &FactSet, targets: &[Target]) -> Result<Graph> {
     }
 }
 
+/// What a graph has, and how long it took to build.
+#[derive(Clone, Copy)]
+struct Measured {
+    tasks: usize,
+    dependencies: usize,
+    deepest: u32,
+    micros: u128,
+}
+
+/// Builds the graph of targets so many times, but at least once.
+fn build_often(
+    rt: &HostRuntime,
+    facts: &FactSet,
+    targets: &[Target],
+    rounds: usize,
+) -> Result<Measured> {
+    let start = Instant::now(rt)?;
+    let mut graph = built(rt.alloc(), facts, targets)?;
+    for _ in 1..rounds {
+        graph = built(rt.alloc(), facts, targets)?;
+    }
+    let micros = start.elapsed(rt)?.as_micros() / rounds.max(1) as u128;
+    let nodes = graph.nodes.as_slice();
+    Ok(Measured {
+        tasks: nodes.len(),
+        dependencies: dependencies(&graph),
+        deepest: nodes.last().map_or(0, |node| node.depth),
+        micros,
+    })
+}
+
+/// Makes so many tasks of so many recipes, and builds the graph of the last ones so many times.
+fn measure(rt: &HostRuntime, count: usize, recipes: usize, rounds: usize) -> Result<Measured> {
+    let Ok(facts) = facts(rt.alloc(), count, recipes) else {
+        bail!("memory ran out");
+    };
+    let Ok(targets) = targets(rt.alloc(), count, recipes) else {
+        bail!("memory ran out");
+    };
+    build_often(rt, &facts, targets.as_slice(), rounds)
+}
+
 fn main(rt: HostRuntime) -> Result<()> {
-    let alloc = rt.alloc();
-    let arguments: Vec<String> = env::args(&rt)?.collect(alloc)?;
+    let arguments: Vec<String> = env::args(&rt)?.collect(rt.alloc())?;
     let count = number(arguments.get(1), 6500);
     let recipes = number(arguments.get(2), 200);
     let rounds = number(arguments.get(3), 1);
-    let timed = arguments.get(4).is_some_and(|word| word.as_str() == "time");
-    let Ok(facts) = facts(alloc, count, recipes) else {
-        bail!("memory ran out");
-    };
-    let Ok(targets) = targets(alloc, count, recipes) else {
-        bail!("memory ran out");
-    };
-    let start = Instant::now(&rt)?;
-    let mut graph = built(alloc, &facts, targets.as_slice())?;
-    for _ in 1..rounds {
-        graph = built(alloc, &facts, targets.as_slice())?;
-    }
-    let took = start.elapsed(&rt)?.as_micros();
-    let nodes = graph.nodes.as_slice();
-    let deepest = nodes.last().map_or(0, |node| node.depth);
+    let made = measure(&rt, count, recipes, rounds)?;
     println!(&rt;
-        "{} tasks, {} dependencies, {deepest} deep",
-        nodes.len(),
-        dependencies(&graph)
+        "{} tasks, {} dependencies, {} deep",
+        made.tasks, made.dependencies, made.deepest
     )?;
-    if timed {
-        println!(&rt; "build: {} us", took / rounds.max(1) as u128)?;
+    if arguments.get(4).is_some_and(|word| word.as_str() == "time") {
+        println!(&rt; "build: {} us", made.micros)?;
     }
     Ok(())
 }

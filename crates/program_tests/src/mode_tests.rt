@@ -50,10 +50,13 @@ fn values_are_printed(rt: HostRuntime) -> Result<(), Fail> {
     Ok(())
 }
 
+// A target of `-e` is found as that of a run is; its task isn't looked at.
 #[test]
-fn unknown_target(rt: HostRuntime) -> Result<(), Fail> {
-    let text = "fault 3 NothingProvides other\n";
-    assert!(rt; is_answer(&rt, &["-e", "other"], 3, text)?);
+fn targets_of_values(rt: HostRuntime) -> Result<(), Fail> {
+    assert!(rt; is_answer(&rt, &["-e", "other"], 3, "fault 3 NothingProvides other\n")?);
+    let left = read(&rt, &["-e", "hello:nosuch"])?;
+    assert_eq!(rt; left.code, 0);
+    assert!(rt; left.text.as_str().starts_with("# hello\n"));
     Ok(())
 }
 

@@ -24,5 +24,5 @@ mod values;
 
 pub use graph_faults::{graph_status, nothing_provides};
 pub use modes::{ReadMode, read_config, read_mode, read_recipes};
-pub use said::{plain, value_status};
+pub use said::{not_built, value_status};
 pub use values::or_status;

@@ -7,6 +7,7 @@ ghost use Rattle.meta_model.specs.Refusal.{unstable};
 ghost use Rattle.datastore.specs.Faults.{refusal_of};
 ghost use Rattle.class_inherit.specs.Faults.{data_refusal};
 ghost use Rattle.read_modes.specs.Said as said;
+ghost use Rattle.read_modes.specs.Modes as modes;
 ghost use Rattle.read_modes.specs.Faults.{IsAnswered, IsAnsweredAs, IsLoadAnswer};
 
 use class_inherit::{LoadFault, LoadKind};
@@ -77,11 +78,18 @@ pub(crate) fn named(alloc: Global, file: Text, line: u32, kind: &str, name: Text
     }
 }
 
-/// A fault of metadata of this kind alone, or want of memory; without a file the path is empty, and without a line it is 0.
-pub fn plain(alloc: Global, file: Text, line: u32, kind: &str) -> Status
+/// A fault of metadata of this kind alone.
+pub(crate) fn plain(alloc: Global, file: Text, line: u32, kind: &str) -> Status
     ensures { IsAnswered result (status.Metadata file line kind.now []) }
 {
     metadata(alloc, file, line, kind, Texts::new(alloc))
+}
+
+/// The status of what isn't built so far, or of want of memory for it. It has no place.
+pub fn not_built(alloc: Global) -> Status
+    ensures { IsAnswered result modes.not_built }
+{
+    plain(alloc, Text::new(alloc), 0, "NotBuilt")
 }
 
 /// A limit of this kind that was passed.

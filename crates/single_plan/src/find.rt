@@ -4,8 +4,6 @@ ghost use Rattle.std.specs.Option.{option_copied};
 ghost use Rattle.outside_traits.specs.Fault.{Counts};
 ghost use Rattle.outside_traits.specs.Store.{IsListing};
 ghost use Rattle.load_model.specs.Recipes.{is_pn};
-ghost use Rattle.read_modes.specs.Faults.{IsAnswered};
-ghost use Rattle.read_modes.specs.Modes as modes;
 ghost use Rattle.read_modes.specs.Answered.{is_refusal, mode_failed};
 ghost use Rattle.single_plan.specs.Meaning.{asked_meant};
 ghost use Rattle.single_plan.specs.Runs.{HasGraph};
@@ -17,7 +15,7 @@ use crate::form::{body_of_form, only_recipe};
 use crate::graph::{graph_of, number_of_threads};
 use meta_model::{Graph, RecipeFacts, Status};
 use outside_traits::Layers;
-use read_modes::{or_status, plain};
+use read_modes::{not_built, or_status};
 use std::alloc::Global;
 use tree_model::{Mem, Text};
 
@@ -28,13 +26,6 @@ pub struct Single {
     pub name: Text,
     /// The body of its function `do_build`.
     pub body: Text,
-}
-
-/// The status of what isn't built so far.
-fn not_built(alloc: Global) -> Status
-    ensures { IsAnswered result modes.not_built }
-{
-    plain(alloc, Text::new(alloc), 0, "NotBuilt")
 }
 
 /// The task of a recipe, with this body.

@@ -127,15 +127,19 @@ fn fill(alloc: Global, store: &mut Datastore, lines: &[EntryLine]) -> Result<boo
     Ok(same)
 }
 
-/// Entries of every kind.
-fn lines_of(alloc: Global) -> Result<Vec<EntryLine>, Mem> {
-    let mut made = Vec::new(alloc);
+/// Puts assignments at the end, plain ones and late ones.
+fn put_values(made: &mut Vec<EntryLine>, alloc: Global) -> Result<(), Mem> {
     made.push(set(alloc, "OVERRIDES", Op::Set, "one:${T}")?)?;
     made.push(set(alloc, "T", Op::Weak, "two")?)?;
     made.push(set(alloc, "A", Op::Set, "a ${B}")?)?;
     made.push(set(alloc, "A:two", Op::PutBlank, "b")?)?;
     made.push(append(alloc, "A", "two", " c")?)?;
     made.push(set(alloc, "B${T}", Op::Add, "d")?)?;
+    Ok(())
+}
+
+/// Puts a flag, an exported function and tasks at the end.
+fn put_tasks(made: &mut Vec<EntryLine>, alloc: Global) -> Result<(), Mem> {
     made.push(EntryLine::Flag {
         name: Text::from_str(alloc, "B")?,
         flag: Text::from_str(alloc, "f")?,
@@ -148,12 +152,26 @@ fn lines_of(alloc: Global) -> Result<Vec<EntryLine>, Mem> {
     })?;
     made.push(task(alloc, "do_a", "do_b")?)?;
     made.push(task(alloc, "do_b", "do_c")?)?;
+    Ok(())
+}
+
+/// Puts entries that take something away at the end.
+fn put_removals(made: &mut Vec<EntryLine>, alloc: Global) -> Result<(), Mem> {
     made.push(EntryLine::NoTask {
         task: Text::from_str(alloc, "do_c")?,
     })?;
     made.push(EntryLine::Unset {
         name: Text::from_str(alloc, "B")?,
     })?;
+    Ok(())
+}
+
+/// Entries of every kind.
+fn lines_of(alloc: Global) -> Result<Vec<EntryLine>, Mem> {
+    let mut made = Vec::new(alloc);
+    put_values(&mut made, alloc)?;
+    put_tasks(&mut made, alloc)?;
+    put_removals(&mut made, alloc)?;
     Ok(made)
 }
 

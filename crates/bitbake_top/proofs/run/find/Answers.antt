@@ -7,7 +7,7 @@ returns-then-request-clause-err g c =
 
 pub returns-in-Ok-clause-err : goal.returns-in-Ok-clause-err
 returns-in-Ok-clause-err g c told paths lists =
-    option_unbuilt (g.L.Layers.files c.args.layers.now) paths c.args.request.now c.as_slice.result.now _ _ _ c.unbuilt.result c.as_slice.ensures c.as_ref-task.ensures.value (c.in-Ok.ensures.ok told paths lists) c.if-request.false c.unbuilt.ensures
+    option_unbuilt (g.L.Layers.files c.args.layers.now) paths c.args.request.now c.as_slice.result.now _ _ _ c.not_built.result c.as_slice.ensures c.as_ref-task.ensures.value (c.in-Ok.ensures.ok told paths lists) c.if-request.false c.not_built.ensures
 
 pub returns-clause-err : goal.returns-clause-err
 returns-clause-err g c told paths lists =
