@@ -1,5 +1,7 @@
 // A project in memory, and what a call leaves.
-use bitbake_top::bitbake;
+ghost use Rattle.std.specs.Prelude.{◌<◌, IfOk, vec_len};
+
+use bitbake_top::{Finish, bitbake};
 use outside_mem::{FailDisk, MemDisk, MemLayers, MemSink, Rule, ScriptTable};
 use std::str;
 use std::test::Fail;
@@ -131,31 +133,69 @@ fn lines_of(rt: &HostRuntime, disk: &MemDisk) -> Result<String, Fail> {
     Ok(lines)
 }
 
-/// Calls the program on the project, with one bench.
-pub fn call(rt: &HostRuntime, project: &Project) -> Result<Left, Fail> {
-    let alloc = rt.alloc();
-    let mut words = Vec::new(alloc);
+/// The words of a project.
+fn words_of(rt: &HostRuntime, project: &Project) -> Result<Vec<Text>, Fail> {
+    let mut words = Vec::new(rt.alloc());
     for word in project.words {
-        words.push(Text::from_str(alloc, word)?)?;
+        words.push(Text::from_str(rt.alloc(), word)?)?;
     }
-    let mut old = Vec::new(alloc);
-    old.push((
-        Text::from_str(alloc, "work/hello/do_build/old.txt")?,
-        file(rt, "old\n")?,
-    ))?;
-    old.push((
-        Text::from_str(alloc, "work/other/do_build/kept.txt")?,
-        file(rt, "kept\n")?,
-    ))?;
-    let disk = FailDisk::new(MemDisk::new(alloc, old)?, project.disk_fail);
-    let mut benches = Vec::new(alloc);
+    Ok(words)
+}
+
+/// Puts a file with this text at the end.
+fn put_file(
+    files: &mut Vec<(Text, Entry)>,
+    rt: &HostRuntime,
+    path: &str,
+    text: &str,
+) -> Result<(), Fail> {
+    let path = Text::from_str(rt.alloc(), path)?;
+    files.push((path, file(rt, text)?))?;
+    Ok(())
+}
+
+/// A disk with two old files, which fails as the project says.
+fn disk(rt: &HostRuntime, project: &Project) -> Result<FailDisk, Fail> {
+    let mut old = Vec::new(rt.alloc());
+    put_file(&mut old, rt, "work/hello/do_build/old.txt", "old\n")?;
+    put_file(&mut old, rt, "work/other/do_build/kept.txt", "kept\n")?;
+    Ok(FailDisk::new(MemDisk::new(rt.alloc(), old)?, project.disk_fail))
+}
+
+/// The one bench.
+fn benches(rt: &HostRuntime, project: &Project) -> Result<Vec<ScriptTable>, Fail>
+    ensures { IfOk result (λ made. 0 < vec_len made) }
+{
+    let mut benches = Vec::new(rt.alloc());
     benches.push(bench(rt, project)?)?;
-    let sink = MemSink::new(alloc, numbers(rt, project.sink_fail)?)?;
-    let finish = bitbake(alloc, &words, layers(rt, project)?, disk, benches, sink);
+    Ok(benches)
+}
+
+/// A sink, which fails as the project says.
+fn sink(rt: &HostRuntime, project: &Project) -> Result<MemSink, Fail> {
+    Ok(MemSink::new(rt.alloc(), numbers(rt, project.sink_fail)?)?)
+}
+
+/// What a call left.
+fn left_of(
+    rt: &HostRuntime,
+    finish: Finish<MemLayers, FailDisk, ScriptTable, MemSink>,
+) -> Result<Left, Fail> {
     let text = str::from_utf8(finish.sink.written()).unwrap_or("no text");
     Ok(Left {
         code: finish.status.code(),
-        text: String::from_str(alloc, text)?,
+        text: String::from_str(rt.alloc(), text)?,
         held: lines_of(rt, &finish.disk.into_disk())?,
     })
+}
+
+/// Calls the program on the project, with one bench.
+pub fn call(rt: &HostRuntime, project: &Project) -> Result<Left, Fail> {
+    let words = words_of(rt, project)?;
+    let layers = layers(rt, project)?;
+    let disk = disk(rt, project)?;
+    let benches = benches(rt, project)?;
+    let sink = sink(rt, project)?;
+    let finish = bitbake(rt.alloc(), &words, layers, disk, benches, sink);
+    left_of(rt, finish)
 }
