@@ -30,38 +30,32 @@ fn tree_of(rt: &HostRuntime, taken: Result<Taken, BenchFault>) -> Result<String,
     Ok(lines)
 }
 
+/// Lays a program, a link to it, and a file in each of the two other folders. Whether all were laid.
+fn lay_input(rt: &HostRuntime, bench: &mut ShBench<HostRuntime>) -> Result<bool, Fail> {
+    let alloc = rt.alloc();
+    let tool = bench.put(alloc, "work/sub/tool", &file(rt, true, "echo tool\n")?);
+    let name = bench.put(alloc, "work/name", &link(rt, "sub/tool")?);
+    let dep = bench.put(alloc, "deps/p/do_x/d", &file(rt, false, "dep")?);
+    let plain = bench.put(alloc, "files/f", &file(rt, false, "plain")?);
+    Ok(tool.is_ok() && name.is_ok() && dep.is_ok() && plain.is_ok())
+}
+
+/// Lays what a bench finds from before, a folder without rights among it.
+fn lay_old(rt: &HostRuntime) -> Result<bool, Fail> {
+    lay(rt, "build/bench/3/work/old", "old")?;
+    shell(
+        rt,
+        "mkdir build/bench/3/shut && touch build/bench/3/shut/x && chmod 555 build/bench/3/shut",
+    )
+}
+
 #[test]
 fn bench_runs_scripts(rt: HostRuntime) -> Result<(), Fail> {
     let room = enter(&rt, "bench_runs_scripts")?;
-    lay(&rt, "build/bench/3/work/old", "old")?;
-    assert!(rt;
-        shell(
-            &rt,
-            "mkdir build/bench/3/shut && touch build/bench/3/shut/x && chmod 555 build/bench/3/shut"
-        )?
-    );
+    assert!(rt; lay_old(&rt)?);
     let mut bench = ShBench::new(rt.clone()?, 3)?;
     assert_eq!(rt; bench.clear(rt.alloc()), Ok(()));
-    assert_eq!(rt;
-        bench.put(
-            rt.alloc(),
-            "work/sub/tool",
-            &file(&rt, true, "echo tool\n")?
-        ),
-        Ok(())
-    );
-    assert_eq!(rt;
-        bench.put(rt.alloc(), "work/name", &link(&rt, "sub/tool")?),
-        Ok(())
-    );
-    assert_eq!(rt;
-        bench.put(rt.alloc(), "deps/p/do_x/d", &file(&rt, false, "dep")?),
-        Ok(())
-    );
-    assert_eq!(rt;
-        bench.put(rt.alloc(), "files/f", &file(&rt, false, "plain")?),
-        Ok(())
-    );
+    assert!(rt; lay_input(&rt, &mut bench)?);
     let script = "
         pwd > here; cat > input; sh name > tooled; cat \"$DEPSDIR/p/do_x/d\" \"$FILESDIR/f\" > laid
         test \"$(pwd)\" = \"$WORKDIR\" && test \"${WORKDIR#/}\" != \"$WORKDIR\" && echo same > place
@@ -74,10 +68,15 @@ fn bench_runs_scripts(rt: HostRuntime) -> Result<(), Fail> {
         "dangling: link nowhere\nhome: file none\n\ninput: file \nlaid: file depplain\nname: link sub/tool\nplace: file same\n\nrun: program x\nshut/y: file y\nsub/tool: program echo tool\n\ntooled: file tool\n\n";
     let taken = bench.take(rt.alloc(), ROOM);
     assert_eq!(rt; tree_of(&rt, taken)?.as_str(), wanted);
-    assert_eq!(rt;
-        fs::read_to_string(&rt, "build/bench/3/log")?.as_str(),
-        "out\nerr\n"
-    );
+    let log = fs::read_to_string(&rt, "build/bench/3/log")?;
+    assert_eq!(rt; log.as_str(), "out\nerr\n");
+    leave(&rt, room.as_str())
+}
+
+#[test]
+fn bench_tells_statuses(rt: HostRuntime) -> Result<(), Fail> {
+    let room = enter(&rt, "bench_tells_statuses")?;
+    let mut bench = ShBench::new(rt.clone()?, 3)?;
     for (script, status) in [
         ("exit 7", 7),
         ("kill -9 $$", 137),
