@@ -491,5 +491,26 @@ else
     echo "skipped folders and files that are shut: this is root, and there is no setpriv"
 fi
 
+# The case files, by this program over real folders.
+python3 "$top/tests/cases.py" --program "$program" >"$room/cases"
+sed '$d' "$room/cases"
+more=$(sed -n '$s/^\([0-9]*\) passed, \([0-9]*\) failed$/\1 \2/p' "$room/cases")
+holds "the cases are run" test -n "$more"
+passed=$((passed + ${more% *}))
+failed=$((failed + ${more#* }))
+
+# A case with one wrong line is reported with its name, over devices in memory and over real folders.
+mkdir -p "$room/wrong/topic" || exit 1
+printf 'An append has no blank.\nfile conf/bitbake.conf\n|A = "1"\n|A:append = "2"\nrun -e\nstatus 0\nline A="12"\n' >"$room/wrong/topic/right.case"
+sed 's/^line A="12"$/line A="1 2"/' "$room/wrong/topic/right.case" >"$room/wrong/topic/wrong.case"
+for runner in "$top/crates/cases/out/cases" "python3 $top/tests/cases.py --program $program --data $room/wrong"; do
+    # (words are split on purpose)
+    (cd "$room/wrong" && exec $runner) >"$room/text" 2>&1
+    status=$?
+    holds "a wrong case, by ${runner##*/}" test "$status" -eq 1
+    holds "its name, by ${runner##*/}" grep -q '^topic/wrong: run 1.*: the text has no line A="1 2"' "$room/text"
+    holds "no other name, by ${runner##*/}" test "$(grep -c '^topic/' "$room/text")" -eq 1
+done
+
 echo "$passed passed, $failed failed"
 test "$failed" -eq 0

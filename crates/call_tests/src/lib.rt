@@ -1,0 +1,20 @@
+//! Tests of calls that no case shows: calls that the program doesn't make yet (`print`, `references`, lists), and graphs of tasks, which
+//! it doesn't print yet. Each call answers at a concrete type and with ample memory; the expected values come from the rules, by hand.
+#![tactic(auto)]
+
+#[cfg(test)]
+mod chains;
+#[cfg(test)]
+mod facts;
+#[cfg(test)]
+mod graphs;
+#[cfg(test)]
+mod lists;
+#[cfg(test)]
+mod pairs;
+#[cfg(test)]
+mod printing;
+#[cfg(test)]
+mod references;
+#[cfg(test)]
+mod shown;

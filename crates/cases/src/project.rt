@@ -1,0 +1,219 @@
+// A project in memory: its files, what the disk holds, and what its scripts do.
+ghost use Rattle.std.specs.Prelude.{◌<◌, IfOk, vec_len};
+
+use crate::wrong::Wrong;
+use bitbake_top::{Finish, bitbake};
+use outside_mem::{FailDisk, MemDisk, MemLayers, MemSink, Rule, ScriptTable};
+use std::alloc::Global;
+use std::collections::BTreeMap;
+use std::mem;
+use tree_model::{Bytes, Entry, Text, Tree};
+
+/// Where the outputs of tasks stand on the disk.
+const WORK: &str = "work/";
+
+/// Entries by their paths, each as its kind and its content.
+pub type Listing = BTreeMap<String, Vec<u8>>;
+
+/// What a script does that holds a text.
+#[derive(Drop)]
+struct Script {
+    needle: String,
+    puts: Vec<(Text, Entry)>,
+    status: u32,
+}
+
+/// Which call of each device fails in the next run, from 1; 0 is none.
+#[derive(Clone, Copy)]
+pub struct Fails {
+    pub layers: u64,
+    pub disk: u64,
+    pub bench: u64,
+    pub sink: u64,
+}
+
+/// No call of a device fails.
+pub const NONE_FAILS: Fails = Fails {
+    layers: 0,
+    disk: 0,
+    bench: 0,
+    sink: 0,
+};
+
+/// What a run answered.
+#[derive(Drop)]
+pub struct Ran {
+    pub code: u8,
+    pub text: Vec<u8>,
+}
+
+/// A project, from run to run.
+#[derive(Drop)]
+pub struct Project {
+    files: BTreeMap<String, Vec<u8>>,
+    held: Vec<(Text, Entry)>,
+    scripts: Vec<Script>,
+    pub fails: Fails,
+}
+
+impl Project {
+    /// No files, an empty disk, no rules for scripts, and devices that don't fail.
+    pub fn new(alloc: Global) -> Project {
+        Project {
+            files: BTreeMap::new(alloc),
+            held: Vec::new(alloc),
+            scripts: Vec::new(alloc),
+            fails: NONE_FAILS,
+        }
+    }
+
+    /// A file of the project, in place of one at that path.
+    pub fn put_file(&mut self, path: String, bytes: Vec<u8>) -> Result<(), Wrong> {
+        let _ = self.files.insert(path, bytes)?;
+        Ok(())
+    }
+
+    /// Takes a file away.
+    pub fn remove_file(&mut self, path: &str) -> Result<(), Wrong> {
+        match self.files.remove(path) {
+            Some(_) => Ok(()),
+            None => Err(Wrong::Says("there is no such file to remove")),
+        }
+    }
+
+    /// Something that the disk holds, in place of what it held at that path.
+    pub fn hold(&mut self, alloc: Global, path: &str, entry: Entry) -> Result<(), Wrong> {
+        self.held.retain(|it| it.0.as_str() != path);
+        self.held.push((Text::from_str(alloc, path)?, entry))?;
+        Ok(())
+    }
+
+    /// A rule for scripts that hold a text: they end well and write nothing, so far.
+    pub fn add_script(&mut self, alloc: Global, needle: String) -> Result<(), Wrong> {
+        self.scripts.push(Script {
+            needle,
+            puts: Vec::new(alloc),
+            status: 0,
+        })?;
+        Ok(())
+    }
+
+    /// What such scripts write, too.
+    pub fn add_output(&mut self, alloc: Global, path: &str, entry: Entry) -> Result<(), Wrong> {
+        match self.scripts.last_mut() {
+            Some(script) => {
+                script.puts.push((Text::from_str(alloc, path)?, entry))?;
+                Ok(())
+            }
+            None => Err(Wrong::Says("there is no script before it")),
+        }
+    }
+
+    /// The status with which such scripts end.
+    pub fn set_exit(&mut self, status: u32) -> Result<(), Wrong> {
+        match self.scripts.last_mut() {
+            Some(script) => {
+                script.status = status;
+                Ok(())
+            }
+            None => Err(Wrong::Says("there is no script before it")),
+        }
+    }
+
+    /// Calls the program with these words, over devices with what the project has. What it leaves on the disk is held from then on.
+    pub fn run(&mut self, alloc: Global, words: &Vec<Text>) -> Result<Ran, Wrong> {
+        let fails = mem::replace(&mut self.fails, NONE_FAILS);
+        let layers = self.layers(alloc, fails.layers)?;
+        let held = mem::replace(&mut self.held, Vec::new(alloc));
+        let disk = FailDisk::new(MemDisk::new(alloc, held)?, fails.disk);
+        let benches = self.benches(alloc, fails.bench)?;
+        let sink = MemSink::new(alloc, numbers(alloc, fails.sink)?)?;
+        self.take(alloc, bitbake(alloc, words, layers, disk, benches, sink))
+    }
+
+    /// What a call left: its disk is held from then on.
+    fn take(
+        &mut self,
+        alloc: Global,
+        finish: Finish<MemLayers, FailDisk, ScriptTable, MemSink>,
+    ) -> Result<Ran, Wrong> {
+        let code = finish.status.code();
+        let mut text = Vec::new(alloc);
+        text.extend_from_slice(finish.sink.written())?;
+        self.held = copied(alloc, finish.disk.into_disk().held())?;
+        Ok(Ran { code, text })
+    }
+
+    fn layers(&self, alloc: Global, fail: u64) -> Result<MemLayers, Wrong> {
+        let mut files = Vec::new(alloc);
+        for (path, bytes) in &self.files {
+            let bytes = Bytes::from_slice(alloc, bytes.as_slice())?;
+            files.push((Text::from_str(alloc, path.as_str())?, bytes))?;
+        }
+        Ok(MemLayers::new(alloc, files, numbers(alloc, fail)?)?)
+    }
+
+    /// The one bench.
+    fn benches(&self, alloc: Global, fail: u64) -> Result<Vec<ScriptTable>, Wrong>
+        ensures { IfOk result (λ made. 0 < vec_len made) }
+    {
+        let mut benches = Vec::new(alloc);
+        benches.push(ScriptTable::new(alloc, self.rules(alloc)?, numbers(alloc, fail)?))?;
+        Ok(benches)
+    }
+
+    fn rules(&self, alloc: Global) -> Result<Vec<Rule>, Wrong> {
+        let mut rules = Vec::new(alloc);
+        for script in &self.scripts {
+            rules.push(Rule {
+                needle: Text::from_str(alloc, script.needle.as_str())?,
+                puts: Tree::from_entries(copied(alloc, script.puts.as_slice())?)?,
+                status: script.status,
+            })?;
+        }
+        Ok(rules)
+    }
+
+    /// What stands on the disk below `work/`, by paths below it.
+    pub fn work(&self, alloc: Global) -> Result<Listing, Wrong> {
+        let mut found = BTreeMap::new(alloc);
+        for (path, entry) in &self.held {
+            if let Some(inside) = path.as_str().strip_prefix(WORK) {
+                let _ = found.insert(String::from_str(alloc, inside)?, shown(alloc, entry)?)?;
+            }
+        }
+        Ok(found)
+    }
+}
+
+/// The number alone.
+fn numbers(alloc: Global, number: u64) -> Result<Vec<u64>, Wrong> {
+    let mut list = Vec::new(alloc);
+    list.push(number)?;
+    Ok(list)
+}
+
+/// The same paths and entries again.
+fn copied(alloc: Global, list: &[(Text, Entry)]) -> Result<Vec<(Text, Entry)>, Wrong> {
+    let mut made = Vec::new(alloc);
+    for (path, entry) in list {
+        made.push((Text::from_str(alloc, path.as_str())?, entry.copy()?))?;
+    }
+    Ok(made)
+}
+
+/// The kind of an entry and its content.
+pub fn shown(alloc: Global, entry: &Entry) -> Result<Vec<u8>, Wrong> {
+    let mut text = Vec::new(alloc);
+    match entry {
+        Entry::File { exec, bytes } => {
+            text.extend_from_slice(if *exec { b"executable\n" } else { b"file\n" })?;
+            text.extend_from_slice(bytes.as_slice())?;
+        }
+        Entry::Link { target } => {
+            text.extend_from_slice(b"link ")?;
+            text.extend_from_slice(target.as_str().as_bytes())?;
+        }
+    }
+    Ok(text)
+}
