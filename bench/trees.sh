@@ -4,39 +4,30 @@
 # A tree of 16,384 entries is laid over one of the same size, with all, half and none of its paths the same; 64 MiB are
 # digested by `Hash::of` and by the plain loop of `sha2`. Prints the best of seven runs of each. An overlay is to take less
 # than 20 ms, and `Hash::of` to reach 80% of the loop's speed.
-#
-# Usage: bench/trees.sh [PROGRAM]. PROGRAM is what `rt run` builds of crates/tree_bench; without it the script has it built.
-set -eu
-cd "$(dirname "$0")/.."
-program=${1:-crates/tree_bench/out/tree_bench}
-if [ ! -x "$program" ]; then
-    (cd crates/tree_bench && rt run -- 64 1 > /dev/null)
-fi
-scratch=$(mktemp -d)
-trap 'rm -rf "$scratch"' EXIT
+. "$(dirname -- "$0")/head.sh"
+built tree_bench
 
 for _ in 1 2 3 4 5 6 7; do
     "$program" 16384 64 time
 done | sed -n 's/ us$//p' > "$scratch/times"
 
-# best NAME prints the least number of microseconds behind the name
-best() {
+# least NAME prints the least number of microseconds behind the name
+least() {
     sed -n "s/^$1: //p" "$scratch/times" | sort -n | head -n 1
 }
 
-missed=0
 printf '%-32s %10s\n' 'overlay of 16,384 on 16,384' 'ms'
 for row in '0:all paths the same' '8192:half of them' '16384:none'; do
-    took=$(best "overlay ${row%%:*}")
-    awk -v name="${row#*:}" -v took="$took" 'BEGIN { printf "%-32s %10.1f\n", name, took / 1000; exit !(took < 20000) }' || missed=$((missed + 1))
+    took=$(least "overlay ${row%%:*}")
+    awk -v name="${row#*:}" -v took="$took" 'BEGIN { printf "%-32s %10.1f\n", name, took / 1000 }'
+    aim "${row#*:}" 'v1 < 20000' "$took"
 done
-hash=$(best 'Hash::of')
-plain=$(best 'sha2 loop')
+hash=$(least 'Hash::of')
+plain=$(least 'sha2 loop')
 awk -v hash="$hash" -v plain="$plain" 'BEGIN {
     printf "%-32s %10.1f\n", "Hash::of 64 MiB", hash / 1000
     printf "%-32s %10.1f\n", "the loop of sha2", plain / 1000
     printf "%-32s %9.0f%%\n", "speed against the loop", 100 * plain / hash
-    exit !(plain >= 0.8 * hash)
-}' || missed=$((missed + 1))
-echo "$missed of 4 aims missed"
-[ "$missed" -eq 0 ]
+}'
+aim 'Hash::of' 'v2 >= 0.8 * v1' "$hash" "$plain"
+finish

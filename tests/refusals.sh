@@ -1,32 +1,76 @@
 #!/bin/sh
-# Refuses each allocation of a program once, apart from the gate: `sh tests/refusals.sh [NAME]`, NAME a program of crates/ that
-# makes each refused call again (value_refusals). It needs the program that `rt run` or the gate leaves in crates/NAME/out/,
-# and a C compiler. The program has to end with status 0 and print what its file `stdout` has, whichever allocation was refused.
-cd -- "$(dirname -- "$0")/.." || exit 1
-name=${1:-value_refusals}
-program=$PWD/crates/$name/out/$name
-wanted=$PWD/crates/$name/stdout
+# Refuses each allocation of the program once, apart from the gate, over examples/library_and_application (`-e app`, `-s`, `-p`, and a
+# target that nothing provides) and examples/hello (a run). It needs a C compiler and the program that the gate leaves, or the one that
+# is named: `sh tests/refusals.sh [PROGRAM]`.
+#
+# A run with a refused allocation has to answer as with ample memory, or with status 11 and `fault 11 memory` as its last line: in a
+# reading mode that is all it prints. After each run of hello, a run with ample memory has to leave the clean files.
+top=$(CDPATH='' cd -- "$(dirname -- "$0")/.." && pwd -P) || exit 1
+program=${1:-$top/crates/bitbake_cli/out/bitbake_cli}
 if [ ! -x "$program" ]; then
-    echo "there is no $program: run 'rt run $name' first" >&2
+    echo "there is no program at $program: the gate builds it" >&2
     exit 1
 fi
-folder=$(mktemp -d) || exit 1
-trap 'rm -rf "$folder"' EXIT
-"${CC:-cc}" -shared -fPIC -O2 -o "$folder/fail_alloc.so" tests/fail_alloc.c -ldl || exit 1
-LD_PRELOAD="$folder/fail_alloc.so" COUNT_ALLOC=1 "$program" > "$folder/first" 2> "$folder/count"
-count=$(tail -n 1 "$folder/count")
+room=$(mktemp -d -p /dev/shm) || exit 1
+trap 'rm -rf -- "$room"' EXIT
+trap 'exit 1' HUP INT TERM
+"${CC:-cc}" -shared -fPIC -O2 -o "$room/fail_alloc.so" "$top/tests/fail_alloc.c" -ldl || exit 1
+cp -R "$top/examples/library_and_application" "$room/library" && cp -R "$top/examples/hello" "$room/hello" || exit 1
+rm -rf "$room/library/build" "$room/hello/build"
 passed=0
 failed=0
-number=1
-while [ "$number" -le "$count" ]; do
-    if FAIL_ALLOC=$number LD_PRELOAD="$folder/fail_alloc.so" "$program" > "$folder/printed" 2> /dev/null \
-        && cmp -s "$folder/printed" "$wanted"; then
+
+# Counts a run: the test holds.
+holds() {
+    name=$1
+    shift
+    if "$@"; then
         passed=$((passed + 1))
     else
         failed=$((failed + 1))
-        echo "FAILED: allocation $number is refused"
+        echo "FAILED: $name"
     fi
-    number=$((number + 1))
-done
+}
+
+# Whether the run before answered as with ample memory, or said that memory was wanting.
+is_answer() {
+    if [ "$status" -eq "$wanted" ] && cmp -s "$room/text" "$room/wanted"; then
+        return 0
+    fi
+    [ "$status" -eq 11 ] && [ "$(tail -n 1 "$room/text")" = 'fault 11 memory' ] &&
+        { [ "$kind" = run ] || [ "$(wc -l <"$room/text")" -eq 1 ]; }
+}
+
+# Refuses each allocation of a run with these words in the project, of the kind `run` or `mode`.
+refuse_each() {
+    kind=$1
+    cd "$room/$2" || exit 1
+    shift 2
+    rm -rf build
+    LD_PRELOAD="$room/fail_alloc.so" COUNT_ALLOC=1 "$program" "$@" >"$room/wanted" 2>"$room/count"
+    wanted=$?
+    count=$(tail -n 1 "$room/count")
+    holds "allocations of '$*' are counted" test "$count" -gt 10
+    number=1
+    while [ "$number" -le "$count" ]; do
+        rm -rf build
+        FAIL_ALLOC=$number LD_PRELOAD="$room/fail_alloc.so" "$program" "$@" >"$room/text" 2>/dev/null
+        status=$?
+        holds "allocation $number of '$*' is refused" is_answer
+        if [ "$kind" = run ]; then
+            "$program" "$@" >"$room/text" 2>/dev/null
+            status=$?
+            holds "the run after allocation $number of '$*'" test "$status" -eq 0 -a "$(cat build/work/hello/do_build/hello.txt)" = hello
+        fi
+        number=$((number + 1))
+    done
+}
+
+refuse_each mode library -e app
+refuse_each mode library -s
+refuse_each mode library -p
+refuse_each mode library nosuch
+refuse_each mode library --nope
+refuse_each run hello hello
 echo "$passed passed, $failed failed"
-[ "$count" -gt 0 ] && [ "$failed" -eq 0 ]
+[ "$failed" -eq 0 ]

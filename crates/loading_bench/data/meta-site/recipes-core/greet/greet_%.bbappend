@@ -1,1 +1,0 @@
-TEXT:append = " world"

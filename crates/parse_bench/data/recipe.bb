@@ -1,5 +1,0 @@
-a = "b"
-do_build() {
-    echo hello
-}
-addtask build
