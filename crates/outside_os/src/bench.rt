@@ -14,7 +14,7 @@ use std::os::unix::process::ExitStatusExt;
 use std::process::{Command, ExitStatus, Processes, Stdio};
 use std::rt::{Env, Files};
 use std::{env, fs, io};
-use tree_model::{Entry, Size, Tree, TreeFault};
+use tree_model::{Entry, Size, Text, Tree, TreeFault};
 
 /// The part of a bench in which the script runs, and whose tree is its output.
 const WORK: &str = "work";
@@ -101,11 +101,35 @@ impl<R: Files<File = File> + Env + Processes + AllocGlobal + Clone + Drop> ShBen
     fn try_run(&self, script: &str) -> io::Result<u32> {
         let file = self.whole_place("script")?;
         fs::write(&self.rt, file.as_str(), script)?;
-        let log = File::create(&self.rt, self.place("log")?.as_str())?;
+        self.run_file(file.as_str())
+    }
+
+    /// Runs the script that stands in a file.
+    fn run_file(&self, file: &str) -> io::Result<u32> {
         let mut command = Command::new(self.rt.alloc(), "sh")?;
-        command.arg(file.as_str())?;
+        match self.prepare(&mut command, file) {
+            Ok(()) => self.run_command(command),
+            Err(error) => Err(error),
+        }
+    }
+
+    /// Has a command run the script of a file, in the work folder.
+    fn prepare(&self, command: &mut Command, file: &str) -> io::Result<()> {
+        command.arg(file)?;
         command.current_dir(self.whole_place(WORK)?.as_str())?;
-        self.set_variables(&mut command)?;
+        self.set_variables(command)
+    }
+
+    /// Runs a command, whose output goes to the log.
+    fn run_command(&self, command: Command) -> io::Result<u32> {
+        match File::create(&self.rt, self.place("log")?.as_str()) {
+            Ok(log) => self.run_logged(command, log),
+            Err(error) => Err(error),
+        }
+    }
+
+    /// Runs a command, whose output goes to this file, and gives its status.
+    fn run_logged(&self, mut command: Command, log: File) -> io::Result<u32> {
         command.stdin(Stdio::null());
         command.stdout(log.try_clone()?);
         command.stderr(log);
@@ -146,23 +170,34 @@ impl<R: Files<File = File> + Env + Processes + AllocGlobal + Clone + Drop> ShBen
         let mut entries = Vec::new(self.rt.alloc());
         let mut room = max.bytes;
         for item in items {
-            let whole = join(self.rt.alloc(), root, item.path.as_str())?;
-            open_up(&self.rt, whole.as_str(), &item.metadata)?;
-            let limit = max.largest.min(room);
-            let Some(entry) = read_entry(&self.rt, whole.as_str(), &item.metadata, limit)? else {
-                return Ok(None);
-            };
-            let Some(left) = room.checked_sub(entry.len() as u64) else {
-                return Ok(None);
-            };
-            room = left;
-            entries.push((item.path, entry))?;
+            match self.read_item(root, &item, max.largest.min(room))? {
+                Some(entry) => {
+                    room = room.saturating_sub(entry.len() as u64);
+                    entries.push((item.path, entry))?;
+                }
+                None => return Ok(None),
+            }
         }
-        match Tree::from_entries(entries) {
-            Ok(tree) => Ok(Some(tree)),
-            Err(TreeFault::Memory) => Err(io::Error::from(AllocError)),
-            Err(_) => Ok(None),
+        tree_of(entries)
+    }
+
+    /// The entry of one item, or `None` where it has more bytes than the limit.
+    fn read_item(&self, root: &str, item: &Item, limit: u64) -> io::Result<Option<Entry>> {
+        let whole = join(self.rt.alloc(), root, item.path.as_str())?;
+        open_up(&self.rt, whole.as_str(), &item.metadata)?;
+        match read_entry(&self.rt, whole.as_str(), &item.metadata, limit)? {
+            Some(entry) if entry.len() as u64 <= limit => Ok(Some(entry)),
+            _ => Ok(None),
         }
+    }
+}
+
+/// The tree of these entries, or `None` where they are none.
+fn tree_of(entries: Vec<(Text, Entry)>) -> io::Result<Option<Tree>> {
+    match Tree::from_entries(entries) {
+        Ok(tree) => Ok(Some(tree)),
+        Err(TreeFault::Memory) => Err(io::Error::from(AllocError)),
+        Err(_) => Ok(None),
     }
 }
 

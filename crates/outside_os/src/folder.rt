@@ -2,7 +2,7 @@
 ghost use Rattle.std.specs.Prelude.{◌≤◌, IfOk, IfSome, length};
 
 use std::alloc::Global;
-use std::fs::{Metadata, OpenFile, OpenOptions, Permissions};
+use std::fs::{DirEntry, Metadata, OpenFile, OpenOptions, Permissions};
 use std::io::{ErrorKind, Read, Write};
 use std::os::unix::fs::{MetadataExt, OpenOptionsExt, PermissionsExt, symlink};
 use std::rt::Files;
@@ -351,21 +351,43 @@ fn enter<R: Files + AllocGlobal + Clone + Drop>(
         Err(error) => return Err(error),
     };
     for entry in entries {
-        let entry = entry?;
-        let path = join(rt.alloc(), folder, entry.file_name())?;
-        if !path.as_str().starts_with(part.prefix) {
-            continue;
-        }
-        match entry.metadata() {
-            Ok(metadata) => add(path, metadata, part, walk)?,
-            Err(error) if error.kind() == ErrorKind::NotFound => {}
-            Err(error) => return Err(error),
-        }
+        add_entry(rt, part, folder, entry, walk)?;
         if walk.items.len() as u64 > max {
             break;
         }
     }
     Ok(())
+}
+
+/// Adds an entry of a folder, where its path has the prefix.
+fn add_entry<R: Files + AllocGlobal + Clone + Drop>(
+    rt: &R,
+    part: &Part<'_>,
+    folder: &str,
+    entry: io::Result<DirEntry<R>>,
+    walk: &mut Walk,
+) -> io::Result<()> {
+    let entry = entry?;
+    let path = join(rt.alloc(), folder, entry.file_name())?;
+    if path.as_str().starts_with(part.prefix) {
+        add_there(path, entry.metadata(), part, walk)
+    } else {
+        Ok(())
+    }
+}
+
+/// Adds what has this metadata, unless it is gone.
+fn add_there(
+    path: String,
+    metadata: io::Result<Metadata>,
+    part: &Part<'_>,
+    walk: &mut Walk,
+) -> io::Result<()> {
+    match metadata {
+        Ok(metadata) => add(path, metadata, part, walk),
+        Err(error) if error.kind() == ErrorKind::NotFound => Ok(()),
+        Err(error) => Err(error),
+    }
 }
 
 /// Adds a file or a link to what is found, and a folder to those that are still to enter.
