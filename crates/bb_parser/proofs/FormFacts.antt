@@ -1,11 +1,12 @@
 -- The first form that a line fits, part by part.
-use Rattle.std.proofs.Common.{◌≡◌, ℕ, true, false, not, List, [], ◌∷◌, ◌++◌, refl, ap, ◌∙◌, Option, Some, None, codes}
+use Rattle.std.proofs.Common.{◌≡◌, ℕ, true, false, not, List, [], ◌∷◌, ◌++◌, refl, sym, ap, ◌∙◌, Bool, Option, Some, None, option_map, codes}
 use Rattle.meta_model.specs.declared.statement.Statement.{Statement}
 use Rattle.meta_model.specs.declared.statement.Statement.TheVariants.{Export, Unset, Include, Require, Inherit, ExportFunctions}
 use Rattle.meta_model.specs.Text.{skip_blanks, is_empty, words}
+use Rattle.meta_model.specs.Names.{is_name}
 use Rattle.meta_model.specs.Lines.{opens_body}
 use Rattle.meta_model.specs.Grammar.{Fit, ◌>>=◌, where_true, plain_fit, first_of_two, first_there, function_head, fit_of, behind_word, assignment, flag_assignment, with_name, flag_unset, with_text, with_words, task_parts, task_names}
-use Rattle.bb_parser.specs.Forms.{value_forms_of, directive_forms_of, words_behind_word, exported_assignment}
+use Rattle.bb_parser.specs.Forms.{value_forms_of, directive_forms_of, name_behind_word, text_behind_word, words_behind_word, exported_assignment}
 
 -- the first form of a body's head
 pub fit_of-opens : (text body : List ℕ) → opens_body text ≡ true → fit_of text body ≡ function_head body (skip_blanks text)
@@ -45,3 +46,43 @@ with_words-is word s make = by_case (behind_word word s)
     by_case : (o : Option (List ℕ)) → (o >>= λ t. where_true (not (is_empty (words t))) (words t) >>= λ ws. make ws >>= λ st. Some (plain_fit st)) ≡ ((o >>= λ t. where_true (not (is_empty (words t))) (words t)) >>= λ ws. make ws >>= λ st. Some (plain_fit st))
     by_case None = refl
     by_case (Some t) = refl
+
+where-made : (b : Bool) (make : List ℕ → Statement) (t : List ℕ) → where_true b (plain_fit (make t)) ≡ option_map (λ x. plain_fit (make x)) (where_true b t)
+where-made true make t = refl
+where-made false make t = refl
+
+-- a word and a name are the name behind it and what it makes
+with_name-is : (word s : List ℕ) (make : List ℕ → Statement) → with_name word make s ≡ option_map (λ t. plain_fit (make t)) (name_behind_word word s)
+with_name-is word s make = by_case (behind_word word s)
+  where
+    by_case : (o : Option (List ℕ)) → (o >>= λ n. where_true (is_name n) (plain_fit (make n))) ≡ option_map (λ t. plain_fit (make t)) (o >>= λ n. where_true (is_name n) n)
+    by_case None = refl
+    by_case (Some t) = where-made (is_name t) make t
+
+pub name-some : (word s : List ℕ) (make : List ℕ → Statement) (o : Option (List ℕ)) (t : List ℕ) (f : Fit) → o ≡ name_behind_word word s → o ≡ Some t → f ≡ plain_fit (make t) → with_name word make s ≡ Some f
+name-some word s make o t f h e k = with_name-is word s make ∙ (ap (option_map (λ t. plain_fit (make t))) (sym h ∙ e) ∙ ap Some (sym k))
+
+pub name-none : (word s : List ℕ) (make : List ℕ → Statement) (o : Option (List ℕ)) → o ≡ name_behind_word word s → o ≡ None → with_name word make s ≡ None
+name-none word s make o h e = with_name-is word s make ∙ ap (option_map (λ t. plain_fit (make t))) (sym h ∙ e)
+
+-- a word and a text are the text behind it and what it makes
+with_text-is : (word s : List ℕ) (make : List ℕ → Statement) → with_text word make s ≡ option_map (λ t. plain_fit (make t)) (text_behind_word word s)
+with_text-is word s make = by_case (behind_word word s)
+  where
+    by_case : (o : Option (List ℕ)) → (o >>= λ t. where_true (not (is_empty t)) (plain_fit (make t))) ≡ option_map (λ t. plain_fit (make t)) (o >>= λ t. where_true (not (is_empty t)) t)
+    by_case None = refl
+    by_case (Some t) = where-made (not (is_empty t)) make t
+
+pub text-some : (word s : List ℕ) (make : List ℕ → Statement) (o : Option (List ℕ)) (t : List ℕ) (f : Fit) → o ≡ text_behind_word word s → o ≡ Some t → f ≡ plain_fit (make t) → with_text word make s ≡ Some f
+text-some word s make o t f h e k = with_text-is word s make ∙ (ap (option_map (λ t. plain_fit (make t))) (sym h ∙ e) ∙ ap Some (sym k))
+
+pub text-none : (word s : List ℕ) (make : List ℕ → Statement) (o : Option (List ℕ)) → o ≡ text_behind_word word s → o ≡ None → with_text word make s ≡ None
+text-none word s make o h e = with_text-is word s make ∙ ap (option_map (λ t. plain_fit (make t))) (sym h ∙ e)
+
+-- and so with words
+pub words-some : (word s : List ℕ) (make : List (List ℕ) → Option Statement) (o : Option (List (List ℕ))) (ws : List (List ℕ)) (m : Option Statement) (st : Statement) (f : Fit) → o ≡ words_behind_word word s → o ≡ Some ws → m ≡ make ws → m ≡ Some st
+    → f ≡ plain_fit st → with_words word make s ≡ Some f
+words-some word s make o ws m st f h e k l i = with_words-is word s make ∙ (ap (λ x. x >>= λ ws. make ws >>= λ st. Some (plain_fit st)) (sym h ∙ e) ∙ (ap (λ x. x >>= λ st. Some (plain_fit st)) (sym k ∙ l) ∙ ap Some (sym i)))
+
+pub words-none : (word s : List ℕ) (make : List (List ℕ) → Option Statement) (o : Option (List (List ℕ))) → o ≡ words_behind_word word s → o ≡ None → with_words word make s ≡ None
+words-none word s make o h e = with_words-is word s make ∙ ap (λ x. x >>= λ ws. make ws >>= λ st. Some (plain_fit st)) (sym h ∙ e)

@@ -51,7 +51,7 @@ pub record IsLineOf (line : List ℕ) (s : Statement) : Type 0 where
 -- what a statement's fit comes to
 pub given : (kind : Kind) (text body : List ℕ) (s : Statement) (n : ℕ) → fit_of text body ≡ Some (record { statement = s; inner = n }) → (n == 1) ≡ false → is_python_word text ≡ false → holds_python body ≡ false → statement_holds_python s ≡ false
     → is_fakeroot text ≡ false → statement_is_reserved s ≡ false → is_allowed kind s ≡ true → statement_of kind text body false ≡ Ok s
-given kind text body s n f i p b h k r a = of_rest kind text body false (Some (record { statement = s; inner = n })) f (rw (p, b, h) refl) k i r ∙ rw a refl
+given kind text body s n f i p b h k r a = of_rest kind text body false (Some (record { statement = s; inner = n })) f (rw (p, b, h, k, i, r) refl) ∙ rw a refl
 
 flipped : (a b : ℕ) → (a == b) ≡ false → (b == a) ≡ false
 flipped a b h = by_case (b == a) refl

@@ -5,3 +5,4 @@ pub mod Forms
 pub mod Tasks
 pub mod Reading
 pub mod Written
+pub mod LineFaults

@@ -2,46 +2,71 @@
 ghost use Rattle.std.specs.Prelude.{◌≡◌};
 ghost use Rattle.bb_parser.specs.declared.fault.ParseKind.TheVariants.{Memory};
 ghost use Rattle.bb_parser.specs.declared.fault.PrintFault.TheVariants as unwritten;
+ghost use Rattle.bb_parser.specs.Faults.{is_memory};
 
 use std::alloc::{AllocError, AllocFailed};
+use std::fmt;
+use std::fmt::Formatter;
 use thiserror::Error;
 use tree_model::Mem;
 
 /// The kind of a fault. On one line the first in this order is answered: Python, Fakeroot, OneInnerQuote,
 /// ReservedName, BadLine, OpenFunction (own rule).
-#[derive(Clone, Copy, Debug, PartialEq, Eq, Error)]
+#[derive(Clone, Copy, PartialEq, Eq)]
 pub enum ParseKind {
     /// The line has no form of the file's kind.
-    #[error("no statement of this kind of file")]
     BadLine,
     /// The file ends in the body of a function; the line is that of the function's head.
-    #[error("the function has no end")]
     OpenFunction,
     /// The line, or the body that it opens, is Python or holds a piece of it.
-    #[error("Python is not supported")]
     Python,
     /// The first word of the line is `fakeroot`.
-    #[error("fakeroot is not supported")]
     Fakeroot,
     /// The statement gives something to a name that the program sets.
-    #[error("the name is set by the program")]
     ReservedName,
     /// A quoted text holds exactly one quote of the kind that ends it.
-    #[error("one quote inside a quoted text")]
     OneInnerQuote,
     /// The file isn't UTF-8; the line is that of the first byte that is no part of a character.
-    #[error("the file is not UTF-8")]
     NotUtf8,
     /// The last line of the file ends with a backslash; the line is the first of those that are joined.
-    #[error("nothing follows the last backslash")]
     DanglingJoin,
     /// A comment stands where a joined line goes on.
-    #[error("a comment inside a joined line")]
     CommentInJoin,
     /// Memory ran out.
-    #[error("out of memory")]
     Memory,
 }
+
+impl ParseKind {
+    /// What is wrong, in words.
+    fn message(self) -> &'static str {
+        match self {
+            ParseKind::BadLine => "no statement of this kind of file",
+            ParseKind::OpenFunction => "the function has no end",
+            ParseKind::Python => "Python is not supported",
+            ParseKind::Fakeroot => "fakeroot is not supported",
+            ParseKind::ReservedName => "the name is set by the program",
+            ParseKind::OneInnerQuote => "one quote inside a quoted text",
+            ParseKind::NotUtf8 => "the file is not UTF-8",
+            ParseKind::DanglingJoin => "nothing follows the last backslash",
+            ParseKind::CommentInJoin => "a comment inside a joined line",
+            ParseKind::Memory => "out of memory",
+        }
+    }
+}
+
+impl fmt::Display for ParseKind {
+    fn fmt<W: fmt::Write>(&self, f: &mut Formatter<W>) -> fmt::Result {
+        f.write_str(self.message())
+    }
+}
+
+impl fmt::Debug for ParseKind {
+    fn fmt<W: fmt::Write>(&self, f: &mut Formatter<W>) -> fmt::Result {
+        f.write_str(self.message())
+    }
+}
+
+impl std::error::Error for ParseKind {}
 
 /// The first fault of a file.
 #[derive(Clone, Copy, Debug, PartialEq, Eq, Error)]
@@ -51,6 +76,17 @@ pub struct ParseFault {
     pub line: u32,
     /// What is wrong.
     pub kind: ParseKind,
+}
+
+impl<T: Drop> From<AllocFailed<T>> for ParseFault {
+    ghost from_gives = { λ _ e. is_memory e };
+
+    fn from(_: AllocFailed<T>) -> ParseFault {
+        ParseFault {
+            line: 0,
+            kind: ParseKind::Memory,
+        }
+    }
 }
 
 impl From<Mem> for ParseKind {

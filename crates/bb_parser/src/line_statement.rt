@@ -1,8 +1,9 @@
 // The statement of a logical line, or its first fault.
-ghost use Rattle.std.specs.Prelude.{◌≡◌, ◌==◌, not, IfOk, IfErr, Ok, option_map};
+ghost use Rattle.std.specs.Prelude.{◌≡◌, ◌==◌, not, IfOk, IfErr, Ok, Some, None, option_map};
 ghost use Rattle.meta_model.specs.Statements.{statement_of, statement_of_fit, is_python, statement_holds_python, has_one_inner_quote, statement_is_reserved, has_reserved_name, is_allowed};
 ghost use Rattle.bb_parser.specs.Faults.{IsKindOf};
 ghost use Rattle.bb_parser.specs.Forms.{fit_of_found};
+ghost use Rattle.bb_parser.specs.LineFaults.{text_fault, place_fault};
 
 use crate::fault::ParseKind;
 use crate::forms::{LineFit, first_fit};
@@ -118,6 +119,19 @@ fn may_stand(kind: Kind, statement: &Statement) -> bool
     }
 }
 
+/// What is wrong where a statement stands in a file of this kind; `is_open` says that the file ends in its body.
+fn fault_of_place(kind: Kind, is_open: bool, statement: &Statement) -> Option<ParseKind>
+    ensures { result ≡ place_fault kind is_open statement.now }
+{
+    if !may_stand(kind, statement) {
+        Some(ParseKind::BadLine)
+    } else if is_open {
+        Some(ParseKind::OpenFunction)
+    } else {
+        None
+    }
+}
+
 /// The statement of a fit in which nothing else is wrong.
 fn allowed_statement(
     kind: Kind,
@@ -127,16 +141,41 @@ fn allowed_statement(
     ensures ok { IfOk result (λ s. statement_of_fit kind is_open (option_map fit_of_found fit) ≡ Ok s) }
     ensures err { IfErr result (λ e. IsKindOf e (statement_of_fit kind is_open (option_map fit_of_found fit))) }
 {
-    let Some(found) = fit else {
-        return Err(ParseKind::BadLine);
-    };
-    if !may_stand(kind, &found.statement) {
-        return Err(ParseKind::BadLine);
+    match fit {
+        Some(found) => placed_statement(kind, is_open, found.statement),
+        None => Err(ParseKind::BadLine),
     }
-    if is_open {
-        return Err(ParseKind::OpenFunction);
+}
+
+/// The statement, where it may stand in a file of this kind.
+fn placed_statement(kind: Kind, is_open: bool, statement: Statement) -> Result<Statement, ParseKind>
+    ensures ok { IfOk result (λ s. (place_fault kind is_open statement ≡ None) × (s ≡ statement)) }
+    ensures err { IfErr result (λ e. place_fault kind is_open statement ≡ Some e) }
+{
+    match fault_of_place(kind, is_open, &statement) {
+        Some(fault) => {
+            drop(statement);
+            Err(fault)
+        }
+        None => Ok(statement),
     }
-    Ok(found.statement)
+}
+
+/// What is wrong with a logical line before its form is looked at, in the order of the faults.
+fn fault_of_text(text: &str, body: &str, fit: &Option<LineFit>) -> Option<ParseKind>
+    ensures { result ≡ text_fault text.now body.now (option_map fit_of_found fit.now) }
+{
+    if is_python_line(text, body, fit) {
+        Some(ParseKind::Python)
+    } else if begins_fakeroot(text.as_bytes()) {
+        Some(ParseKind::Fakeroot)
+    } else if has_one_quote(fit) {
+        Some(ParseKind::OneInnerQuote)
+    } else if has_set_name(fit) {
+        Some(ParseKind::ReservedName)
+    } else {
+        None
+    }
 }
 
 /// The statement of a logical line, or its first fault. `body` is the text of the lines up to the `}`; `is_open` says
@@ -154,17 +193,11 @@ pub fn statement_of_line(
     let Ok(fit) = first_fit(alloc, text, body) else {
         return Err(ParseKind::Memory);
     };
-    if is_python_line(text, body, &fit) {
-        return Err(ParseKind::Python);
+    match fault_of_text(text, body, &fit) {
+        Some(fault) => {
+            drop(fit);
+            Err(fault)
+        }
+        None => allowed_statement(kind, is_open, fit),
     }
-    if begins_fakeroot(text.as_bytes()) {
-        return Err(ParseKind::Fakeroot);
-    }
-    if has_one_quote(&fit) {
-        return Err(ParseKind::OneInnerQuote);
-    }
-    if has_set_name(&fit) {
-        return Err(ParseKind::ReservedName);
-    }
-    allowed_statement(kind, is_open, fit)
 }

@@ -86,20 +86,34 @@ fn ends_joined(line: &[u8]) -> bool
     }
 }
 
-/// The line with its end. A line whose end would be dropped or would join it with the next is joined with an empty line,
+/// The end of a line. A line whose end would be dropped or would join it with the next is joined with an empty line,
 /// which keeps its end.
+fn written_end(line: &[u8]) -> &'static str
+    ensures { line.now ++ result.now ≡ whole_line line.now }
+{
+    if ends_joined(line) { "\\\n\n" } else { "\n" }
+}
+
+/// The line with its end.
 fn ended(line: Text) -> Result<Text, PrintFault>
     ensures ok { IfOk result (λ text. text ≡ whole_line line) }
     ensures err { IfErr result (λ e. e ≡ Memory) }
 {
+    let end = written_end(line.as_str().as_bytes());
     let mut text = line;
-    let end = if ends_joined(text.as_str().as_bytes()) {
-        "\\\n\n"
-    } else {
-        "\n"
-    };
     text.push_str(end)?;
     Ok(text)
+}
+
+/// The line of an assignment.
+fn assignment_line(alloc: Global, export: bool, name: &str, op: Op, text: &str) -> Result<Text, Mem>
+    ensures { IfOk result (λ line. line ≡ assignment_text export name.now op text.now) }
+{
+    let mut line = Text::from_str(alloc, written_export(export))?;
+    line.push_str(name)?;
+    line.push_str(written_gap(export, name))?;
+    push_operation(&mut line, op, text)?;
+    Ok(line)
 }
 
 /// `NAME OP QUOTED`, with `export` or without.
@@ -116,11 +130,18 @@ fn written_assignment(
     if !can_be_assigned(name.as_bytes(), op, text.as_bytes()) {
         return Err(PrintFault::NoText);
     }
-    let mut line = Text::from_str(alloc, written_export(export))?;
-    line.push_str(name)?;
-    line.push_str(written_gap(export, name))?;
+    ended(assignment_line(alloc, export, name, op, text)?)
+}
+
+/// The line of an assignment to a flag.
+fn flag_line(alloc: Global, name: &str, flag: &str, op: Op, text: &str) -> Result<Text, Mem>
+    ensures { IfOk result (λ line. line ≡ flag_text name.now flag.now op text.now) }
+{
+    let mut line = Text::from_str(alloc, name)?;
+    push_flag(&mut line, flag)?;
+    line.push_str(" ")?;
     push_operation(&mut line, op, text)?;
-    ended(line)
+    Ok(line)
 }
 
 /// `NAME[FLAG] OP QUOTED`.
@@ -137,11 +158,7 @@ fn written_flag(
     if !can_assign_flag(name.as_bytes(), flag.as_bytes(), text.as_bytes()) {
         return Err(PrintFault::NoText);
     }
-    let mut line = Text::from_str(alloc, name)?;
-    push_flag(&mut line, flag)?;
-    line.push_str(" ")?;
-    push_operation(&mut line, op, text)?;
-    ended(line)
+    ended(flag_line(alloc, name, flag, op, text)?)
 }
 
 /// Writes `[FLAG]`.
@@ -174,6 +191,15 @@ fn written_name(alloc: Global, word: &str, name: &str) -> Result<Text, PrintFaul
     ended(written_behind(alloc, word, name)?)
 }
 
+/// The line that unsets a flag.
+fn unset_flag_line(alloc: Global, name: &str, flag: &str) -> Result<Text, Mem>
+    ensures { IfOk result (λ line. line ≡ line_of_text (codes "unset") (name_and_flag_text name.now flag.now)) }
+{
+    let mut line = written_behind(alloc, "unset", name)?;
+    push_flag(&mut line, flag)?;
+    Ok(line)
+}
+
 /// `unset NAME[FLAG]`.
 fn written_unset_flag(alloc: Global, name: &str, flag: &str) -> Result<Text, PrintFault>
     ensures ok { Writes result (is_free_name name.now && is_flag flag.now) (whole_line (line_of_text (codes "unset") (name_and_flag_text name.now flag.now))) }
@@ -182,9 +208,7 @@ fn written_unset_flag(alloc: Global, name: &str, flag: &str) -> Result<Text, Pri
     if !can_be_flagged(name.as_bytes(), flag.as_bytes()) {
         return Err(PrintFault::NoText);
     }
-    let mut line = written_behind(alloc, "unset", name)?;
-    push_flag(&mut line, flag)?;
-    ended(line)
+    ended(unset_flag_line(alloc, name, flag)?)
 }
 
 /// `include TEXT`, `require TEXT` or `inherit TEXT`.
@@ -199,7 +223,18 @@ fn written_text(alloc: Global, word: &str, text: &str) -> Result<Text, PrintFaul
     ended(line)
 }
 
-/// The head, the body and the closing `}`.
+/// The head, the body and the closing `}` of a function.
+fn function_lines(alloc: Global, name: &str, body: &str) -> Result<Text, Mem>
+    ensures { IfOk result (λ text. text ≡ function_text name.now ++ newline ∷ (body.now ++ close_brace ∷ newline ∷ [])) }
+{
+    let mut text = Text::from_str(alloc, name)?;
+    text.push_str("() {\n")?;
+    text.push_str(body)?;
+    text.push_str("}\n")?;
+    Ok(text)
+}
+
+/// `NAME() {`, the body and `}`.
 fn written_function(alloc: Global, name: &str, body: &str) -> Result<Text, PrintFault>
     ensures ok { Writes result (is_free_name name.now && not (is_python_name name.now) && is_body_text body.now) (function_text name.now ++ newline ∷ (body.now ++ close_brace ∷ newline ∷ [])) }
     ensures err { Refuses result (is_free_name name.now && not (is_python_name name.now) && is_body_text body.now) }
@@ -207,11 +242,7 @@ fn written_function(alloc: Global, name: &str, body: &str) -> Result<Text, Print
     if !can_be_function(name.as_bytes(), body.as_bytes()) {
         return Err(PrintFault::NoText);
     }
-    let mut text = Text::from_str(alloc, name)?;
-    text.push_str("() {\n")?;
-    text.push_str(body)?;
-    text.push_str("}\n")?;
-    Ok(text)
+    Ok(function_lines(alloc, name, body)?)
 }
 
 /// Writes words, each behind a blank.
@@ -270,6 +301,23 @@ fn written_exports(alloc: Global, names: &[Text]) -> Result<Text, PrintFault>
     ended(exports_line(alloc, names)?)
 }
 
+/// The line of `addtask`, with its parts.
+fn tasks_line(alloc: Global, names: &[Text], after: &[Text], before: &[Text]) -> Result<Text, Mem>
+    ensures { IfOk result (λ line. line ≡ codes "addtask" ++ words_text (task_words names.now after.now before.now)) }
+{
+    let mut line = written_list(alloc, "addtask", names)?;
+    push_part(&mut line, "after", after)?;
+    push_part(&mut line, "before", before)?;
+    Ok(line)
+}
+
+/// Whether `addtask` can have these parts.
+fn can_be_added(names: &[Text], after: &[Text], before: &[Text]) -> bool
+    ensures { result ≡ (not (is_empty names.now) && list_all is_task names.now && list_all is_task after.now && list_all is_task before.now) }
+{
+    !has_none(names) && are_tasks(names) && are_tasks(after) && are_tasks(before)
+}
+
 /// `addtask WORDS after WORDS before WORDS`.
 fn written_tasks(
     alloc: Global,
@@ -280,13 +328,10 @@ fn written_tasks(
     ensures ok { Writes result (not (is_empty names.now) && list_all is_task names.now && list_all is_task after.now && list_all is_task before.now) (whole_line (codes "addtask" ++ words_text (task_words names.now after.now before.now))) }
     ensures err { Refuses result (not (is_empty names.now) && list_all is_task names.now && list_all is_task after.now && list_all is_task before.now) }
 {
-    if has_none(names) || !are_tasks(names) || !are_tasks(after) || !are_tasks(before) {
+    if !can_be_added(names, after, before) {
         return Err(PrintFault::NoText);
     }
-    let mut line = written_list(alloc, "addtask", names)?;
-    push_part(&mut line, "after", after)?;
-    push_part(&mut line, "before", before)?;
-    ended(line)
+    ended(tasks_line(alloc, names, after, before)?)
 }
 
 /// `deltask WORDS`.

@@ -2,13 +2,13 @@
 ghost use Rattle.std.specs.Prelude.{◌≡◌, ◌++◌, ◌∷◌, [], OnOk, IfErr};
 ghost use Rattle.bb_parser.specs.Faults.{is_memory};
 
-use crate::fault::{ParseFault, ParseKind};
+use crate::fault::ParseFault;
 use meta_model::Statement;
 use std::alloc::Global;
 use std::marker::Model;
 
 /// Statements, each with the number of the line at which it begins. Contracts see a list of pairs.
-#[derive(Debug, Drop)]
+#[derive(Drop)]
 pub struct Statements {
     list: Vec<(u32, Statement)>,
 }
@@ -37,13 +37,7 @@ impl Statements {
         ensures ok { OnOk result (self.new ≡ self.old ++ (line, statement) ∷ []) }
         ensures err { IfErr result is_memory }
     {
-        match self.list.push((line, statement)) {
-            Ok(()) => Ok(()),
-            Err(_) => Err(ParseFault {
-                line: 0,
-                kind: ParseKind::Memory,
-            }),
-        }
+        Ok(self.list.push((line, statement))?)
     }
 
     /// The statements, in the order of their lines.

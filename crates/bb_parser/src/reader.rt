@@ -125,8 +125,10 @@ fn take_line(
     if !stands_outside(line) {
         return Ok(());
     }
-    let statement = statement_before(alloc, kind, line, rest)?;
-    list.push(line.number, statement)
+    match statement_before(alloc, kind, line, rest) {
+        Ok(statement) => list.push(line.number, statement),
+        Err(fault) => Err(fault),
+    }
 }
 
 /// The statements of logical lines.

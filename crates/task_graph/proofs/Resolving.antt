@@ -73,6 +73,9 @@ resolved_append provide xs ys = filter_map-append (λ n. result_ok (provide n)) 
 pub lacks_append : (provide : List ℕ → Result ℕ (List (List ℕ))) (xs ys : List (List ℕ)) → lacks_provider provide (xs ++ ys) ≡ (lacks_provider provide xs || lacks_provider provide ys)
 lacks_append provide xs ys = list_any-append (λ n. not (is_ok (provide n))) xs ys
 
+same_some : {A : Type 0} (x y : A) → Some x ≡ Some y → x ≡ y
+same_some x y e = cc
+
 -- one more recipe
 pub needed_more : (facts : FactSet) (ys : List RecipeFacts) (all next : List Needed) (i : ℕ) (x : RecipeFacts) (made : Needed) → ys ≡ facts.recipes → i < length ys → x ≡ get_or ys i x → length all ≡ i → next ≡ all ++ made ∷ [] → IsNeeded facts x made
     → ((r : ℕ) (recipe : RecipeFacts) (needed : Needed) → slice_get facts.recipes r ≡ Some recipe → slice_get all r ≡ Some needed → IsNeeded facts recipe needed)
@@ -91,15 +94,15 @@ needed_more facts ys all next i x made same lt is long grown now before r recipe
     by_place : (r ≡ i) ⊎ (r ≡ i → ⊥) → IsNeeded facts recipe needed
     by_place (inl last) =
         let read : Some x ≡ Some recipe = sym (slice_get-get_or facts.recipes i x (subst (λ (l : List RecipeFacts). i < length l) same lt) ∙ ap Some (sym (is ∙ ap (λ (l : List RecipeFacts). get_or l i x) same))) ∙ ap (slice_get facts.recipes) (sym last) ∙ at in
-        let one : x ≡ recipe = cc in
+        let one : x ≡ recipe = same_some x recipe read in
         let read2 : Some made ≡ Some needed = sym (ap (λ (l : List Needed). slice_get l r) grown ∙ ap (slice_get (all ++ made ∷ [])) (last ∙ sym long) ∙ slice_last all made) ∙ got in
-        let two : made ≡ needed = cc in
+        let two : made ≡ needed = same_some made needed read2 in
         subst (IsNeeded facts recipe) two (subst (λ y. IsNeeded facts y made) one now)
     by_place (inr other) =
         let within : r < length all = omega (arith, place_within next r needed got, ap (length {A = Needed}) grown, len_push all made, long, other) in
         let old = there all r within in
         let read : Some old.0 ≡ Some needed = sym (ap (λ (l : List Needed). slice_get l r) grown ∙ slice_push all made old.0 r old.1) ∙ got in
-        let one : old.0 ≡ needed = cc in
+        let one : old.0 ≡ needed = same_some old.0 needed read in
         before r recipe needed at (old.1 ∙ ap Some one)
 
 -- a loop's step over the names that pass a test

@@ -1,12 +1,14 @@
 // The graph of the tasks that targets reach.
 ghost use Rattle.std.specs.Prelude.{◌<◌, ◌≤◌, ◌^◌, IfOk, IfErr, length};
 ghost use Rattle.meta_model.specs.TaskGraph.{IsGraph, HasNoRefusal};
-ghost use Rattle.task_graph.specs.Reached.{IsGraphFault};
+ghost use Rattle.task_graph.specs.Context.{IsContext};
+ghost use Rattle.task_graph.specs.Levels.{AreLevels};
+ghost use Rattle.task_graph.specs.Reached.{AreReached, IsGraphFault};
 
 use crate::context::Context;
 use crate::cycle::turned;
 use crate::fault::GraphFault;
-use crate::levels::level;
+use crate::levels::{Leveled, level};
 use crate::nodes::emit;
 use graph_walk::Depths;
 use meta_model::{FactSet, Graph, Target};
@@ -36,8 +38,28 @@ pub fn build(alloc: Global, facts: &FactSet, targets: &[Target]) -> Result<Graph
     ensures err { IfErr result (IsGraphFault facts.now targets.now) }
 {
     let context = Context::new(alloc, facts)?;
-    let table = &context.table;
     let leveled = level(alloc, facts, &context, targets)?;
+    graph_of(alloc, facts, &context, targets, &leveled)
+}
+
+/// The graph of the tasks that are found, by how deep they stand; or their cycle. Only the contract reads the targets.
+fn graph_of(
+    alloc: Global,
+    facts: &FactSet,
+    context: &Context,
+    targets: &[Target],
+    leveled: &Leveled,
+) -> Result<Graph, GraphFault>
+    requires few { length facts.now.recipes < 2 ^ 32 }
+    requires context { IsContext facts.now context.now }
+    requires reached { AreReached facts.now context.now.table targets.now leveled.now.reached.tasks.items leveled.now.reached.edges.items leveled.now.reached.ends }
+    requires depths { AreLevels facts.now context.now.table targets.now leveled.now.reached.tasks.items leveled.now.depths }
+    ensures graph { IfOk result (IsGraph facts.now targets.now) }
+    ensures few { IfOk result (λ graph. length graph.nodes ≤ 65536) }
+    ensures whole { IfOk result (λ graph. HasNoRefusal facts.now targets.now) }
+    ensures err { IfErr result (IsGraphFault facts.now targets.now) }
+{
+    let table = &context.table;
     let reached = &leveled.reached;
     match &leveled.depths {
         Depths::Cycle(places) => Err(GraphFault::TaskCycle {

@@ -1,0 +1,11 @@
+use Rattle.std.proofs.Common.{codes}
+use Rattle.meta_model.specs.declared.statement.Statement.TheVariants.{Inherit}
+use Rattle.bb_parser.specs.Forms.{fit_of_found}
+use Rattle.bb_parser.proofs.FormFacts.{text-some, text-none}
+use Rattle.bb_parser.proofs.forms.inherited.Goals as goal
+
+pub returns-in-Some : goal.returns-in-Some
+returns-in-Some c = text-some (codes "inherit") c.args.line.now Inherit c.in_ok-names.field-0 c.in-Some.names (fit_of_found c.plain.result) c.in_ok-names.ensures c.in-Some.is c.plain.ensures
+
+pub returns-in-None : goal.returns-in-None
+returns-in-None c = text-none (codes "inherit") c.args.line.now Inherit c.in_ok-names.field-0 c.in_ok-names.ensures c.in-None.is
