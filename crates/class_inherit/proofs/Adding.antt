@@ -1,5 +1,5 @@
 -- Entries behind those that were loaded.
-use Rattle.std.proofs.Common.{◌≡◌, refl, sym, ◌∙◌, ap, subst, ℕ, ◌+◌, ◌<◌, ◌≤◌, List, [], ◌∷◌, ◌++◌, Bool, false, ◌||◌, true, length, take, map, reverse, get_or, append_assoc, Ok, codes}
+use Rattle.std.proofs.Common.{◌≡◌, refl, sym, ◌∙◌, ap, subst, ℕ, ◌+◌, ◌<◌, ◌≤◌, List, [], ◌∷◌, ◌++◌, Bool, false, ◌||◌, true, length, take, map, reverse, get_or, append_assoc, Result, Ok, Err, OnOk, is_ok, codes}
 use Rattle.std.specs.List.{list_any}
 use Rattle.std.proofs.lemmas.List.{append-nil, map-append, take_all, take_more, reverse-append}
 use Rattle.std.proofs.lemmas.List.Folds.{list_any-append}
@@ -76,3 +76,9 @@ taken_fault list found op text read fault o f r h =
 pub plain_text : (lines : List EntryLine) (text bytes made : List ℕ) (b : Bool) → bytes ≡ text → b ≡ holds (codes "${") bytes → b ≡ false → length text ≤ longest → made ≡ text → expand lines text ≡ Ok made
 plain_text lines text bytes made b e h f le m =
     plain_ok (value_by (find_in lines)) [] text (ap (holds (codes "${")) (sym e) ∙ sym h ∙ f) le ∙ ap Ok (sym m)
+
+-- what is so where an answer without a fault says that the call before it had none
+pub on_told : {X Y Z : Type 0} {P Q : Type 0} (done : Result X Y) (answer : Result X Z) → OnOk answer (is_ok done ≡ true) → OnOk done P → (P → Q) → OnOk answer Q
+on_told (Ok x) (Ok y) e h f = f h
+on_told (Err x) (Ok y) e h f = absurd cc
+on_told done (Err y) e h f = tt

@@ -144,6 +144,9 @@ require_parts read sources place origin layer statement text loaded e =
     ap (λ s. statement_after read sources place origin s loaded) (ap (statement_for layer) e ∙ for_require layer text)
     ∙ named_words place (expand loaded.lines (text_for layer text)) (λ ws. includes_after read sources place origin true ws loaded)
 
+abbrev pub then : {A B : Type 0} → Result A LoadRefusal → (A → Result B LoadRefusal) → Result B LoadRefusal
+then m k = m >>= k
+
 -- what follows, where this is no refusal
 pub then_is : {A B : Type 0} (m : Result A LoadRefusal) (k : A → Result B LoadRefusal) (whole : Result B LoadRefusal) (a : A) → whole ≡ (m >>= k) → m ≡ Ok a → whole ≡ k a
 then_is m k whole a w e = w ∙ ap (λ n. n >>= k) e

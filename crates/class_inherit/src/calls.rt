@@ -1,10 +1,10 @@
 // Reading files and classes by name.
-ghost use Rattle.std.specs.Prelude.{◌≡◌, true, false, Ok, IfOk, IfErr, IfSome, is_some, option_map, codes};
+ghost use Rattle.std.specs.Prelude.{◌≡◌, true, false, is_ok, Ok, Err, IfOk, IfErr, IfSome, is_some, option_map, codes};
 ghost use Rattle.outside_traits.specs.Fault.{Counts};
 ghost use Rattle.datastore.specs.Faults.{IsDataFault};
 ghost use Rattle.load_model.specs.LoadRefusal.{asked_at, nowhere};
 ghost use Rattle.load_model.specs.Layers.{words_of};
-ghost use Rattle.load_model.specs.Loading.{sources_of, origin_of, read_first, file_found, entries, searched_entries, class_entries};
+ghost use Rattle.load_model.specs.Loading.{sources_of, origin_of, read_first, file_found, entries, searched_entries, class_entries, classes_after};
 ghost use Rattle.load_model.specs.Recipes.{with_inherit};
 ghost use Rattle.class_inherit.specs.Faults.{cause_of, where_is, IsLoadFault, load_failed};
 ghost use Rattle.class_inherit.specs.Reading.{contents_meant, contents_for, found_meant, sources_for};
@@ -32,6 +32,18 @@ fn nowhere() -> Place<'static>
     Place { file: "", line: 0 }
 }
 
+/// What was read, unless a fault ended it.
+fn finished(reading: Reading, done: Result<(), LoadFault>) -> Result<Reading, LoadFault>
+    ensures ok { IfOk result (λ made. (made ≡ reading) × (is_ok done ≡ true)) }
+    ensures err { IfErr result (λ fault. done ≡ Err fault) }
+    ensures failed { load_failed result ≡ load_failed done }
+{
+    match done {
+        Ok(()) => Ok(reading),
+        Err(fault) => Err(fault),
+    }
+}
+
 /// A file that no statement names.
 fn read_first<L: Layers>(
     alloc: Global,
@@ -40,10 +52,10 @@ fn read_first<L: Layers>(
     reading: Reading,
     kind: Kind,
     path: &str,
-    contents: &Contents,
+    contents: Contents,
 ) -> Result<Reading, LoadFault>
-    ensures ok { IfOk result (λ made. L.tells → read_first (sources_for layer.now (L.files layers.old)) nowhere (origin_of kind path.now) (contents_for layer.now (contents_meant contents.now)) reading ≡ Ok made) }
-    ensures err { IfErr result (λ fault. L.tells → IsLoadFault fault (read_first (sources_for layer.now (L.files layers.old)) nowhere (origin_of kind path.now) (contents_for layer.now (contents_meant contents.now)) reading)) }
+    ensures ok { IfOk result (λ made. L.tells → read_first (sources_for layer.now (L.files layers.old)) nowhere (origin_of kind path.now) (contents_for layer.now (contents_meant contents)) reading ≡ Ok made) }
+    ensures err { IfErr result (λ fault. L.tells → IsLoadFault fault (read_first (sources_for layer.now (L.files layers.old)) nowhere (origin_of kind path.now) (contents_for layer.now (contents_meant contents)) reading)) }
     ensures same { L.files layers.new ≡ L.files layers.old }
     ensures cause { Counts (L.faults layers.old) (L.faults layers.new) (load_failed result) }
 {
@@ -54,7 +66,7 @@ fn read_first<L: Layers>(
         kind,
         class: class_of(path),
     };
-    match read_found(
+    let done = read_found(
         alloc,
         layers,
         layer,
@@ -62,11 +74,9 @@ fn read_first<L: Layers>(
         MOST_NESTED,
         &place,
         &origin,
-        contents,
-    ) {
-        Ok(()) => Ok(reading),
-        Err(fault) => Err(fault),
-    }
+        &contents,
+    );
+    finished(reading, done)
 }
 
 /// A file that was searched. Where there is none, it is passed over or refused.
@@ -86,8 +96,9 @@ fn read_searched<L: Layers>(
 {
     match found {
         Some(found) => {
+            let contents = found.contents;
             let path = found.path.as_str();
-            read_first(alloc, layers, &None, reading, kind, path, &found.contents)
+            read_first(alloc, layers, &None, reading, kind, path, contents)
         }
         None => match pass_file(alloc, &nowhere(), must, path) {
             Ok(()) => Ok(reading),
@@ -120,6 +131,32 @@ fn inherited(alloc: Global, reading: &Reading) -> Result<Texts, LoadFault>
     }
 }
 
+/// The classes of these names, which no statement names; each has to be there.
+fn read_inherited<L: Layers>(
+    alloc: Global,
+    layers: &mut L,
+    reading: Reading,
+    names: &[Text],
+) -> Result<Reading, LoadFault>
+    ensures ok { IfOk result (λ made. L.tells → classes_after (read_first (sources_of (L.files layers.old))) (sources_of (L.files layers.old)) nowhere true names.now reading ≡ Ok made) }
+    ensures err { IfErr result (λ fault. L.tells → IsLoadFault fault (classes_after (read_first (sources_of (L.files layers.old))) (sources_of (L.files layers.old)) nowhere true names.now reading)) }
+    ensures same { L.files layers.new ≡ L.files layers.old }
+    ensures cause { Counts (L.faults layers.old) (L.faults layers.new) (load_failed result) }
+{
+    let mut reading = reading;
+    let place = nowhere();
+    let done = inherit_words(
+        alloc,
+        layers,
+        &None,
+        &mut reading,
+        MOST_NESTED,
+        &place,
+        names,
+    );
+    finished(reading, done)
+}
+
 impl Reading {
     /// Reads a file, with all that it includes and inherits in place. The path is relative to the project folder, and the file
     /// has to be there. (BitBake User Manual, "Syntax and Operators", section "Sharing Functionality".)
@@ -139,7 +176,7 @@ impl Reading {
         ensures cause { Counts (L.faults layers.old) (L.faults layers.new) (load_failed result) }
     {
         match contents_at(alloc, layers, kind, path) {
-            Ok(Some(contents)) => read_first(alloc, layers, &None, self, kind, path, &contents),
+            Ok(Some(contents)) => read_first(alloc, layers, &None, self, kind, path, contents),
             Ok(None) => Err(missing_file(alloc, &nowhere(), path)),
             Err(fault) => Err(fault),
         }
@@ -166,7 +203,7 @@ impl Reading {
     {
         match contents_at(alloc, layers, kind, path) {
             Ok(Some(contents)) => {
-                match read_first(alloc, layers, layer, self, kind, path, &contents) {
+                match read_first(alloc, layers, layer, self, kind, path, contents) {
                     Ok(reading) => Ok(Some(reading)),
                     Err(fault) => Err(fault),
                 }
@@ -217,7 +254,7 @@ impl Reading {
     {
         let mut reading = self;
         let place = nowhere();
-        match inherit_word(
+        let done = inherit_word(
             alloc,
             layers,
             &None,
@@ -226,10 +263,8 @@ impl Reading {
             &place,
             must,
             name,
-        ) {
-            Ok(()) => Ok(reading),
-            Err(fault) => Err(fault),
-        }
+        );
+        finished(reading, done)
     }
 
     /// Reads the classes that INHERIT names, which is expanded once over the entries so far; each has to be there (own rule).
@@ -241,22 +276,8 @@ impl Reading {
         ensures same { L.files layers.new ≡ L.files layers.old }
         ensures cause { Counts (L.faults layers.old) (L.faults layers.new) (load_failed result) }
     {
-        let names = match inherited(alloc, &self) {
-            Ok(names) => names,
-            Err(fault) => return Err(fault),
-        };
-        let mut reading = self;
-        let place = nowhere();
-        match inherit_words(
-            alloc,
-            layers,
-            &None,
-            &mut reading,
-            MOST_NESTED,
-            &place,
-            names.as_slice(),
-        ) {
-            Ok(()) => Ok(reading),
+        match inherited(alloc, &self) {
+            Ok(names) => read_inherited(alloc, layers, self, names.as_slice()),
             Err(fault) => Err(fault),
         }
     }

@@ -1,11 +1,12 @@
 // The entries that statements add.
-ghost use Rattle.std.specs.Prelude.{◌≡◌, ◌∷◌, [], IfOk, IfErr, OnOk, Ok, map, codes};
+ghost use Rattle.std.specs.Prelude.{◌≡◌, ◌∷◌, ◌++◌, [], IfOk, IfErr, OnOk, Ok, is_ok, true, map, codes};
 ghost use Rattle.meta_model.specs.declared.entry.EntryLine.TheVariants as entry;
 ghost use Rattle.meta_model.specs.declared.entry.Op.TheVariants as op;
 ghost use Rattle.meta_model.specs.declared.statement.Statement.TheVariants as statement;
+ghost use Rattle.meta_model.specs.Text.{space};
 ghost use Rattle.meta_model.specs.Names as names;
 ghost use Rattle.meta_model.specs.Entries as entries;
-ghost use Rattle.datastore.specs.Faults.{IsDataFault};
+ghost use Rattle.datastore.specs.Faults.{IsDataFault, IsWantOfMemory};
 ghost use Rattle.load_model.specs.Loading.{with_lines};
 ghost use Rattle.class_inherit.specs.Adding.{added, assigned, exported_line};
 
@@ -16,23 +17,46 @@ use meta_model::{EntryLine, Op, Statement};
 use std::alloc::Global;
 use tree_model::{Mem, Text, Texts};
 
+/// A text with a blank in front of it.
+fn behind_blank(alloc: Global, text: &str) -> Result<Text, Mem>
+    ensures { IfOk result (λ made. made ≡ space ∷ text.now) }
+{
+    let mut made = Text::from_str(alloc, " ")?;
+    made.push_str(text)?;
+    Ok(made)
+}
+
+/// A text with a blank behind it.
+fn before_blank(text: Text) -> Result<Text, Mem>
+    ensures { IfOk result (λ made. made ≡ text ++ space ∷ []) }
+{
+    let mut made = text;
+    made.push_str(" ")?;
+    Ok(made)
+}
+
 /// The text of a late entry: with `+=` a blank stands in front of it, with `=+` behind it (own rule).
 fn late_text(alloc: Global, op: Op, text: Text) -> Result<Text, Mem>
     ensures { IfOk result (λ made. made ≡ entries.late_text op text) }
 {
-    let mut made = text;
     match op {
-        Op::AddBlank => {
-            let mut blank = Text::from_str(alloc, " ")?;
-            blank.push_str(made.as_str())?;
-            Ok(blank)
-        }
-        Op::PutBlank => {
-            made.push_str(" ")?;
-            Ok(made)
-        }
-        Op::Set | Op::Now | Op::Soft | Op::Weak | Op::Add | Op::Put => Ok(made),
+        Op::AddBlank => behind_blank(alloc, text.as_str()),
+        Op::PutBlank => before_blank(text),
+        Op::Set | Op::Now | Op::Soft | Op::Weak | Op::Add | Op::Put => Ok(text),
     }
+}
+
+/// An assignment to a late name.
+fn later_line(alloc: Global, late: LateName, op: Op, text: Text) -> Result<EntryLine, Mem>
+    ensures { IfOk result (λ made. made ≡ entry.Later late.target late.kind late.when (entries.late_text op text)) }
+{
+    let text = late_text(alloc, op, text)?;
+    Ok(EntryLine::Later {
+        target: late.target,
+        kind: late.kind,
+        when: late.when,
+        text,
+    })
 }
 
 /// An assignment to a name, which may be late.
@@ -40,19 +64,28 @@ fn assignment_line(alloc: Global, name: &str, op: Op, text: Text) -> Result<Entr
     ensures { IfOk result (λ made. made ≡ entries.assignment_line name.now op text) }
 {
     match late_name(alloc, name)? {
-        Some(LateName { target, kind, when }) => {
-            let text = late_text(alloc, op, text)?;
-            Ok(EntryLine::Later {
-                target,
-                kind,
-                when,
-                text,
-            })
-        }
+        Some(late) => later_line(alloc, late, op, text),
         None => {
             let name = Text::from_str(alloc, name)?;
             Ok(EntryLine::Set { name, op, text })
         }
+    }
+}
+
+/// One more entry, which is given away.
+fn give(alloc: Global, reading: &mut Reading, line: EntryLine) -> Result<(), Mem>
+    ensures { OnOk result (reading.new ≡ with_lines (line ∷ []) reading.old) }
+{
+    reading.apply(alloc, &line)
+}
+
+/// An assignment to a name, which may be late, and whose text is taken.
+fn add_line(alloc: Global, reading: &mut Reading, name: &str, op: Op, text: Text) -> Result<(), Mem>
+    ensures { OnOk result (reading.new ≡ with_lines (entries.assignment_line name.now op text ∷ []) reading.old) }
+{
+    match assignment_line(alloc, name, op, text) {
+        Ok(line) => give(alloc, reading, line),
+        Err(_) => Err(Mem),
     }
 }
 
@@ -66,15 +99,14 @@ fn add_flag(alloc: Global, reading: &mut Reading, name: &str, flag: &str) -> Res
         op: Op::Set,
         text: Text::from_str(alloc, "1")?,
     };
-    reading.apply(alloc, &line)
+    give(alloc, reading, line)
 }
 
 /// A function: its body by `=`, and the flag `func` of its name up to the first colon.
 fn add_function(alloc: Global, reading: &mut Reading, name: &str, body: &Text) -> Result<(), Mem>
     ensures { OnOk result (reading.new ≡ with_lines (entries.assignment_line name.now op.Set body.now ∷ entries.set_flag (names.first_part name.now) (codes "func") ∷ []) reading.old) }
 {
-    let line = assignment_line(alloc, name, Op::Set, body.copy()?)?;
-    reading.apply(alloc, &line)?;
+    add_line(alloc, reading, name, Op::Set, body.copy()?)?;
     add_flag(alloc, reading, first_part(name), "func")
 }
 
@@ -83,7 +115,7 @@ fn add_unset(alloc: Global, reading: &mut Reading, name: &Text) -> Result<(), Me
     ensures { OnOk result (reading.new ≡ with_lines (entry.Unset name.now ∷ []) reading.old) }
 {
     let line = EntryLine::Unset { name: name.copy()? };
-    reading.apply(alloc, &line)
+    give(alloc, reading, line)
 }
 
 /// A flag of a name is unset.
@@ -94,7 +126,7 @@ fn add_unset_flag(alloc: Global, reading: &mut Reading, name: &Text, flag: &Text
         name: name.copy()?,
         flag: flag.copy()?,
     };
-    reading.apply(alloc, &line)
+    give(alloc, reading, line)
 }
 
 /// EXPORT_FUNCTIONS of one function of a class.
@@ -105,7 +137,7 @@ fn add_exported(alloc: Global, reading: &mut Reading, class: &str, name: &Text) 
         class: Text::from_str(alloc, class)?,
         name: name.copy()?,
     };
-    reading.apply(alloc, &line)
+    give(alloc, reading, line)
 }
 
 /// EXPORT_FUNCTIONS of functions of a class.
@@ -133,7 +165,7 @@ fn add_task(
         after: after.copy()?,
         before: before.copy()?,
     };
-    reading.apply(alloc, &line)
+    give(alloc, reading, line)
 }
 
 /// Tasks with their order.
@@ -157,7 +189,7 @@ fn add_no_task(alloc: Global, reading: &mut Reading, task: &Text) -> Result<(), 
     ensures { OnOk result (reading.new ≡ with_lines (entry.NoTask task.now ∷ []) reading.old) }
 {
     let line = EntryLine::NoTask { task: task.copy()? };
-    reading.apply(alloc, &line)
+    give(alloc, reading, line)
 }
 
 /// Tasks are taken away.
@@ -201,8 +233,7 @@ fn add_taken(
 ) -> Result<(), Mem>
     ensures { OnOk result (reading.new ≡ with_lines (assigned export name.now op text) reading.old) }
 {
-    let line = assignment_line(alloc, name, op, text)?;
-    reading.apply(alloc, &line)?;
+    add_line(alloc, reading, name, op, text)?;
     if export {
         add_flag(alloc, reading, name, "export")
     } else {
@@ -223,10 +254,7 @@ pub(crate) fn add_assignment(
     ensures err { IfErr result (λ fault. IsDataFault fault (entries.lines_of [] reading.old.lines (statement.Assign export name.now op text.now))) }
 {
     let (op, text) = taken(alloc, reading, op, text)?;
-    match add_taken(alloc, reading, export, name, op, text) {
-        Ok(()) => Ok(()),
-        Err(_) => Err(DataFault::Memory),
-    }
+    told(add_taken(alloc, reading, export, name, op, text))
 }
 
 /// An assignment to a flag whose text is taken.
@@ -246,7 +274,7 @@ fn add_taken_flag(
         op,
         text,
     };
-    reading.apply(alloc, &line)
+    give(alloc, reading, line)
 }
 
 /// An assignment to a flag.
@@ -262,7 +290,15 @@ pub(crate) fn add_flag_assignment(
     ensures err { IfErr result (λ fault. IsDataFault fault (entries.lines_of [] reading.old.lines (statement.Flag name.now flag.now op text.now))) }
 {
     let (op, text) = taken(alloc, reading, op, text)?;
-    match add_taken_flag(alloc, reading, name, flag, op, text) {
+    told(add_taken_flag(alloc, reading, name, flag, op, text))
+}
+
+/// The same answer with want of memory as a fault of a store.
+fn told(done: Result<(), Mem>) -> Result<(), DataFault>
+    ensures ok { OnOk result (is_ok done ≡ true) }
+    ensures err { IfErr result IsWantOfMemory }
+{
+    match done {
         Ok(()) => Ok(()),
         Err(_) => Err(DataFault::Memory),
     }
@@ -294,19 +330,19 @@ pub(crate) fn add_statement(
             op,
             text,
         } => add_flag_assignment(alloc, reading, name, flag, *op, text),
-        Statement::Export { name } => Ok(add_flag(alloc, reading, name.as_str(), "export")?),
-        Statement::Unset { name } => Ok(add_unset(alloc, reading, name)?),
-        Statement::UnsetFlag { name, flag } => Ok(add_unset_flag(alloc, reading, name, flag)?),
+        Statement::Export { name } => told(add_flag(alloc, reading, name.as_str(), "export")),
+        Statement::Unset { name } => told(add_unset(alloc, reading, name)),
+        Statement::UnsetFlag { name, flag } => told(add_unset_flag(alloc, reading, name, flag)),
         Statement::Function { name, body } => {
-            Ok(add_function(alloc, reading, name.as_str(), body)?)
+            told(add_function(alloc, reading, name.as_str(), body))
         }
-        Statement::ExportFunctions { names } => Ok(add_exports(alloc, reading, class, names)?),
+        Statement::ExportFunctions { names } => told(add_exports(alloc, reading, class, names)),
         Statement::AddTask {
             names,
             after,
             before,
-        } => Ok(add_tasks(alloc, reading, names, after, before)?),
-        Statement::DelTask { names } => Ok(add_no_tasks(alloc, reading, names)?),
+        } => told(add_tasks(alloc, reading, names, after, before)),
+        Statement::DelTask { names } => told(add_no_tasks(alloc, reading, names)),
         Statement::Include { .. } | Statement::Require { .. } | Statement::Inherit { .. } => Ok(()),
     }
 }

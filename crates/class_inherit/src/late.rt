@@ -1,7 +1,7 @@
 // Late names.
-ghost use Rattle.std.specs.Prelude.{◌≡◌, ◌∷◌, ◌<◌, [], IfOk, IfSome, MatchOption, length, option_map};
+ghost use Rattle.std.specs.Prelude.{◌≡◌, ◌∷◌, ◌++◌, ◌<◌, [], IfOk, OnOk, IfSome, Some, MatchOption, length, option_map};
 ghost use Rattle.std.specs.List.{slice_split};
-ghost use Rattle.meta_model.specs.Text.{is_colon};
+ghost use Rattle.meta_model.specs.Text.{colon, is_colon};
 ghost use Rattle.meta_model.specs.Names as names;
 ghost use Rattle.class_inherit.specs.Late.{late_meant};
 
@@ -51,6 +51,13 @@ fn keyword(part: &str) -> Option<Late>
     None
 }
 
+/// Puts a copy of a text at the end.
+fn push_text(alloc: Global, parts: &mut Texts, part: &str) -> Result<(), Mem>
+    ensures { OnOk result (parts.new ≡ parts.old ++ part.now ∷ []) }
+{
+    parts.push(Text::from_str(alloc, part)?)
+}
+
 /// The parts of a text between its colons, the empty ones too.
 fn parts_of(alloc: Global, text: &str) -> Result<Texts, Mem>
     ensures { IfOk result (λ made. made ≡ slice_split is_colon text.now) }
@@ -58,11 +65,29 @@ fn parts_of(alloc: Global, text: &str) -> Result<Texts, Mem>
     let mut parts = Texts::new(alloc);
     let mut rest = text;
     while let Some((part, after)) = cut_at_colon(rest) {
-        parts.push(Text::from_str(alloc, part)?)?;
+        push_text(alloc, &mut parts, part)?;
         rest = after;
     }
-    parts.push(Text::from_str(alloc, rest)?)?;
+    push_text(alloc, &mut parts, rest)?;
     Ok(parts)
+}
+
+/// Puts a colon and a part behind a target.
+fn push_part(target: &mut Text, part: &str) -> Result<(), Mem>
+    ensures { OnOk result (target.new ≡ (target.old ++ colon ∷ []) ++ part.now) }
+{
+    target.push_str(":")?;
+    target.push_str(part)
+}
+
+/// What a name says that has a keyword behind `target`, and behind that the parts of a text.
+fn late_at(alloc: Global, target: Text, kind: Late, behind: &str) -> Result<Option<LateName>, Mem>
+    ensures { IfOk result (λ made. option_map late_meant made ≡ Some (record { target = target; kind = kind; when = slice_split is_colon behind.now })) }
+{
+    match parts_of(alloc, behind) {
+        Ok(when) => Ok(Some(LateName { target, kind, when })),
+        Err(_) => Err(Mem),
+    }
 }
 
 /// What a name says whose parts behind `front` are those of a text.
@@ -73,11 +98,9 @@ fn late_from(alloc: Global, front: Text, behind: &str) -> Result<Option<LateName
     let mut rest = behind;
     while let Some((part, after)) = cut_at_colon(rest) {
         if let Some(kind) = keyword(part) {
-            let when = parts_of(alloc, after)?;
-            return Ok(Some(LateName { target, kind, when }));
+            return late_at(alloc, target, kind, after);
         }
-        target.push_str(":")?;
-        target.push_str(part)?;
+        push_part(&mut target, part)?;
         rest = after;
     }
     Ok(late_at_end(alloc, target, rest))

@@ -23,6 +23,14 @@ fn cut_at_layer(text: &str) -> Option<(&str, &str)>
     text.split_once("${LAYERDIR}")
 }
 
+/// Puts two texts behind another.
+fn push_both(made: &mut Text, front: &str, behind: &str) -> Result<(), Mem>
+    ensures { OnOk result (made.new ≡ (made.old ++ front.now) ++ behind.now) }
+{
+    made.push_str(front)?;
+    made.push_str(behind)
+}
+
 /// A text with the folder of its layer in the place of `${LAYERDIR}` (BitBake User Manual, "Variables Glossary", LAYERDIR).
 fn with_folder(alloc: Global, layer: &str, text: &str) -> Result<Text, Mem>
     ensures { IfOk result (λ made. made ≡ with_folder layer.now text.now) }
@@ -30,8 +38,7 @@ fn with_folder(alloc: Global, layer: &str, text: &str) -> Result<Text, Mem>
     let mut made = Text::new(alloc);
     let mut rest = text;
     while let Some((front, after)) = cut_at_layer(rest) {
-        made.push_str(front)?;
-        made.push_str(layer)?;
+        push_both(&mut made, front, layer)?;
         rest = after;
     }
     made.push_str(rest)?;

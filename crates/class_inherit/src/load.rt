@@ -6,6 +6,7 @@ ghost use Rattle.load_model.specs.LoadRefusal.{asked_at, missing_required, missi
 ghost use Rattle.load_model.specs.Loading.{read_within, statements_after, statement_after, includes_after, include_after, classes_after, class_after, with_class};
 ghost use Rattle.class_inherit.specs.Adding.{added};
 ghost use Rattle.class_inherit.specs.Faults.{where_is, is_read, IsSaid, IsUntold, IsLoadFault, load_failed};
+ghost use Rattle.class_inherit.specs.Naming.{includes_named, classes_named};
 ghost use Rattle.class_inherit.specs.Reading.{contents_meant, contents_for, origin_meant, sources_for, statement_for, text_for, words_in};
 
 use crate::contents::Contents;
@@ -216,25 +217,67 @@ fn run_statement<L: Layers>(
     ensures cause { Counts (L.faults layers.old) (L.faults layers.new) (load_failed result) }
 {
     match statement {
-        Statement::Include { path } => {
-            let words = words_at(alloc, reading, layer, place, path)?;
-            let words = words.as_slice();
-            include_words(
-                alloc, layers, layer, reading, left, place, origin, false, words,
-            )
-        }
-        Statement::Require { path } => {
-            let words = words_at(alloc, reading, layer, place, path)?;
-            let words = words.as_slice();
-            include_words(
-                alloc, layers, layer, reading, left, place, origin, true, words,
-            )
-        }
+        Statement::Include { path } => include_named(
+            alloc, layers, layer, reading, left, place, origin, false, path,
+        ),
+        Statement::Require { path } => include_named(
+            alloc, layers, layer, reading, left, place, origin, true, path,
+        ),
         Statement::Inherit { names } => {
-            let names = words_at(alloc, reading, &None, place, names)?;
-            inherit_words(alloc, layers, layer, reading, left, place, names.as_slice())
+            inherit_named(alloc, layers, layer, reading, left, place, names)
         }
         _ => add_at(alloc, layer, reading, place, origin.class, statement),
+    }
+}
+
+/// The files that the text of an `include` or `require` names.
+#[cycle(load)]
+fn include_named<L: Layers>(
+    alloc: Global,
+    layers: &mut L,
+    layer: &Option<Text>,
+    reading: &mut Reading,
+    left: usize,
+    place: &Place,
+    origin: &Origin,
+    must: bool,
+    text: &Text,
+) -> Result<(), LoadFault>
+    ensures ok { OnOk result (L.tells → includes_named (read_within left (sources_for layer.now (L.files layers.old))) (sources_for layer.now (L.files layers.old)) (where_is place.now) (origin_meant origin.now) must layer.now text.now reading.old ≡ Ok reading.new) }
+    ensures err { IfErr result (λ fault. L.tells → IsLoadFault fault (includes_named (read_within left (sources_for layer.now (L.files layers.old))) (sources_for layer.now (L.files layers.old)) (where_is place.now) (origin_meant origin.now) must layer.now text.now reading.old)) }
+    ensures same { L.files layers.new ≡ L.files layers.old }
+    ensures cause { Counts (L.faults layers.old) (L.faults layers.new) (load_failed result) }
+{
+    match words_at(alloc, reading, layer, place, text) {
+        Ok(words) => {
+            let words = words.as_slice();
+            include_words(
+                alloc, layers, layer, reading, left, place, origin, must, words,
+            )
+        }
+        Err(fault) => Err(fault),
+    }
+}
+
+/// The classes that the text of an `inherit` names.
+#[cycle(load)]
+fn inherit_named<L: Layers>(
+    alloc: Global,
+    layers: &mut L,
+    layer: &Option<Text>,
+    reading: &mut Reading,
+    left: usize,
+    place: &Place,
+    text: &Text,
+) -> Result<(), LoadFault>
+    ensures ok { OnOk result (L.tells → classes_named (read_within left (sources_for layer.now (L.files layers.old))) (sources_for layer.now (L.files layers.old)) (where_is place.now) text.now reading.old ≡ Ok reading.new) }
+    ensures err { IfErr result (λ fault. L.tells → IsLoadFault fault (classes_named (read_within left (sources_for layer.now (L.files layers.old))) (sources_for layer.now (L.files layers.old)) (where_is place.now) text.now reading.old)) }
+    ensures same { L.files layers.new ≡ L.files layers.old }
+    ensures cause { Counts (L.faults layers.old) (L.faults layers.new) (load_failed result) }
+{
+    match words_at(alloc, reading, &None, place, text) {
+        Ok(names) => inherit_words(alloc, layers, layer, reading, left, place, names.as_slice()),
+        Err(fault) => Err(fault),
     }
 }
 

@@ -1,13 +1,14 @@
 -- Names, conditions and lines, one after another.
-use Rattle.std.proofs.Common.{◌≡◌, refl, sym, ◌∙◌, ap, subst, ℕ, ◌+◌, ◌<◌, Bool, true, false, not, map, List, [], ◌∷◌, ◌++◌, length, get_or, drop, flat_map, filter, Option, Some, None, bytes_eq, Result, Ok, Err, IfErr, append_assoc, append-nil}
-use Rattle.std.proofs.lemmas.List.{drop_more}
+use Rattle.std.proofs.Common.{◌≡◌, refl, sym, ◌∙◌, ap, subst, ℕ, ◌+◌, ◌<◌, Bool, true, false, not, map, List, [], ◌∷◌, ◌++◌, length, get_or, take, drop, flat_map, filter, Option, Some, None, bytes_eq, Result, Ok, Err, IfErr, append_assoc, append-nil}
+use Rattle.std.proofs.lemmas.List.{drop_more, take_more}
+use Rattle.std.proofs.lemmas.List.Concat.{flat_map-append}
 use Rattle.meta_model.specs.declared.entry.EntryLine.{EntryLine}
 use Rattle.meta_model.specs.declared.entry.EntryLine.TheVariants.{Set, Later}
 use Rattle.meta_model.specs.declared.entry.Op.TheVariants.{Set as Assign, Weak}
 use Rattle.meta_model.specs.declared.entry.LateLine.{LateLine}
 use Rattle.meta_model.specs.Refusal.{Refusal, value_cycle, too_deep, too_long, unstable, ◌>>=◌}
 use Rattle.meta_model.specs.Base.{value_slot, flag_slot, lates, flag_in, flags_of, names}
-use Rattle.meta_model.specs.Frozen.{Move, stays, moves, given, told_flag, conditions, told_lates, told, told_all, lines_where, is_task_line, frozen}
+use Rattle.meta_model.specs.Frozen.{Move, stays, moves, target_of, holds_reference, given, told_flag, conditions, told_lates, told, told_all, lines_where, is_task_line, frozen}
 use Rattle.var_expand.specs.declared.fault.ExpandFault.{ExpandFault}
 use Rattle.var_expand.specs.declared.fault.ExpandFault.TheVariants as expand
 use Rattle.var_expand.specs.Faults.{IsFaultOf}
@@ -116,6 +117,24 @@ one_fault make all is whole before b rest fault e h =
 -- what is left of a list
 pub next_of : {B C : Type 0} (all : List B → C) (xs : List B) (i : ℕ) (x : B) → x ≡ get_or xs i x → i < length xs → all (drop i xs) ≡ all (x ∷ drop (i + 1) xs)
 next_of all xs i x is lt = ap all (drop_more xs i x lt ∙ ap (λ y. y ∷ drop (i + 1) xs) (sym is))
+
+-- a fault of the first name that moves is one of all
+pub move_fault : (list : List EntryLine) (whole : Result (List Move) Refusal) (before : List Move) (name : List ℕ) (rest : List (List ℕ)) (fault : DataFault) → whole ≡ onto before (moves list (name ∷ rest))
+    → IsDataFault fault (target_of list name (holds_reference name)) → IsDataFault fault whole
+move_fault list whole before name rest fault e h =
+    fault_same fault whole (onto before (moves list (name ∷ rest))) e
+    (fault_on fault (moves list (name ∷ rest)) (λ more. Ok (before ++ more)) (fault_on fault (target_of list name (holds_reference name)) (λ target. moves list rest >>= (λ others. Ok (record { source = name; target = target } ∷ others))) h))
+
+-- one more name that moves
+pub move_more : (list : List EntryLine) (before : List Move) (name : List ℕ) (rest : List (List ℕ)) (target : List ℕ) → target_of list name (holds_reference name) ≡ Ok target
+    → onto before (moves list (name ∷ rest)) ≡ onto (before ++ record { source = name; target = target } ∷ []) (moves list rest)
+move_more list before name rest target e =
+    ap (λ m. onto before (m >>= (λ t. moves list rest >>= (λ others. Ok (record { source = name; target = t } ∷ others))))) e ∙ onto_next before (record { source = name; target = target }) (moves list rest)
+
+-- one more of lists that are put together
+pub flat_turn : {A B : Type 0} (f : A → List B) (xs : List A) (i : ℕ) (x : A) → x ≡ get_or xs i x → i < length xs → flat_map f (take i xs) ++ f x ≡ flat_map f (take (i + 1) xs)
+flat_turn f xs i x is lt =
+    sym (ap (flat_map f) (take_more xs i x lt) ∙ flat_map-append f (take i xs) (get_or xs i x ∷ []) ∙ ap (λ l. flat_map f (take i xs) ++ l) (append-nil (f (get_or xs i x))) ∙ ap (λ z. flat_map f (take i xs) ++ f z) (sym is))
 
 -- a late entry, as one of another name
 abbrev pub late_made : List EntryLine → List ℕ → LateLine → Result EntryLine Refusal

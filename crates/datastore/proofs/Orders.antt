@@ -63,9 +63,15 @@ module _ {A : Type 0} where
     | inr e ↦ rw e refl
   ]
 
-  -- nothing is in a new set, as in none
-  pub order_first : (set : BTreeMap (String Global) A) (x : Option (BTreeMap (String Global) A)) (p : Bool) (b : List ℕ) → set.entries ≡ [] → x ≡ None → (p || is_some (get_by_text set b)) ≡ (p || is_noted x b)
-  order_first set x p b e n = rw n (ap (λ es. p || is_some (lookup (is_at (text_cmp b)) es)) e)
+  -- nothing is in a new set
+  pub first_name : (set : BTreeMap (String Global) A) (p : Bool) (b : List ℕ) → set.entries ≡ [] → (p || is_some (get_by_text set b)) ≡ p
+  first_name set true b e = refl
+  first_name set false b e = ap (λ es. is_some (lookup (is_at (text_cmp b)) es)) e
+
+  -- nor in none
+  pub order_first : (x : Option (BTreeMap (String Global) A)) (p : Bool) (b : List ℕ) → x ≡ None → p ≡ (p || is_noted x b)
+  order_first x true b n = refl
+  order_first x false b n = rw n refl
 
 at_pair : (gone : List ℕ → Bool) (t o a b : List ℕ) → ((bytes_eq t a && bytes_eq o b) && not (gone a || gone b)) ≡ ((bytes_eq t a && bytes_eq o b) && not (gone t || gone o))
 at_pair gone t o a b = elim (either_way (bytes_eq t a)) [
@@ -186,10 +192,6 @@ order_is list task set there ordered tasks comes =
 pub none_is : (test : List ℕ → Bool) (xs : List (List ℕ)) → ((t : List ℕ) → test t ≡ false) → [] ≡ filter test xs
 none_is test [] h = refl
 none_is test (x ∷ xs) h = rw (h x) (none_is test xs h)
-
--- a task with its order
-abbrev pub with_order : List EntryLine → List ℕ → List ℕ × List (List ℕ)
-with_order list task = (task, filter (comes_after list task) (task_names list))
 
 -- one more text of a list
 pub map_turn : {B : Type 0} (f : List ℕ → B) (xs : List (List ℕ)) (i : ℕ) (x : List ℕ) → x ≡ get_or xs i x → i < length xs → map f (take i xs) ++ f x ∷ [] ≡ map f (take (i + 1) xs)

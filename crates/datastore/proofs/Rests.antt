@@ -1,5 +1,5 @@
 -- What one key's change makes of the noted texts.
-use Rattle.std.proofs.Common.{◌≡◌, refl, sym, ◌∙◌, ap, subst, ℕ, Bool, true, false, cond, List, [], ◌∷◌, ◌++◌, Option, Some, bytes_eq, inl, inr}
+use Rattle.std.proofs.Common.{◌≡◌, refl, sym, ◌∙◌, ap, subst, ℕ, Bool, true, false, cond, List, [], ◌∷◌, ◌++◌, Option, Some, None, bytes_eq, inl, inr, Result, Ok, Err, OnOk, OnErr}
 use Rattle.std.specs.Global.{Vec}
 use Rattle.std.specs.Map.{update}
 use Rattle.meta_model.specs.Text.{is_in}
@@ -33,3 +33,16 @@ rests_kept f g k w u keep q t i = subst (λ o. is_in t (rests o) ≡ true) (sym 
 -- what is found at the key that changed
 pub found_here : {A : Type 0} (f g : List ℕ → Option A) (k : List ℕ) (w : Option A) → ((q : List ℕ) → g q ≡ update bytes_eq f k w q) → g k ≡ w
 found_here f g k w u = u k ∙ ap (λ b. cond b w (f k)) (text_itself k)
+
+-- no text is lost where another is put behind those at a name
+pub rests_more : {T E : Type 0} (f g : List ℕ → Option (Vec (List ℕ))) (k : List ℕ) (old w : Vec (List ℕ)) (x : List ℕ) (r : Result T E) → ((q : List ℕ) → g q ≡ update bytes_eq f k (Some w) q) → f k ≡ Some old
+    → OnOk r (w.items ≡ old.items ++ x ∷ []) → OnErr r (w.items ≡ old.items) → KeepsRests (λ name. rests (f name)) (λ name. rests (g name))
+rests_more f g k old w x (Ok a) u found more same =
+    rests_kept f g k w u (λ t i. subst (λ l. is_in t l ≡ true) (sym more) (in_more t old.items (x ∷ []) (subst (λ l. is_in t l ≡ true) (ap rests found) i)))
+rests_more f g k old w x (Err e) u found more same = rests_kept f g k w u (λ t i. subst (λ l. is_in t l ≡ true) (ap rests found ∙ sym same) i)
+
+-- nor where the first is put at a name
+pub rests_first : {T E : Type 0} (f g : List ℕ → Option (Vec (List ℕ))) (k : List ℕ) (w : Vec (List ℕ)) (r : Result T E) → f k ≡ None
+    → OnOk r ((q : List ℕ) → g q ≡ update bytes_eq f k (Some w) q) → OnErr r ((q : List ℕ) → g q ≡ f q) → KeepsRests (λ name. rests (f name)) (λ name. rests (g name))
+rests_first f g k w (Ok a) found u same = rests_kept f g k w u (λ t i. not_both (is_in t (rests (f k))) i (ap (λ o. is_in t (rests o)) found))
+rests_first f g k w (Err e) found u same = λ q t i. subst (λ o. is_in t (rests o) ≡ true) (sym (same q)) i

@@ -1,9 +1,8 @@
 -- What one name's change makes of all names.
-use Rattle.std.proofs.Common.{◌≡◌, refl, sym, ◌∙◌, ap, subst, ℕ, Bool, true, false, cond, List, [], Option, Some, None, is_some, bytes_eq, ◌+◌, take, drop, Result, Ok, Err, OnErr, BTreeMap, String}
+use Rattle.std.proofs.Common.{◌≡◌, refl, sym, ◌∙◌, ap, subst, ℕ, Bool, true, false, cond, List, [], Option, Some, None, is_some, bytes_eq, ◌+◌, take, drop, BTreeMap, String}
 use Rattle.std.specs.Global.{Global}
-use Rattle.std.specs.BTreeMap.{get_by_text, is_at}
-use Rattle.std.proofs.lemmas.Map.Text.{text_cmp}
-use Rattle.std.specs.Map.{update, lookup}
+use Rattle.std.specs.BTreeMap.{get_by_text}
+use Rattle.std.specs.Map.{update}
 use Rattle.meta_model.proofs.Bools.{same_text}
 use Rattle.meta_model.specs.declared.entry.EntryLine.{EntryLine}
 use Rattle.meta_model.specs.declared.entry.EntryLine.TheVariants.{Set, Later, Flag, Unset, UnsetFlag, Exported, Task, NoTask}
@@ -93,17 +92,9 @@ pub none_of : {A : Type 0} (o : Option A) → is_some o ≡ false → o ≡ None
 none_of None h = refl
 none_of (Some a) h = absurd cc
 
--- what holds always, holds where there is an error
-pub on_err : {T E P : Type 0} (r : Result T E) → P → OnErr r P
-on_err (Ok x) p = tt
-on_err (Err e) p = p
-
--- maps with the same entries
-pub kept_alike : (m n : BTreeMap (String Global) Named) → n.entries ≡ m.entries → (name : List ℕ) → IsAlike (get_by_text m name) (get_by_text n name)
-kept_alike m n e name = subst (λ o. IsAlike (get_by_text m name) o) (ap (lookup (is_at (text_cmp name))) (sym e)) (alike_itself (get_by_text m name))
-
-pub kept_forms : (m n : BTreeMap (String Global) Named) → n.entries ≡ m.entries → (name : List ℕ) → is_some (get_by_text m name) ≡ is_some (get_by_text n name)
-kept_forms m n e name = ap (λ l. is_some (lookup (is_at (text_cmp name)) l)) (sym e)
+-- the same is found of a name
+pub alike_found : (a b : Option Named) → b ≡ a → IsAlike a b
+alike_found a b e = subst (IsAlike a) (sym e) (alike_itself a)
 
 -- what is kept of one name is changed
 pub goes_on : (maps : Maps) (n : BTreeMap (String Global) Named) (k : List ℕ) (old new : Named) (line : EntryLine) → k ≡ subject line → get_by_text maps.named k ≡ Some old

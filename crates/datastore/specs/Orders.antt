@@ -1,10 +1,10 @@
 -- Which orders of tasks a store notes. It goes from the last entry to the first, so that it knows which tasks go later.
-use Rattle.std.specs.Prelude.{◌≡◌, ℕ, Bool, false, not, ◌||◌, List, [], ◌∷◌, Option, Some, None, is_some, String, bytes_eq}
+use Rattle.std.specs.Prelude.{◌≡◌, ℕ, Bool, false, not, ◌||◌, List, [], ◌∷◌, filter, Option, Some, None, is_some, String, bytes_eq}
 use Rattle.std.specs.Global.{Global}
 use Rattle.std.specs.BTreeMap.{BTreeMap, get_by_text}
 use Rattle.meta_model.specs.declared.entry.EntryLine.{EntryLine}
 use Rattle.meta_model.specs.declared.entry.EntryLine.TheVariants.{NoTask}
-use Rattle.meta_model.specs.Tasks.{comes_after}
+use Rattle.meta_model.specs.Tasks.{comes_after, task_names}
 
 -- an entry takes the task away
 abbrev pub goes : List ℕ → EntryLine → Bool
@@ -15,6 +15,10 @@ goes task _ = false
 abbrev pub is_gone : List EntryLine → List ℕ → Bool
 is_gone [] task = false
 is_gone (line ∷ lines) task = goes task line || is_gone lines task
+
+-- a task with those that it comes after
+abbrev pub with_order : List EntryLine → List ℕ → List ℕ × List (List ℕ)
+with_order list task = (task, filter (comes_after list task) (task_names list))
 
 module _ {A : Type 0} where
   -- the name is in the set, where there is one

@@ -1,9 +1,10 @@
 // The forms of names: which names `N:p1:..:pk` there are for a name N.
-ghost use Rattle.std.specs.Prelude.{◌≡◌, ◌<◌, ◌+◌, ℕ, List, true, OnOk, length, take, drop, slice_index};
+ghost use Rattle.std.specs.Prelude.{◌≡◌, ◌<◌, ◌+◌, ◌++◌, ◌∷◌, [], ℕ, List, true, OnOk, OnErr, IfOk, length, take, drop, slice_index};
 ghost use Rattle.std.specs.BTreeMap.{get_by_text};
 ghost use Rattle.meta_model.specs.Text.{colon, is_in};
 ghost use Rattle.datastore.specs.Forms.{rests, KeepsRests, HasForms};
 
+use crate::by_name::put_value;
 use std::alloc::Global;
 use std::collections::BTreeMap;
 use tree_model::{Mem, Text};
@@ -11,19 +12,34 @@ use tree_model::{Mem, Text};
 /// For each name N the texts behind `N:` of names.
 pub(crate) type Forms = BTreeMap<String, Vec<Text>>;
 
+/// Puts a copy of the text behind the others. Where memory is wanting, they are as before.
+fn push_rest(rests: &mut Vec<Text>, alloc: Global, rest: &str) -> Result<(), Mem>
+    ensures ok { OnOk result (rests.new.items ≡ rests.old.items ++ rest.now ∷ []) }
+    ensures err { OnErr result (rests.new.items ≡ rests.old.items) }
+{
+    let text = Text::from_str(alloc, rest)?;
+    Ok(rests.push(text)?)
+}
+
+/// A list with a copy of the text alone.
+fn first_rest(alloc: Global, rest: &str) -> Result<Vec<Text>, Mem>
+    ensures { IfOk result (λ made. made.items ≡ rest.now ∷ []) }
+{
+    let mut made = Vec::new(alloc);
+    push_rest(&mut made, alloc, rest)?;
+    Ok(made)
+}
+
 /// Notes one text behind a name and a colon. None is lost, also where memory is wanting.
 fn note_form(forms: &mut Forms, alloc: Global, front: &str, rest: &str) -> Result<(), Mem>
     ensures keeps { KeepsRests (λ name. rests (get_by_text forms.old name)) (λ name. rests (get_by_text forms.new name)) }
     ensures ok { OnOk result (is_in rest.now (rests (get_by_text forms.new front.now)) ≡ true) }
 {
-    let text = Text::from_str(alloc, rest)?;
     match forms.get_mut(front) {
-        Some(rests) => Ok(rests.push(text)?),
+        Some(rests) => push_rest(rests, alloc, rest),
         None => {
-            let mut rests = Vec::new(alloc);
-            rests.push(text)?;
-            forms.insert(String::from_str(alloc, front)?, rests)?;
-            Ok(())
+            let rests = first_rest(alloc, rest)?;
+            put_value(forms, alloc, front, rests)
         }
     }
 }

@@ -1,5 +1,5 @@
 // What is found for a name under active overrides.
-ghost use Rattle.std.specs.Prelude.{◌≡◌, ◌++◌, [], List, IfOk, OnOk, option_copied, option_to_list, option_map, codes};
+ghost use Rattle.std.specs.Prelude.{◌≡◌, ◌++◌, ◌∷◌, [], List, IfOk, OnOk, Some, is_some, if◌then◌else◌, option_copied, option_to_list, option_map, codes};
 ghost use Rattle.meta_model.specs.declared.entry.EntryLine.{EntryLine as Line};
 ghost use Rattle.meta_model.specs.Slot.{at_end};
 ghost use Rattle.meta_model.specs.Overrides.{winning, resolved};
@@ -8,6 +8,7 @@ ghost use Rattle.datastore.specs.Maps.{Keeps, named_at, noted_at};
 ghost use Rattle.datastore.specs.Found.{own_at, form_of, is_present, present_forms, own_of, told_flag, joined_at};
 
 use crate::maps::Maps;
+use crate::names::push_if;
 use meta_model::{LateLine, ListOf, Resolved};
 use override_eval::{apply_ops, choose, is_counted};
 use std::alloc::Global;
@@ -31,6 +32,16 @@ fn push_all(list: &mut Texts, more: &[Text]) -> Result<(), Mem>
         list.push(text.copy()?)?;
     }
     Ok(())
+}
+
+/// The text of a value, and its removes behind others.
+fn parts_behind(own: Resolved, removes: Texts) -> Result<(Text, Texts), Mem>
+    ensures text { IfOk result (λ made. made.0 ≡ own.text) }
+    ensures removes { IfOk result (λ made. made.1 ≡ removes ++ own.removes) }
+{
+    let mut all = removes;
+    push_all(&mut all, own.removes.as_slice())?;
+    Ok((own.text, all))
 }
 
 impl Maps {
@@ -74,6 +85,14 @@ impl Maps {
         apply_ops(alloc, self.base_of(name), self.lates_of(name), active)
     }
 
+    /// Whether a name has an own value.
+    fn has_own(&self, alloc: Global, name: &str, active: &[Text]) -> Result<bool, Mem>
+        ensures { IfOk result (λ there. there ≡ is_some (own_at active.now (named_at self.now name.now))) }
+    {
+        let own = self.own(alloc, name, active)?;
+        Ok(own.is_some())
+    }
+
     /// Whether the name `N:rest` is a form of N.
     fn is_present(
         &self,
@@ -88,22 +107,41 @@ impl Maps {
             return Ok(false);
         }
         let form = form_of(alloc, name, rest)?;
-        let own = self.own(alloc, form.as_str(), active)?;
-        Ok(own.is_some())
+        self.has_own(alloc, form.as_str(), active)
+    }
+
+    /// The texts that are noted behind a name and a colon.
+    fn noted_of(&self, name: &str) -> &[Text]
+        ensures { result.now ≡ noted_at self.now name.now }
+    {
+        match self.forms.get(name) {
+            Some(noted) => noted.as_slice(),
+            None => &[],
+        }
+    }
+
+    /// Puts the text at the end, where the name `N:rest` is a form of N.
+    fn push_present(
+        &self,
+        list: &mut Texts,
+        alloc: Global,
+        name: &str,
+        rest: &Text,
+        active: &[Text],
+    ) -> Result<(), Mem>
+        ensures { OnOk result (list.new ≡ list.old ++ (if is_present self.now active.now name.now rest.now then rest.now ∷ [] else [])) }
+    {
+        let asked = self.is_present(alloc, name, rest.as_str(), active)?;
+        push_if(list, rest, asked)
     }
 
     /// The forms of a name.
-    fn present_forms(&self, alloc: Global, name: &str, active: &[Text]) -> Result<Vec<Text>, Mem>
-        ensures { IfOk result (λ made. made.items ≡ present_forms self.now active.now name.now) }
+    fn present_forms(&self, alloc: Global, name: &str, active: &[Text]) -> Result<Texts, Mem>
+        ensures { IfOk result (λ made. made ≡ present_forms self.now active.now name.now) }
     {
-        let mut made = Vec::new(alloc);
-        let Some(noted) = self.forms.get(name) else {
-            return Ok(made);
-        };
-        for rest in noted {
-            if self.is_present(alloc, name, rest.as_str(), active)? {
-                made.push(rest.copy()?)?;
-            }
+        let mut made = Texts::new(alloc);
+        for rest in self.noted_of(name) {
+            self.push_present(&mut made, alloc, name, rest, active)?;
         }
         Ok(made)
     }
@@ -113,9 +151,10 @@ impl Maps {
         ensures { (list : List Line) → Keeps list self.now → IfOk result (λ won. won ≡ own_of list active.now (winning list active.now name.now)) }
     {
         let forms = self.present_forms(alloc, name, active)?;
-        match choose(forms.as_slice(), active) {
+        let all = forms.as_slice();
+        match choose(all, active) {
             Some(place) => {
-                let form = form_of(alloc, name, forms[place].as_str())?;
+                let form = form_of(alloc, name, all[place].as_str())?;
                 self.own(alloc, form.as_str(), active)
             }
             None => Ok(None),
@@ -132,6 +171,24 @@ impl Maps {
         Ok(made)
     }
 
+    /// A text and removes with the flags of a name.
+    fn told(
+        &self,
+        alloc: Global,
+        name: &str,
+        text: Text,
+        removes: Texts,
+    ) -> Result<Option<Resolved>, Mem>
+        ensures { IfOk result (λ made. made ≡ Some (record { text = text; removes = removes; flags = told_flag (named_at self.now name.now) (codes "export") ++ told_flag (named_at self.now name.now) (codes "func") })) }
+    {
+        let flags = self.told_flags(alloc, name)?;
+        Ok(Some(Resolved {
+            text,
+            removes,
+            flags,
+        }))
+    }
+
     /// A value with the late entries of its name, and the removes behind these.
     fn joined(
         &self,
@@ -143,21 +200,13 @@ impl Maps {
     ) -> Result<Option<Resolved>, Mem>
         ensures { IfOk result (λ made. made ≡ joined_at active.now (named_at self.now name.now) (option_copied value.entry) removes) }
     {
-        let Some(own) = apply_ops(alloc, value, self.lates_of(name), active)? else {
-            return Ok(None);
-        };
-        let Resolved {
-            text,
-            removes: own_removes,
-            flags: _,
-        } = own;
-        let mut removes = removes;
-        push_all(&mut removes, own_removes.as_slice())?;
-        Ok(Some(Resolved {
-            text,
-            removes,
-            flags: self.told_flags(alloc, name)?,
-        }))
+        match apply_ops(alloc, value, self.lates_of(name), active)? {
+            Some(own) => {
+                let (text, removes) = parts_behind(own, removes)?;
+                self.told(alloc, name, text, removes)
+            }
+            None => Ok(None),
+        }
     }
 
     /// The resolved value of a name.

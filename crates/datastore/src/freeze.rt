@@ -2,9 +2,10 @@
 ghost use Rattle.std.specs.Prelude.{◌≡◌, ◌++◌, ◌∷◌, [], List, OnOk, IfOk, IfErr, Ok, map, flat_map, filter};
 ghost use Rattle.std.specs.BTreeMap.{IsOrdered};
 ghost use Rattle.std.specs.String.{string_cmp};
-ghost use Rattle.meta_model.specs.declared.entry.EntryLine.TheVariants.{Flag};
+ghost use Rattle.meta_model.specs.declared.entry.EntryLine.TheVariants.{Set, Later, Flag, UnsetFlag};
 ghost use Rattle.meta_model.specs.declared.entry.EntryLine.{EntryLine as Line};
 ghost use Rattle.meta_model.specs.Active as entries;
+ghost use Rattle.meta_model.specs.Base as base;
 ghost use Rattle.meta_model.specs.Frozen as frozen;
 ghost use Rattle.datastore.specs.Faults.{IsDataFault};
 ghost use Rattle.datastore.specs.Looked.{IsMeant};
@@ -14,8 +15,10 @@ ghost use Rattle.datastore.specs.Kept.{slot_of};
 ghost use Rattle.datastore.specs.Left.{kept_set};
 ghost use Rattle.datastore.specs.Picked.{picked};
 
+use crate::by_name::push_name;
 use crate::fault::DataFault;
 use crate::kept::Kept;
+use crate::line::{flag_of, late_of, push_line, set_of, unset_flag_of};
 use crate::looked::{Overrides, expand_over};
 use crate::maps::Maps;
 use crate::store::Datastore;
@@ -46,6 +49,14 @@ fn target_of(
     Ok(Text::from_str(alloc, name)?)
 }
 
+/// Puts a copy of a name and another text at the end.
+fn push_pair(list: &mut Vec<(Text, Text)>, name: &Text, target: Text) -> Result<(), Mem>
+    ensures { OnOk result (list.new.items ≡ list.old.items ++ (name.now, target) ∷ []) }
+{
+    let name = name.copy()?;
+    Ok(list.push((name, target))?)
+}
+
 /// Each name with the name that it goes to.
 fn moves_of(
     alloc: Global,
@@ -60,7 +71,7 @@ fn moves_of(
     let mut made = Vec::new(alloc);
     for name in names {
         let target = target_of(alloc, store, overrides, name.as_str())?;
-        made.push((name.copy()?, target))?;
+        push_pair(&mut made, name, target)?;
     }
     Ok(made)
 }
@@ -83,13 +94,25 @@ fn conditions_of(
     Ok(made)
 }
 
+/// Puts a late entry with these conditions behind the lines, as one of another name.
+fn push_late(
+    lines: &mut Vec<EntryLine>,
+    target: &Text,
+    late: &LateLine,
+    when: Texts,
+) -> Result<(), Mem>
+    ensures { OnOk result (lines.new.items ≡ lines.old.items ++ Later target.now late.now.kind when late.now.text ∷ []) }
+{
+    push_line(lines, late_of(target, late.kind, when, &late.text)?)
+}
+
 /// Puts late entries behind the lines, as those of another name.
 fn push_lates(
     lines: &mut Vec<EntryLine>,
     alloc: Global,
     store: &Datastore,
     overrides: &Overrides,
-    target: &str,
+    target: &Text,
     lates: &[LateLine],
 ) -> Result<(), DataFault>
     requires { IsMeant overrides.now (entries.active store.now) }
@@ -98,80 +121,77 @@ fn push_lates(
 {
     for late in lates {
         let when = conditions_of(alloc, store, overrides, late.when.as_slice())?;
-        lines.push(EntryLine::Later {
-            target: Text::from_str(alloc, target)?,
-            kind: late.kind,
-            when,
-            text: late.text.copy()?,
-        })?;
+        push_late(lines, target, late, when)?;
     }
     Ok(())
 }
 
-/// The value and the weak default as lines of a name, behind the lines.
-fn push_value(
+/// Puts an assignment behind the lines.
+fn push_set(lines: &mut Vec<EntryLine>, target: &Text, op: Op, text: &Text) -> Result<(), Mem>
+    ensures { OnOk result (lines.new.items ≡ lines.old.items ++ Set target.now op text.now ∷ []) }
+{
+    push_line(lines, set_of(target, op, text)?)
+}
+
+/// An assignment behind the lines, where there is a text.
+fn push_text(
     lines: &mut Vec<EntryLine>,
-    alloc: Global,
-    target: &str,
-    kept: &Kept,
+    target: &Text,
+    op: Op,
+    text: &Option<Text>,
 ) -> Result<(), Mem>
+    ensures { OnOk result (lines.new.items ≡ lines.old.items ++ frozen.given (Set target.now op) text.now) }
+{
+    match text {
+        Some(text) => push_set(lines, target, op, text),
+        None => Ok(()),
+    }
+}
+
+/// The value and the weak default as lines of a name, behind the lines.
+fn push_value(lines: &mut Vec<EntryLine>, target: &Text, kept: &Kept) -> Result<(), Mem>
     ensures { OnOk result (lines.new.items ≡ lines.old.items ++ value_lines target.now (slot_of kept.now)) }
 {
-    if let Some(text) = &kept.value {
-        lines.push(EntryLine::Set {
-            name: Text::from_str(alloc, target)?,
-            op: Op::Set,
-            text: text.copy()?,
-        })?;
-    }
-    if let Some(text) = &kept.weak {
-        lines.push(EntryLine::Set {
-            name: Text::from_str(alloc, target)?,
-            op: Op::Weak,
-            text: text.copy()?,
-        })?;
-    }
-    Ok(())
+    push_text(lines, target, Op::Set, &kept.value)?;
+    push_text(lines, target, Op::Weak, &kept.weak)
+}
+
+/// Puts an assignment to a flag behind the lines.
+fn push_set_flag(
+    lines: &mut Vec<EntryLine>,
+    target: &Text,
+    flag: &Text,
+    op: Op,
+    text: &Text,
+) -> Result<(), Mem>
+    ensures { OnOk result (lines.new.items ≡ lines.old.items ++ Flag target.now flag.now op text.now ∷ []) }
+{
+    push_line(lines, flag_of(target, flag, op, text)?)
 }
 
 /// An assignment to a flag behind the lines, where there is a text.
 fn push_flag_text(
     lines: &mut Vec<EntryLine>,
-    alloc: Global,
-    target: &str,
-    flag: &str,
+    target: &Text,
+    flag: &Text,
     op: Op,
     text: &Option<Text>,
 ) -> Result<(), Mem>
     ensures { OnOk result (lines.new.items ≡ lines.old.items ++ frozen.given (Flag target.now flag.now op) text.now) }
 {
-    if let Some(text) = text {
-        lines.push(EntryLine::Flag {
-            name: Text::from_str(alloc, target)?,
-            flag: Text::from_str(alloc, flag)?,
-            op,
-            text: text.copy()?,
-        })?;
+    match text {
+        Some(text) => push_set_flag(lines, target, flag, op, text),
+        None => Ok(()),
     }
-    Ok(())
 }
 
 /// A flag as lines of a name, behind the lines.
-fn push_flag(
-    lines: &mut Vec<EntryLine>,
-    alloc: Global,
-    target: &str,
-    flag: &str,
-    kept: &Kept,
-) -> Result<(), Mem>
+fn push_flag(lines: &mut Vec<EntryLine>, target: &Text, flag: &Text, kept: &Kept) -> Result<(), Mem>
     ensures { OnOk result (lines.new.items ≡ lines.old.items ++ flag_lines target.now flag.now (slot_of kept.now)) }
 {
-    lines.push(EntryLine::UnsetFlag {
-        name: Text::from_str(alloc, target)?,
-        flag: Text::from_str(alloc, flag)?,
-    })?;
-    push_flag_text(lines, alloc, target, flag, Op::Set, &kept.value)?;
-    push_flag_text(lines, alloc, target, flag, Op::Weak, &kept.weak)
+    push_line(lines, unset_flag_of(target, flag)?)?;
+    push_flag_text(lines, target, flag, Op::Set, &kept.value)?;
+    push_flag_text(lines, target, flag, Op::Weak, &kept.weak)
 }
 
 /// The flags that are set, in byte order.
@@ -181,9 +201,7 @@ fn flags_of(alloc: Global, flags: &BTreeMap<String, Kept>) -> Result<Texts, Mem>
 {
     let mut made = Texts::new(alloc);
     for (flag, kept) in flags {
-        if kept.is_set() {
-            made.push(Text::from_str(alloc, flag.as_str())?)?;
-        }
+        push_name(&mut made, alloc, flag.as_str(), kept.is_set())?;
     }
     Ok(made)
 }
@@ -191,15 +209,14 @@ fn flags_of(alloc: Global, flags: &BTreeMap<String, Kept>) -> Result<Texts, Mem>
 /// A flag that is kept as lines of a name, behind the lines.
 fn push_kept(
     lines: &mut Vec<EntryLine>,
-    alloc: Global,
-    target: &str,
+    target: &Text,
     flags: &BTreeMap<String, Kept>,
-    flag: &str,
+    flag: &Text,
 ) -> Result<(), Mem>
     ensures { OnOk result (lines.new.items ≡ lines.old.items ++ told_kept target.now flags.now flag.now) }
 {
-    match flags.get(flag) {
-        Some(kept) => push_flag(lines, alloc, target, flag, kept),
+    match flags.get(flag.as_str()) {
+        Some(kept) => push_flag(lines, target, flag, kept),
         None => Ok(()),
     }
 }
@@ -207,15 +224,14 @@ fn push_kept(
 /// The set flags as lines of a name, behind the lines.
 fn push_flags(
     lines: &mut Vec<EntryLine>,
-    alloc: Global,
-    target: &str,
+    target: &Text,
     flags: &BTreeMap<String, Kept>,
     names: &[Text],
 ) -> Result<(), Mem>
     ensures { OnOk result (lines.new.items ≡ lines.old.items ++ flat_map (told_kept target.now flags.now) names.now) }
 {
     for name in names {
-        push_kept(lines, alloc, target, flags, name.as_str())?;
+        push_kept(lines, target, flags, name)?;
     }
     Ok(())
 }
@@ -227,15 +243,15 @@ impl Maps {
         lines: &mut Vec<EntryLine>,
         alloc: Global,
         source: &str,
-        target: &str,
+        target: &Text,
     ) -> Result<(), Mem>
         ensures { (list : List Line) → Keeps list self.now → OnOk result (lines.new.items ≡ lines.old.items ++ named_lines list (move_of (source.now, target.now))) }
     {
         match self.named.get(source) {
             Some(named) => {
                 let flags = flags_of(alloc, &named.flags)?;
-                push_value(lines, alloc, target, &named.kept)?;
-                push_flags(lines, alloc, target, &named.flags, flags.as_slice())
+                push_value(lines, target, &named.kept)?;
+                push_flags(lines, target, &named.flags, flags.as_slice())
             }
             None => Ok(()),
         }
@@ -249,7 +265,7 @@ fn push_told(
     store: &Datastore,
     overrides: &Overrides,
     source: &str,
-    target: &str,
+    target: &Text,
 ) -> Result<(), DataFault>
     requires { IsMeant overrides.now (entries.active store.now) }
     ensures ok { OnOk result (behind lines.old.items (frozen.told store.now (move_of (source.now, target.now))) ≡ Ok lines.new.items) }
@@ -281,8 +297,8 @@ fn push_move(
     ensures err { IfErr result (λ fault. IsDataFault fault (frozen.told store.now (move_of pair.now))) }
 {
     let source = pair.0.as_str();
-    let target = pair.1.as_str();
-    if source == target {
+    let target = &pair.1;
+    if source == target.as_str() {
         push_told(staying, alloc, store, overrides, source, target)
     } else {
         push_told(moving, alloc, store, overrides, source, target)
@@ -308,8 +324,26 @@ fn push_moves(
     Ok(())
 }
 
+/// Each name of a store with the name that it goes to.
+fn all_moves(
+    alloc: Global,
+    store: &Datastore,
+    overrides: &Overrides,
+) -> Result<Vec<(Text, Text)>, DataFault>
+    requires { IsMeant overrides.now (entries.active store.now) }
+    ensures ok { IfOk result (λ made. frozen.moves store.now (base.names store.now) ≡ Ok (map move_of made.items)) }
+    ensures err { IfErr result (λ fault. IsDataFault fault (frozen.moves store.now (base.names store.now))) }
+{
+    let names = store.names(alloc)?;
+    moves_of(alloc, store, overrides, names.as_slice())
+}
+
 /// Applies these entries.
-fn apply_all(store: &mut Datastore, alloc: Global, lines: &[EntryLine]) -> Result<(), Mem>
+pub(crate) fn apply_all(
+    store: &mut Datastore,
+    alloc: Global,
+    lines: &[EntryLine],
+) -> Result<(), Mem>
     ensures { OnOk result (store.new ≡ store.old ++ lines.now) }
 {
     for line in lines {
@@ -339,6 +373,55 @@ fn apply_tasks(store: &mut Datastore, alloc: Global, lines: &[EntryLine]) -> Res
     Ok(())
 }
 
+/// Applies the lines of names that stay, those of names that move, and the entries of tasks.
+fn apply_parts(
+    store: &mut Datastore,
+    alloc: Global,
+    staying: &[EntryLine],
+    moving: &[EntryLine],
+    lines: &[EntryLine],
+) -> Result<(), Mem>
+    ensures { OnOk result (store.new ≡ ((store.old ++ staying.now) ++ moving.now) ++ filter frozen.is_task_line lines.now) }
+{
+    apply_all(store, alloc, staying)?;
+    apply_all(store, alloc, moving)?;
+    apply_tasks(store, alloc, lines)
+}
+
+/// A store of the lines of names that stay, those of names that move, and the entries of tasks.
+fn store_of(
+    alloc: Global,
+    staying: &[EntryLine],
+    moving: &[EntryLine],
+    lines: &[EntryLine],
+) -> Result<Datastore, Mem>
+    ensures { IfOk result (λ made. made ≡ (staying.now ++ moving.now) ++ filter frozen.is_task_line lines.now) }
+{
+    let mut made = Datastore::new(alloc);
+    apply_parts(&mut made, alloc, staying, moving, lines)?;
+    Ok(made)
+}
+
+/// The store of what these names have, and of the entries of tasks.
+fn moved(
+    alloc: Global,
+    store: &Datastore,
+    overrides: &Overrides,
+    moves: &[(Text, Text)],
+    lines: &[EntryLine],
+) -> Result<Datastore, DataFault>
+    requires overrides { IsMeant overrides.now (entries.active store.now) }
+    requires lines { lines.now ≡ store.now }
+    requires moves { frozen.moves store.now (base.names store.now) ≡ Ok (map move_of moves.now) }
+    ensures ok { IfOk result (λ made. frozen.frozen store.now ≡ Ok made) }
+    ensures err { IfErr result (λ fault. IsDataFault fault (frozen.frozen store.now)) }
+{
+    let mut staying = Vec::new(alloc);
+    let mut moving = Vec::new(alloc);
+    push_moves(&mut staying, &mut moving, alloc, store, overrides, moves)?;
+    Ok(store_of(alloc, staying.as_slice(), moving.as_slice(), lines)?)
+}
+
 /// The store of the frozen entries.
 pub(crate) fn freeze(
     alloc: Global,
@@ -351,21 +434,6 @@ pub(crate) fn freeze(
     ensures ok { IfOk result (λ made. frozen.frozen store.now ≡ Ok made) }
     ensures err { IfErr result (λ fault. IsDataFault fault (frozen.frozen store.now)) }
 {
-    let names = store.names(alloc)?;
-    let moves = moves_of(alloc, store, overrides, names.as_slice())?;
-    let mut staying = Vec::new(alloc);
-    let mut moving = Vec::new(alloc);
-    push_moves(
-        &mut staying,
-        &mut moving,
-        alloc,
-        store,
-        overrides,
-        moves.as_slice(),
-    )?;
-    let mut made = Datastore::new(alloc);
-    apply_all(&mut made, alloc, staying.as_slice())?;
-    apply_all(&mut made, alloc, moving.as_slice())?;
-    apply_tasks(&mut made, alloc, lines)?;
-    Ok(made)
+    let moves = all_moves(alloc, store, overrides)?;
+    moved(alloc, store, overrides, moves.as_slice(), lines)
 }

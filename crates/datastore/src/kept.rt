@@ -2,6 +2,7 @@
 ghost use Rattle.std.specs.Prelude.{◌≡◌, ◌++◌, IfOk, OnOk, OnErr, option_copied};
 ghost use Rattle.meta_model.specs.Slot.{nothing, assigned, with_value, old, at_end, is_set};
 ghost use Rattle.meta_model.specs.Base.{may_export};
+ghost use Rattle.meta_model.specs.declared.entry.Op.TheVariants.{Soft, Weak};
 ghost use Rattle.datastore.specs.Kept.{slot_of, with_call};
 
 use meta_model::Op;
@@ -9,7 +10,7 @@ use std::alloc::Global;
 use tree_model::{Mem, Text};
 
 /// A value, its weak default, and whether EXPORT_FUNCTIONS put the value there.
-#[derive(Debug, Drop)]
+#[derive(Drop)]
 pub(crate) struct Kept {
     pub(crate) value: Option<Text>,
     pub(crate) weak: Option<Text>,
@@ -63,6 +64,35 @@ impl Kept {
         self.exported = false;
     }
 
+    /// A copy of the text as the value. Where memory is wanting, all is as before.
+    fn set_copy(&mut self, alloc: Global, text: &str) -> Result<(), Mem>
+        ensures ok { OnOk result (slot_of self.new ≡ with_value text.now (slot_of self.old)) }
+        ensures err { OnErr result (slot_of self.new ≡ slot_of self.old) }
+    {
+        self.set(Text::from_str(alloc, text)?);
+        Ok(())
+    }
+
+    /// A copy of the text as the value, where there is none. Where memory is wanting, all is as before.
+    fn set_soft(&mut self, alloc: Global, text: &str) -> Result<(), Mem>
+        ensures ok { OnOk result (slot_of self.new ≡ assigned Soft text.now (slot_of self.old)) }
+        ensures err { OnErr result (slot_of self.new ≡ slot_of self.old) }
+    {
+        if self.value.is_none() {
+            return self.set_copy(alloc, text);
+        }
+        Ok(())
+    }
+
+    /// A copy of the text as the weak default. Where memory is wanting, all is as before.
+    fn set_weak(&mut self, alloc: Global, text: &str) -> Result<(), Mem>
+        ensures ok { OnOk result (slot_of self.new ≡ assigned Weak text.now (slot_of self.old)) }
+        ensures err { OnErr result (slot_of self.new ≡ slot_of self.old) }
+    {
+        self.weak = Some(Text::from_str(alloc, text)?);
+        Ok(())
+    }
+
     /// The value that EXPORT_FUNCTIONS gives.
     pub(crate) fn export(&mut self, call: Text)
         ensures { slot_of self.new ≡ with_call call (slot_of self.old) }
@@ -104,20 +134,24 @@ impl Kept {
         ensures err { OnErr result (slot_of self.new ≡ slot_of self.old) }
     {
         match op {
-            Op::Set => self.set(Text::from_str(alloc, text)?),
-            Op::Now => self.set(Text::from_str(alloc, text)?),
-            Op::Soft => {
-                if self.value.is_none() {
-                    self.set(Text::from_str(alloc, text)?);
-                }
-            }
-            Op::Weak => self.weak = Some(Text::from_str(alloc, text)?),
-            Op::AddBlank => self.put_behind(joined(alloc, " ", text)?)?,
-            Op::PutBlank => self.put_in_front(joined(alloc, text, " ")?)?,
-            Op::Add => self.put_behind(Text::from_str(alloc, text)?)?,
-            Op::Put => self.put_in_front(Text::from_str(alloc, text)?)?,
+            Op::Set => self.set_copy(alloc, text),
+            Op::Now => self.set_copy(alloc, text),
+            Op::Soft => self.set_soft(alloc, text),
+            Op::Weak => self.set_weak(alloc, text),
+            Op::AddBlank => self.put_behind(joined(alloc, " ", text)?),
+            Op::PutBlank => self.put_in_front(joined(alloc, text, " ")?),
+            Op::Add => self.put_behind(Text::from_str(alloc, text)?),
+            Op::Put => self.put_in_front(Text::from_str(alloc, text)?),
         }
-        Ok(())
+    }
+
+    /// What a first assignment makes.
+    pub(crate) fn first(alloc: Global, op: Op, text: &str) -> Result<Kept, Mem>
+        ensures { IfOk result (λ made. slot_of made ≡ assigned op text.now nothing) }
+    {
+        let mut made = Kept::new();
+        made.assign(alloc, op, text)?;
+        Ok(made)
     }
 }
 

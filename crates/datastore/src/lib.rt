@@ -10,6 +10,7 @@
 //! names that hold references. Want of memory alone is free, and has an answer of its own.
 #![tactic(auto)]
 
+mod by_name;
 mod fault;
 mod forms;
 mod found;

@@ -1,61 +1,93 @@
 // Copies of entries.
-ghost use Rattle.std.specs.Prelude.{◌≡◌, IfOk};
-ghost use Rattle.meta_model.specs.declared.entry.EntryLine.TheVariants.{Later, Flag, Task};
+ghost use Rattle.std.specs.Prelude.{◌≡◌, ◌++◌, ◌∷◌, [], List, IfOk, OnOk, OnErr};
+ghost use Rattle.meta_model.specs.declared.entry.EntryLine.{EntryLine as Line};
+ghost use Rattle.meta_model.specs.declared.entry.EntryLine.TheVariants.{Set, Later, Flag, UnsetFlag, Exported, Task};
 
 use meta_model::{EntryLine, Late, Op};
 use tree_model::{Mem, Text, Texts};
 
-/// A late entry with copies of these texts.
-fn late_of(target: &Text, kind: Late, when: &Texts, text: &Text) -> Result<EntryLine, Mem>
-    ensures { IfOk result (λ made. made ≡ Later target.now kind when.now text.now) }
+/// An assignment with copies of these texts.
+pub(crate) fn set_of(name: &Text, op: Op, text: &Text) -> Result<EntryLine, Mem>
+    ensures { IfOk result (λ made. made ≡ Set name.now op text.now) }
 {
+    let name = name.copy()?;
+    let text = text.copy()?;
+    Ok(EntryLine::Set { name, op, text })
+}
+
+/// A late entry with these conditions and copies of these texts.
+pub(crate) fn late_of(target: &Text, kind: Late, when: Texts, text: &Text) -> Result<EntryLine, Mem>
+    ensures { IfOk result (λ made. made ≡ Later target.now kind when text.now) }
+{
+    let target = target.copy()?;
+    let text = text.copy()?;
     Ok(EntryLine::Later {
-        target: target.copy()?,
+        target,
         kind,
-        when: when.copy()?,
-        text: text.copy()?,
+        when,
+        text,
     })
 }
 
 /// An assignment to a flag with copies of these texts.
-fn flag_of(name: &Text, flag: &Text, op: Op, text: &Text) -> Result<EntryLine, Mem>
+pub(crate) fn flag_of(name: &Text, flag: &Text, op: Op, text: &Text) -> Result<EntryLine, Mem>
     ensures { IfOk result (λ made. made ≡ Flag name.now flag.now op text.now) }
 {
+    let name = name.copy()?;
+    let flag = flag.copy()?;
+    let text = text.copy()?;
     Ok(EntryLine::Flag {
-        name: name.copy()?,
-        flag: flag.copy()?,
+        name,
+        flag,
         op,
-        text: text.copy()?,
+        text,
     })
+}
+
+/// The end of the use of a flag, with copies of these texts.
+pub(crate) fn unset_flag_of(name: &Text, flag: &Text) -> Result<EntryLine, Mem>
+    ensures { IfOk result (λ made. made ≡ UnsetFlag name.now flag.now) }
+{
+    let name = name.copy()?;
+    let flag = flag.copy()?;
+    Ok(EntryLine::UnsetFlag { name, flag })
+}
+
+/// EXPORT_FUNCTIONS with copies of these texts.
+fn exported_of(class: &Text, name: &Text) -> Result<EntryLine, Mem>
+    ensures { IfOk result (λ made. made ≡ Exported class.now name.now) }
+{
+    let class = class.copy()?;
+    let name = name.copy()?;
+    Ok(EntryLine::Exported { class, name })
 }
 
 /// A task with copies of these texts.
 fn task_of(task: &Text, after: &Texts, before: &Texts) -> Result<EntryLine, Mem>
     ensures { IfOk result (λ made. made ≡ Task task.now after.now before.now) }
 {
+    let task = task.copy()?;
+    let after = after.copy()?;
+    let before = before.copy()?;
     Ok(EntryLine::Task {
-        task: task.copy()?,
-        after: after.copy()?,
-        before: before.copy()?,
+        task,
+        after,
+        before,
     })
 }
 
 /// The same entry again.
-pub(crate) fn copy_of(line: &EntryLine) -> Result<EntryLine, Mem>
+fn copy_of(line: &EntryLine) -> Result<EntryLine, Mem>
     ensures { IfOk result (λ made. made ≡ line.now) }
 {
     match line {
-        EntryLine::Set { name, op, text } => Ok(EntryLine::Set {
-            name: name.copy()?,
-            op: *op,
-            text: text.copy()?,
-        }),
+        EntryLine::Set { name, op, text } => set_of(name, *op, text),
         EntryLine::Later {
             target,
             kind,
             when,
             text,
-        } => late_of(target, *kind, when, text),
+        } => late_of(target, *kind, when.copy()?, text),
         EntryLine::Flag {
             name,
             flag,
@@ -63,14 +95,8 @@ pub(crate) fn copy_of(line: &EntryLine) -> Result<EntryLine, Mem>
             text,
         } => flag_of(name, flag, *op, text),
         EntryLine::Unset { name } => Ok(EntryLine::Unset { name: name.copy()? }),
-        EntryLine::UnsetFlag { name, flag } => Ok(EntryLine::UnsetFlag {
-            name: name.copy()?,
-            flag: flag.copy()?,
-        }),
-        EntryLine::Exported { class, name } => Ok(EntryLine::Exported {
-            class: class.copy()?,
-            name: name.copy()?,
-        }),
+        EntryLine::UnsetFlag { name, flag } => unset_flag_of(name, flag),
+        EntryLine::Exported { class, name } => exported_of(class, name),
         EntryLine::Task {
             task,
             after,
@@ -78,4 +104,27 @@ pub(crate) fn copy_of(line: &EntryLine) -> Result<EntryLine, Mem>
         } => task_of(task, after, before),
         EntryLine::NoTask { task } => Ok(EntryLine::NoTask { task: task.copy()? }),
     }
+}
+
+/// Puts an entry behind the others. Where memory is wanting, they are as before.
+pub(crate) fn push_line(lines: &mut Vec<EntryLine>, line: EntryLine) -> Result<(), Mem>
+    ensures ok { OnOk result (lines.new.items ≡ lines.old.items ++ line ∷ []) }
+    ensures err { OnErr result (lines.new.items ≡ lines.old.items) }
+{
+    Ok(lines.push(line)?)
+}
+
+/// Puts a copy of an entry behind the others. Where memory is wanting, they are as before.
+pub(crate) fn push_copy(lines: &mut Vec<EntryLine>, line: &EntryLine) -> Result<(), Mem>
+    ensures ok { OnOk result (lines.new.items ≡ lines.old.items ++ line.now ∷ []) }
+    ensures err { OnErr result (lines.new.items ≡ lines.old.items) }
+{
+    push_line(lines, copy_of(line)?)
+}
+
+/// Takes the last entry away.
+pub(crate) fn drop_last(lines: &mut Vec<EntryLine>)
+    ensures { (rest : List Line) (last : Line) → lines.old.items ≡ rest ++ last ∷ [] → lines.new.items ≡ rest }
+{
+    lines.pop();
 }

@@ -133,6 +133,19 @@ pub(crate) fn resolved_over(
     Ok(over.find(alloc, name)?)
 }
 
+/// What a name has; the active overrides are worked out for it alone.
+pub(crate) fn resolved_anew(
+    alloc: Global,
+    name: &str,
+    store: &Datastore,
+) -> Result<Option<Resolved>, DataFault>
+    ensures ok { IfOk result (λ made. entries.find_in store.now name.now ≡ Ok made) }
+    ensures err { IfErr result (λ fault. IsDataFault fault (entries.find_in store.now name.now)) }
+{
+    let overrides = overrides_of(alloc, store)?;
+    resolved_over(alloc, name, store, &overrides)
+}
+
 /// The expanded value of a name.
 pub(crate) fn value_over(
     alloc: Global,
@@ -147,6 +160,19 @@ pub(crate) fn value_over(
     Ok(value(alloc, name, &Over { store, overrides })?)
 }
 
+/// The expanded value of a name; the active overrides are worked out for it alone.
+pub(crate) fn value_anew(
+    alloc: Global,
+    name: &str,
+    store: &Datastore,
+) -> Result<Option<Text>, DataFault>
+    ensures ok { IfOk result (λ made. entries.value store.now name.now ≡ Ok made) }
+    ensures err { IfErr result (λ fault. IsDataFault fault (entries.value store.now name.now)) }
+{
+    let overrides = overrides_of(alloc, store)?;
+    value_over(alloc, name, store, &overrides)
+}
+
 /// A text expanded over a store.
 pub(crate) fn expand_over(
     alloc: Global,
@@ -159,4 +185,13 @@ pub(crate) fn expand_over(
     ensures err { IfErr result (λ fault. IsDataFault fault (entries.expand store.now text.now)) }
 {
     Ok(expand(alloc, text, &Over { store, overrides })?)
+}
+
+/// A text expanded over a store; the active overrides are worked out for it alone.
+pub(crate) fn expand_anew(alloc: Global, text: &str, store: &Datastore) -> Result<Text, DataFault>
+    ensures ok { IfOk result (λ made. entries.expand store.now text.now ≡ Ok made) }
+    ensures err { IfErr result (λ fault. IsDataFault fault (entries.expand store.now text.now)) }
+{
+    let overrides = overrides_of(alloc, store)?;
+    expand_over(alloc, text, store, &overrides)
 }

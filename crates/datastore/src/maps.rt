@@ -4,6 +4,7 @@ ghost use Rattle.meta_model.specs.Frozen.{is_task_line};
 ghost use Rattle.datastore.specs.Named.{subject};
 ghost use Rattle.datastore.specs.Maps.{Goes, Stays, Keeps, named_at};
 
+use crate::by_name::put_value;
 use crate::forms::{Forms, note_forms};
 use crate::named::Named;
 use meta_model::EntryLine;
@@ -52,12 +53,9 @@ impl Maps {
         ensures ok { OnOk result (Goes self.old self.new line.now) }
         ensures err { OnErr result (Stays self.old self.new) }
     {
-        let mut named = Named::new(alloc);
-        named.change(alloc, line)?;
-        let key = String::from_str(alloc, name)?;
         note_forms(&mut self.forms, alloc, name)?;
-        self.named.insert(key, named)?;
-        Ok(())
+        let named = Named::first(alloc, line)?;
+        put_value(&mut self.named, alloc, name, named)
     }
 
     /// One more entry. Where memory is wanting, all is as before.

@@ -7,6 +7,7 @@ ghost use Rattle.meta_model.specs.declared.entry.EntryLine.TheVariants.{Exported
 ghost use Rattle.datastore.specs.Kept.{slot_of, flag_kept};
 ghost use Rattle.datastore.specs.Named.{slot_at, lates_at, flag_at, Steps, IsAlike, subject};
 
+use crate::by_name::{drop_value, put_value};
 use crate::kept::{Kept, joined};
 use meta_model::{EntryLine, Late, LateLine, Op};
 use std::alloc::Global;
@@ -35,10 +36,8 @@ fn assign_flag(
     match flags.get_mut(flag) {
         Some(kept) => kept.assign(alloc, op, text),
         None => {
-            let mut kept = Kept::new();
-            kept.assign(alloc, op, text)?;
-            flags.insert(String::from_str(alloc, flag)?, kept)?;
-            Ok(())
+            let kept = Kept::first(alloc, op, text)?;
+            put_value(flags, alloc, flag, kept)
         }
     }
 }
@@ -47,7 +46,7 @@ fn assign_flag(
 fn drop_flag(flags: &mut BTreeMap<String, Kept>, flag: &str)
     ensures { (f : List ℕ) → flag_kept (get_by_text flags.new f) ≡ (if bytes_eq flag.now f then nothing else flag_kept (get_by_text flags.old f)) }
 {
-    flags.remove(flag);
+    drop_value(flags, flag);
 }
 
 /// The value that EXPORT_FUNCTIONS of a class gives to a function.
@@ -73,6 +72,15 @@ impl Named {
             lates: Vec::new(alloc),
             flags: BTreeMap::new(alloc),
         }
+    }
+
+    /// What a first entry makes.
+    pub(crate) fn first(alloc: Global, line: &EntryLine) -> Result<Named, Mem>
+        ensures { IfOk result (λ made. Steps None (Some made) (subject line.now) line.now) }
+    {
+        let mut made = Named::new(alloc);
+        made.change(alloc, line)?;
+        Ok(made)
     }
 
     /// A late entry behind the others.

@@ -9,6 +9,7 @@ ghost use Rattle.datastore.specs.Maps.{Keeps};
 ghost use Rattle.datastore.specs.Picked.{picked};
 ghost use Rattle.datastore.specs.Left.{kept_set, named_left};
 
+use crate::by_name::names_of;
 use crate::kept::Kept;
 use crate::maps::Maps;
 use crate::named::Named;
@@ -46,18 +47,6 @@ impl Named {
 }
 
 impl Maps {
-    /// All names of which something was kept, in byte order.
-    fn keys(&self, alloc: Global) -> Result<Texts, Mem>
-        ensures keys { IfOk result (λ made. made ≡ picked (λ named. true) self.now.named.entries) }
-        ensures ordered { OnOk result (IsOrdered string_cmp self.now.named) }
-    {
-        let mut made = Texts::new(alloc);
-        for (name, _) in &self.named {
-            made.push(Text::from_str(alloc, name.as_str())?)?;
-        }
-        Ok(made)
-    }
-
     /// Whether something of the name is left.
     fn is_left(&self, name: &str) -> bool
         ensures { (list : List Line) → Keeps list self.now → result ≡ base.is_left list name.now }
@@ -72,7 +61,7 @@ impl Maps {
     pub(crate) fn names(&self, alloc: Global) -> Result<Texts, Mem>
         ensures { (list : List Line) → Keeps list self.now → IfOk result (λ made. made ≡ base.names list) }
     {
-        let keys = self.keys(alloc)?;
+        let keys = names_of(alloc, &self.named)?;
         let mut made = Texts::new(alloc);
         for name in keys.as_slice() {
             push_if(&mut made, name, self.is_left(name.as_str()))?;

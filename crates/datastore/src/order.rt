@@ -10,8 +10,9 @@ ghost use Rattle.meta_model.specs.Tasks as tasks;
 ghost use Rattle.datastore.specs.Picked.{picked};
 ghost use Rattle.datastore.specs.Orders.{goes, comes, stay, IsOrderOf};
 
+use crate::by_name::{names_of, put_value};
 use crate::names::push_if;
-use crate::tasks::{Names, names_of, put};
+use crate::tasks::{Names, put};
 use meta_model::EntryLine;
 use std::alloc::Global;
 use std::collections::BTreeMap;
@@ -20,6 +21,15 @@ use tree_model::{Mem, Text, Texts};
 /// For each task the set of those that it comes after.
 pub(crate) type Orders = BTreeMap<String, Names>;
 
+/// A set of one name.
+fn first_of(alloc: Global, name: &str) -> Result<Names, Mem>
+    ensures { IfOk result (λ made. (b : List ℕ) → is_some (get_by_text made b) ≡ bytes_eq name.now b) }
+{
+    let mut made = BTreeMap::new(alloc);
+    put(&mut made, alloc, name)?;
+    Ok(made)
+}
+
 /// Notes that a task comes after another.
 fn put_order(orders: &mut Orders, alloc: Global, task: &str, other: &str) -> Result<(), Mem>
     ensures { OnOk result ((a b : List ℕ) → comes orders.new a b ≡ ((bytes_eq task.now a && bytes_eq other.now b) || comes orders.old a b)) }
@@ -27,10 +37,8 @@ fn put_order(orders: &mut Orders, alloc: Global, task: &str, other: &str) -> Res
     match orders.get_mut(task) {
         Some(set) => put(set, alloc, other),
         None => {
-            let mut set = BTreeMap::new(alloc);
-            put(&mut set, alloc, other)?;
-            orders.insert(String::from_str(alloc, task)?, set)?;
-            Ok(())
+            let set = first_of(alloc, other)?;
+            put_value(orders, alloc, task, set)
         }
     }
 }

@@ -1,5 +1,5 @@
 // The datastore.
-ghost use Rattle.std.specs.Prelude.{◌≡◌, ◌++◌, ◌∷◌, [], OnOk, OnErr, IfOk, IfErr, Ok, option_copied};
+ghost use Rattle.std.specs.Prelude.{◌≡◌, ◌++◌, ◌∷◌, [], OnOk, OnErr, IfOk, IfErr, Ok, None, option_copied};
 ghost use Rattle.meta_model.specs.Active as entries;
 ghost use Rattle.meta_model.specs.Base as base;
 ghost use Rattle.meta_model.specs.Overrides as under;
@@ -10,9 +10,12 @@ ghost use Rattle.datastore.specs.Looked.{IsMeant};
 ghost use Rattle.datastore.specs.Maps.{Keeps};
 
 use crate::fault::DataFault;
-use crate::freeze::freeze;
-use crate::line::copy_of;
-use crate::looked::{Overrides, expand_over, overrides_of, resolved_over, value_over};
+use crate::freeze::{apply_all, freeze};
+use crate::line::{drop_last, push_copy};
+use crate::looked::{
+    Overrides, expand_anew, expand_over, overrides_of, resolved_anew, resolved_over, value_anew,
+    value_over,
+};
 use crate::maps::Maps;
 use crate::tasks::ordered_tasks;
 use meta_model::{EntryLine, Resolved};
@@ -41,6 +44,13 @@ impl Model for Datastore {
     ghost invariant = { λ s. IsStore s.entries.items s.maps s.settled };
 }
 
+/// No active overrides are kept any longer.
+fn forget(settled: &mut Option<Overrides>)
+    ensures { settled.new ≡ None }
+{
+    *settled = None;
+}
+
 impl Datastore {
     /// A store without entries. It takes no memory.
     pub fn new(alloc: Global) -> Datastore
@@ -58,15 +68,14 @@ impl Datastore {
         ensures ok { OnOk result (self.new ≡ self.old ++ line.now ∷ []) }
         ensures err { OnErr result (self.new ≡ self.old) }
     {
-        let entry = copy_of(line)?;
-        self.entries.push(entry)?;
+        push_copy(&mut self.entries, line)?;
         match self.maps.change(alloc, line) {
             Ok(()) => {
-                self.settled = None;
+                forget(&mut self.settled);
                 Ok(())
             }
             Err(fault) => {
-                self.entries.pop();
+                drop_last(&mut self.entries);
                 Err(fault)
             }
         }
@@ -77,9 +86,7 @@ impl Datastore {
         ensures { IfOk result (λ made. made ≡ self.now) }
     {
         let mut made = Datastore::new(alloc);
-        for line in &self.entries {
-            made.apply(alloc, line)?;
-        }
+        apply_all(&mut made, alloc, self.entries.as_slice())?;
         Ok(made)
     }
 
@@ -123,10 +130,7 @@ impl Datastore {
     {
         match &self.settled {
             Some(overrides) => resolved_over(alloc, name, self, overrides),
-            None => {
-                let overrides = self.overrides(alloc)?;
-                resolved_over(alloc, name, self, &overrides)
-            }
+            None => resolved_anew(alloc, name, self),
         }
     }
 
@@ -139,10 +143,7 @@ impl Datastore {
     {
         match &self.settled {
             Some(overrides) => value_over(alloc, name, self, overrides),
-            None => {
-                let overrides = self.overrides(alloc)?;
-                value_over(alloc, name, self, &overrides)
-            }
+            None => value_anew(alloc, name, self),
         }
     }
 
@@ -154,10 +155,7 @@ impl Datastore {
     {
         match &self.settled {
             Some(overrides) => expand_over(alloc, text, self, overrides),
-            None => {
-                let overrides = self.overrides(alloc)?;
-                expand_over(alloc, text, self, &overrides)
-            }
+            None => expand_anew(alloc, text, self),
         }
     }
 
@@ -200,7 +198,15 @@ impl Datastore {
         ensures ok { IfOk result (λ made. frozen.frozen self ≡ Ok made) }
         ensures err { IfErr result (λ fault. IsDataFault fault (frozen.frozen self)) }
     {
+        self.frozen(alloc)
+    }
+
+    /// The same, of a store that stays.
+    fn frozen(&self, alloc: Global) -> Result<Datastore, DataFault>
+        ensures ok { IfOk result (λ made. frozen.frozen self.now ≡ Ok made) }
+        ensures err { IfErr result (λ fault. IsDataFault fault (frozen.frozen self.now)) }
+    {
         let overrides = self.overrides(alloc)?;
-        freeze(alloc, &self, &overrides, self.entries.as_slice())
+        freeze(alloc, self, &overrides, self.entries.as_slice())
     }
 }

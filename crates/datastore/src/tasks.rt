@@ -1,11 +1,13 @@
 // The tasks that entries add and take away.
-ghost use Rattle.std.specs.Prelude.{◌≡◌, ◌||◌, ◌&&◌, not, List, ℕ, OnOk, IfOk, true, is_some, bytes_eq};
+ghost use Rattle.std.specs.Prelude.{◌≡◌, ◌++◌, ◌∷◌, [], ◌||◌, ◌&&◌, not, map, List, ℕ, OnOk, IfOk, true, is_some, bytes_eq};
 ghost use Rattle.std.specs.BTreeMap.{get_by_text, IsOrdered};
 ghost use Rattle.std.specs.String.{string_cmp};
 ghost use Rattle.meta_model.specs.Tasks as tasks;
-ghost use Rattle.datastore.specs.Picked.{picked};
+ghost use Rattle.meta_model.specs.declared.entry.EntryLine.{EntryLine as Line};
+ghost use Rattle.datastore.specs.Orders.{IsOrderOf, with_order};
 
-use crate::order::{order_of, orders_of};
+use crate::by_name::{drop_value, names_of, put_value};
+use crate::order::{Orders, order_of, orders_of};
 use meta_model::EntryLine;
 use std::alloc::Global;
 use std::collections::BTreeMap;
@@ -18,15 +20,14 @@ pub(crate) type Names = BTreeMap<String, ()>;
 pub(crate) fn put(set: &mut Names, alloc: Global, name: &str) -> Result<(), Mem>
     ensures { OnOk result ((b : List ℕ) → is_some (get_by_text set.new b) ≡ (bytes_eq name.now b || is_some (get_by_text set.old b))) }
 {
-    set.insert(String::from_str(alloc, name)?, ())?;
-    Ok(())
+    put_value(set, alloc, name, ())
 }
 
 /// Takes a name out of the set.
 fn drop_name(set: &mut Names, name: &str)
     ensures { (b : List ℕ) → is_some (get_by_text set.new b) ≡ (not (bytes_eq name.now b) && is_some (get_by_text set.old b)) }
 {
-    set.remove(name);
+    drop_value(set, name);
 }
 
 /// What an entry makes of the set of tasks.
@@ -54,15 +55,44 @@ fn tasks_of(alloc: Global, lines: &[EntryLine]) -> Result<Names, Mem>
     Ok(set)
 }
 
-/// The names of a set, in byte order.
-pub(crate) fn names_of(alloc: Global, set: &Names) -> Result<Texts, Mem>
-    ensures names { IfOk result (λ made. made ≡ picked (λ there. true) set.now.entries) }
-    ensures ordered { OnOk result (IsOrdered string_cmp set.now) }
+/// Puts a task at the end, with those that it comes after.
+fn push_task(
+    made: &mut Vec<(Text, Texts)>,
+    alloc: Global,
+    set: &Names,
+    orders: &Orders,
+    task: &Text,
+) -> Result<(), Mem>
+    ensures { (list : List Line) → IsOrderOf list orders.now → ((t : List ℕ) → is_some (get_by_text set.now t) ≡ tasks.is_task list t) → OnOk result (made.new.items ≡ made.old.items ++ with_order list task.now ∷ []) }
 {
-    let mut made = Texts::new(alloc);
-    for (name, _) in set {
-        made.push(Text::from_str(alloc, name.as_str())?)?;
+    let before = order_of(alloc, orders, set, task.as_str())?;
+    let task = task.copy()?;
+    Ok(made.push((task, before))?)
+}
+
+/// Puts tasks at the end, each with those that it comes after.
+fn push_tasks(
+    made: &mut Vec<(Text, Texts)>,
+    alloc: Global,
+    set: &Names,
+    orders: &Orders,
+    all: &[Text],
+) -> Result<(), Mem>
+    ensures { (list : List Line) → IsOrderOf list orders.now → ((t : List ℕ) → is_some (get_by_text set.now t) ≡ tasks.is_task list t) → OnOk result (made.new.items ≡ made.old.items ++ map (with_order list) all.now) }
+{
+    for task in all {
+        push_task(made, alloc, set, orders, task)?;
     }
+    Ok(())
+}
+
+/// The tasks of a set in byte order, each with those that it comes after.
+fn with_orders(alloc: Global, set: &Names, orders: &Orders) -> Result<Vec<(Text, Texts)>, Mem>
+    ensures { (list : List Line) → IsOrderOf list orders.now → ((t : List ℕ) → is_some (get_by_text set.now t) ≡ tasks.is_task list t) → IfOk result (λ made. made.items ≡ tasks.tasks list) }
+{
+    let all = names_of(alloc, set)?;
+    let mut made = Vec::new(alloc);
+    push_tasks(&mut made, alloc, set, orders, all.as_slice())?;
     Ok(made)
 }
 
@@ -72,11 +102,5 @@ pub(crate) fn ordered_tasks(alloc: Global, lines: &[EntryLine]) -> Result<Vec<(T
 {
     let set = tasks_of(alloc, lines)?;
     let orders = orders_of(alloc, lines)?;
-    let all = names_of(alloc, &set)?;
-    let mut made = Vec::new(alloc);
-    for task in all.as_slice() {
-        let before = order_of(alloc, &orders, &set, task.as_str())?;
-        made.push((task.copy()?, before))?;
-    }
-    Ok(made)
+    with_orders(alloc, &set, &orders)
 }

@@ -1,5 +1,5 @@
 -- Which paths patterns name.
-use Rattle.std.proofs.Common.{◌≡◌, refl, sym, ◌∙◌, ap, subst, ℕ, ◌+◌, ◌<◌, List, [], ◌∷◌, ◌++◌, length, take, drop, get_or, filter, filter_map, Bool, true, false, ◌&&◌, ◌||◌, Option, Some, None, inl, inr, append-nil, append_assoc}
+use Rattle.std.proofs.Common.{◌≡◌, refl, sym, ◌∙◌, ap, ℕ, ◌+◌, ◌<◌, List, [], ◌∷◌, ◌++◌, length, take, get_or, filter, filter_map, Bool, false, ◌&&◌, ◌||◌, Option, Some, None, append-nil}
 use Rattle.std.specs.Option.{option_to_list, option_map_or}
 use Rattle.std.specs.List.{list_any, cons_option}
 use Rattle.std.specs.List.Sorted.{IsStrictlySortedBy}
@@ -10,7 +10,7 @@ use Rattle.std.specs.declared.cmp.Ordering.TheVariants.{Less}
 use Rattle.std.proofs.lemmas.List.{take_more}
 use Rattle.std.proofs.lemmas.List.Elements.{filter_map-append}
 use Rattle.std.proofs.lemmas.Map.Keys.{sorted_head, sorted_tail}
-use Rattle.meta_model.specs.Text.{is_in, in_byte_order}
+use Rattle.meta_model.specs.Text.{in_byte_order}
 use Rattle.datastore.proofs.Ordered.{Above, Ascending, ascending_same, filter_ascending, ordered_ascending, ordered_in}
 use Rattle.load_model.specs.Paths.{path_named, has_ending}
 use Rattle.load_model.specs.Patterns.{matches, names_path}

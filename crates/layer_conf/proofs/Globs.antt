@@ -1,12 +1,12 @@
 -- Patterns and the rests of a path, byte by byte.
-use Rattle.std.proofs.Common.{◌≡◌, replicate, refl, sym, ◌∙◌, ap, arith, ℕ, zero, suc, ◌+◌, ◌-◌, ◌<◌, ◌≤◌, Bool, true, false, not, ◌&&◌, ◌||◌, ◌==◌, List, [], ◌∷◌, ◌++◌, length, take, drop, get_or, append_assoc, length-append, add-one, append-nil, inl, inr, subst, if◌then◌else◌}
+use Rattle.std.proofs.Common.{◌≡◌, replicate, refl, sym, ◌∙◌, ap, arith, ℕ, zero, suc, ◌+◌, ◌-◌, ◌<◌, ◌≤◌, Bool, true, false, not, ◌&&◌, ◌||◌, ◌==◌, List, [], ◌∷◌, ◌++◌, length, take, drop, get_or, append_assoc, length-append, add-one, append-nil, inl, inr, if◌then◌else◌}
 use Rattle.std.specs.List.{list_any}
 use Rattle.std.proofs.Math.Seq.{drop-cons, get_or-append_seam}
 use Rattle.std.proofs.Math.ListN.{get_or-append}
 use Rattle.std.proofs.lemmas.Bool.{cases_Bool}
 use Rattle.std.proofs.lemmas.List.{take-append-drop, length-drop, drop_all, get_or_default}
 use Rattle.load_model.specs.Paths.{is_slash}
-use Rattle.load_model.specs.Patterns.{matches, behind, behind_runs, behind_one, behind_byte, behind_character, goes_on}
+use Rattle.load_model.specs.Patterns.{matches, behind_runs, behind_one, behind_byte, behind_character, goes_on}
 use Rattle.layer_conf.specs.Rows.{rows, cell_of}
 
 or_false : (b : Bool) → (b || false) ≡ b

@@ -1,14 +1,15 @@
 -- Layers, one after another, and their faults.
-use Rattle.std.proofs.Common.{◌≡◌, refl, sym, ◌∙◌, ap, subst, ℕ, ◌+◌, ◌<◌, Bool, true, false, List, [], ◌∷◌, length, drop, get_or, Option, Some, None, is_some, Result, Ok, Err, MatchOption, codes}
+use Rattle.std.proofs.Common.{◌≡◌, refl, sym, ◌∙◌, ap, subst, ℕ, ◌+◌, ◌<◌, Bool, true, false, List, length, drop, get_or, Option, Some, None, is_some, Result, Ok, Err, MatchOption, codes}
 use Rattle.std.specs.Option.{option_map}
 use Rattle.meta_model.specs.declared.line.Kind.TheVariants.{Conf}
 use Rattle.load_model.specs.LoadRefusal.{LoadCause, LoadRefusal, Place, refused_at, ◌>>=◌, refused_as}
 use Rattle.load_model.specs.Loading.{Sources, Loaded, entries}
-use Rattle.load_model.specs.Layers.{LayerRefusal, load, no_list, layer_file, layer_at, layers_after, sources_in_layer, starting_with, built_in, configured, layered, flat, Configured, patterns, words_of, config, Config}
+use Rattle.load_model.specs.Layers.{LayerRefusal, load, no_list, layer_file, layer_at, layers_after, sources_in_layer, starting_with, built_in, configured, layered, flat, Configured, patterns, words_of, config, named_files, in_layer_order}
 use Rattle.meta_model.specs.Refusal.{Refusal}
 use Rattle.datastore.specs.declared.fault.DataFault.{DataFault}
 use Rattle.datastore.specs.Faults.{IsDataFault}
-use Rattle.layer_conf.specs.Config.{layered_from, patterns_over, lists_over}
+use Rattle.layer_conf.specs.Config.{configured_meant, layered_from, listed_meant, patterns_over, lists_over, with_lists}
+use Rattle.layer_conf.specs.declared.reads.Configured.{Configured as Made}
 use Rattle.class_inherit.specs.declared.fault.LoadFault.{LoadFault}
 use Rattle.class_inherit.specs.Faults.{cause_of, place_of, load_refusal, IsLoadFault}
 use Rattle.recipe_facts.specs.Said.{IsRefused, data_refusal}
@@ -110,22 +111,25 @@ bind_assoc : {A B C E : Type 0} (m : Result A E) (f : A → Result B E) (g : B �
 bind_assoc (Ok a) f g = refl
 bind_assoc (Err r) f g = refl
 
-abbrev with_lists : List (List ℕ) → Configured → Result Config LayerRefusal
-with_lists paths made = patterns_over made.lines >>= λ words. Ok (lists_over made words paths)
-
-config_behind : (sources : Sources) (paths : List (List ℕ)) (made : Configured) → configured sources ≡ Ok made → config sources paths ≡ with_lists paths made
+pub config_behind : (sources : Sources) (paths : List (List ℕ)) (made : Configured) → configured sources ≡ Ok made → config sources paths ≡ with_lists paths made
 config_behind sources paths made e =
     goes_on (configured sources) made (λ k. refused_as no_list (words_of k.lines (codes "BBFILES")) >>= λ named. patterns named >>= λ words. Ok (lists_over k words paths)) e
     ∙ sym (bind_assoc (refused_as no_list (words_of made.lines (codes "BBFILES"))) patterns (λ words. Ok (lists_over made words paths)))
 
-pub config_is : (sources : Sources) (paths words : List (List ℕ)) (made : Configured) → configured sources ≡ Ok made → patterns_over made.lines ≡ Ok words → config sources paths ≡ Ok (lists_over made words paths)
-config_is sources paths words made e w = config_behind sources paths made e ∙ goes_on (patterns_over made.lines) words (λ ws. Ok (lists_over made ws paths)) w
+pub lists_are : (paths words : List (List ℕ)) (made : Configured) → patterns_over made.lines ≡ Ok words → with_lists paths made ≡ Ok (lists_over made words paths)
+lists_are paths words made w = goes_on (patterns_over made.lines) words (λ ws. Ok (lists_over made ws paths)) w
 
 pub config_first : (sources : Sources) (paths : List (List ℕ)) (fault : LayerFault) → IsLayerFault fault (configured sources) → IsLayerFault fault (config sources paths)
 config_first sources paths fault h = layer_on fault (configured sources) (λ k. refused_as no_list (words_of k.lines (codes "BBFILES")) >>= λ named. patterns named >>= λ words. Ok (lists_over k words paths)) h
 
-pub config_words : (sources : Sources) (paths : List (List ℕ)) (made : Configured) (fault : LayerFault) → configured sources ≡ Ok made → IsLayerFault fault (patterns_over made.lines) → IsLayerFault fault (config sources paths)
-config_words sources paths made fault e h = layer_same fault (config sources paths) (with_lists paths made) (config_behind sources paths made e) (layer_on fault (patterns_over made.lines) (λ words. Ok (lists_over made words paths)) h)
+pub lists_fault : (paths : List (List ℕ)) (made : Configured) (fault : LayerFault) → IsLayerFault fault (patterns_over made.lines) → IsLayerFault fault (with_lists paths made)
+lists_fault paths made fault h = layer_on fault (patterns_over made.lines) (λ words. Ok (lists_over made words paths)) h
 
 pub layer_free : {A : Type 0} (fault : LayerFault) (m : Result A LayerRefusal) → layer_refusal fault ≡ None → IsLayerFault fault m
 layer_free fault m e = record { told = subst (λ o. IsRefused o m) (sym e) tt }
+
+pub lists_made : (made : Made) (words paths found layers recipes appends : List (List ℕ)) → paths ≡ found → layers ≡ made.layers → recipes ≡ named_files words (codes ".bb") found → appends ≡ in_layer_order layers (named_files words (codes ".bbappend") found)
+    → lists_over (configured_meant made) words paths ≡ listed_meant made recipes appends
+lists_made made words paths found layers recipes appends p l r a =
+    ap (lists_over (configured_meant made) words) p
+    ∙ sym (ap (λ x. listed_meant made x appends) r ∙ ap (listed_meant made (named_files words (codes ".bb") found)) (a ∙ ap (λ x. in_layer_order x (named_files words (codes ".bbappend") found)) l))

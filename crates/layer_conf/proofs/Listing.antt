@@ -1,9 +1,9 @@
 -- Lists of paths.
-use Rattle.std.proofs.Common.{◌≡◌, refl, sym, ◌∙◌, ap, subst, ℕ, suc, ◌+◌, ◌<◌, arith, Bool, true, false, ◌||◌, ◌⊎◌, inl, inr, List, [], ◌∷◌, length, Option, Some, None, Result, Ok, Err, bytes_eq}
+use Rattle.std.proofs.Common.{◌≡◌, refl, sym, ℕ, suc, arith, Bool, true, false, inl, inr, List, [], ◌∷◌, Option, bytes_eq}
 use Rattle.std.specs.Prelude.{Contains}
 use Rattle.std.specs.Cmp.Lexicographic.{nat_list_eq_equiv}
 use Rattle.std.proofs.lemmas.Map.Views.{list_any-from_Contains}
-use Rattle.meta_model.proofs.Bools.{either_way, not_both, same_text, from_or}
+use Rattle.meta_model.proofs.Bools.{either_way, same_text, from_or}
 use Rattle.meta_model.specs.Text.{is_in}
 use Rattle.datastore.proofs.Ordered.{ascending_same}
 use Rattle.outside_traits.specs.Store.{IsListing}

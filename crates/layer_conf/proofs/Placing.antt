@@ -1,15 +1,13 @@
 -- The places of layers.
-use Rattle.std.proofs.Common.{◌≡◌, refl, sym, ◌∙◌, ap, subst, ℕ, zero, suc, ◌+◌, ◌<◌, ◌≤◌, arith, List, [], ◌∷◌, ◌++◌, length, take, drop, get_or, map, filter, flat_map, Bool, true, false, ◌&&◌, cond, Option, Some, None, eqb, nat_eq, inl, inr, append-nil, append_assoc, add-one, eq-eqb, ne_eqb}
-use Rattle.std.specs.List.{starts_with}
+use Rattle.std.proofs.Common.{◌≡◌, refl, sym, ◌∙◌, ap, ℕ, zero, suc, ◌+◌, ◌<◌, arith, List, [], ◌∷◌, ◌++◌, length, take, drop, get_or, map, filter, flat_map, Bool, true, false, ◌&&◌, cond, Option, eqb, nat_eq, inl, inr, append-nil, append_assoc, add-one, eq-eqb, ne_eqb}
 use Rattle.std.specs.Option.{option_map_or}
-use Rattle.std.specs.Cmp.Lexicographic.{pointwise}
 use Rattle.std.proofs.lemmas.List.{take_more, drop_more}
 use Rattle.std.proofs.lemmas.List.Elements.{filter-append}
 use Rattle.std.proofs.lemmas.List.Concat.{flat_map-append}
 use Rattle.meta_model.proofs.Bools.{either_way}
 use Rattle.meta_model.specs.Text.{begins_with}
 use Rattle.load_model.specs.Paths.{slash, path_named}
-use Rattle.load_model.specs.Layers.{held_by, longer, folder_length, nearest_from, layer_place, numbers_to, in_layer_order}
+use Rattle.load_model.specs.Layers.{longer, folder_length, nearest_from, layer_place, numbers_to}
 use Rattle.layer_conf.specs.Places.{length_in, nearest_in, place_in}
 
 -- folders that are named once

@@ -43,3 +43,11 @@ lists_over made words paths = record {
   recipes = named_files words (codes ".bb") paths;
   appends = in_layer_order made.layers (named_files words (codes ".bbappend") paths);
 }
+
+-- the configuration with its lists over the paths of all files
+abbrev pub with_lists : List (List ℕ) → MeantLayers → Result Meant LayerRefusal
+with_lists paths made = patterns_over made.lines >>= λ words. Ok (lists_over made words paths)
+
+-- the configuration with these lists
+abbrev pub listed_meant : Configured → List (List ℕ) → List (List ℕ) → Meant
+listed_meant made recipes appends = record { lines = made.store; layers = made.layers; recipes = recipes; appends = appends }

@@ -1,5 +1,5 @@
 -- The places of layers, whose folders are named once.
-use Rattle.std.specs.Prelude.{ℕ, suc, List, [], ◌∷◌, length, Option, Some, None}
+use Rattle.std.specs.Prelude.{ℕ, suc, List, [], ◌∷◌, length, Option, None}
 use Rattle.std.specs.Option.{option_map_or}
 use Rattle.load_model.specs.Layers.{held_by, longer}
 

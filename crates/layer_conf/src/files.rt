@@ -1,5 +1,5 @@
 // The files that the words of BBFILES name.
-ghost use Rattle.std.specs.Prelude.{◌≡◌, ◌&&◌, List, ℕ, IfOk, filter, filter_map};
+ghost use Rattle.std.specs.Prelude.{◌≡◌, ◌&&◌, ◌++◌, ◌∷◌, [], List, ℕ, IfOk, OnOk, filter, filter_map};
 ghost use Rattle.std.specs.List.{list_any};
 ghost use Rattle.std.specs.List.Sorted.{IsStrictlySortedBy};
 ghost use Rattle.std.specs.Ordering.{nat_cmp};
@@ -36,15 +36,29 @@ fn is_wanted(alloc: Global, globs: &[Text], ending: &str, path: &str) -> Result<
     matches_any(alloc, globs, path)
 }
 
+/// Puts a path at the end if it matches one of these patterns and has the ending.
+fn push_wanted(
+    alloc: Global,
+    made: &mut Texts,
+    globs: &[Text],
+    ending: &str,
+    path: &Text,
+) -> Result<(), Mem>
+    ensures { OnOk result (made.new ≡ made.old ++ filter (is_wanted globs.now ending.now) (path.now ∷ [])) }
+{
+    if is_wanted(alloc, globs, ending, path.as_str())? {
+        made.push(path.copy()?)?;
+    }
+    Ok(())
+}
+
 /// Of some paths in byte order those that match one of these patterns and have the ending.
 fn wanted_files(alloc: Global, globs: &[Text], ending: &str, paths: &[Text]) -> Result<Texts, Mem>
     ensures { IfOk result (λ made. made ≡ filter (is_wanted globs.now ending.now) paths.now) }
 {
     let mut made = Texts::new(alloc);
     for path in paths {
-        if is_wanted(alloc, globs, ending, path.as_str())? {
-            made.push(path.copy()?)?;
-        }
+        push_wanted(alloc, &mut made, globs, ending, path)?;
     }
     Ok(made)
 }

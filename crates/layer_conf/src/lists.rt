@@ -1,5 +1,5 @@
 // The configuration with its lists.
-ghost use Rattle.std.specs.Prelude.{◌≡◌, [], List, ℕ, Ok, None, IfOk, IfErr, filter_map, false};
+ghost use Rattle.std.specs.Prelude.{◌≡◌, [], List, ℕ, Ok, None, IfOk, IfErr, codes, filter_map, false};
 ghost use Rattle.std.specs.List.Sorted.{IsStrictlySortedBy};
 ghost use Rattle.std.specs.Ordering.{nat_cmp};
 ghost use Rattle.std.specs.Cmp.Lexicographic.{slice_cmp};
@@ -9,7 +9,7 @@ ghost use Rattle.load_model.specs.Paths.{path_named};
 ghost use Rattle.load_model.specs.Loading.{sources_of};
 ghost use Rattle.load_model.specs.Layers as meant;
 ghost use Rattle.layer_conf.specs.Faults.{layer_refusal, IsLayerFault, layers_failed};
-ghost use Rattle.layer_conf.specs.Config.{config_meant, configured_meant, lists_over, patterns_over, AreGlobs};
+ghost use Rattle.layer_conf.specs.Config.{config_meant, configured_meant, listed_meant, patterns_over, with_lists, AreGlobs};
 
 use crate::fault::{LayerFault, data_told};
 use crate::files::named_files;
@@ -64,19 +64,79 @@ fn listed<L: Layers>(alloc: Global, layers: &mut L) -> Result<Texts, LayerFault>
     }
 }
 
-/// The lists over the paths of all files.
-fn lists_of(alloc: Global, made: Configured, globs: &[Text], paths: &[Text]) -> Result<Config, Mem>
-    ensures { IfOk result (λ config. IsStrictlySortedBy (slice_cmp nat_cmp) paths.now → (words : List (List ℕ)) → globs.now ≡ filter_map path_named words → config_meant config ≡ lists_over (configured_meant made) words paths.now) }
+/// The appends among the paths of all files, in the order of these layers.
+fn appends_of(alloc: Global, layers: &[Text], globs: &[Text], paths: &[Text]) -> Result<Texts, Mem>
+    ensures { IfOk result (λ appends. IsStrictlySortedBy (slice_cmp nat_cmp) paths.now → (words : List (List ℕ)) → globs.now ≡ filter_map path_named words → appends ≡ meant.in_layer_order layers.now (meant.named_files words (codes ".bbappend") paths.now)) }
+{
+    let appends = named_files(alloc, globs, ".bbappend", paths)?;
+    in_layer_order(alloc, layers, appends.as_slice())
+}
+
+/// The lists over the paths of all files: the recipes and the appends.
+fn lists_of(
+    alloc: Global,
+    layers: &[Text],
+    globs: &[Text],
+    paths: &[Text],
+) -> Result<(Texts, Texts), Mem>
+    ensures recipes { IfOk result (λ lists. IsStrictlySortedBy (slice_cmp nat_cmp) paths.now → (words : List (List ℕ)) → globs.now ≡ filter_map path_named words → lists.0 ≡ meant.named_files words (codes ".bb") paths.now) }
+    ensures appends { IfOk result (λ lists. IsStrictlySortedBy (slice_cmp nat_cmp) paths.now → (words : List (List ℕ)) → globs.now ≡ filter_map path_named words → lists.1 ≡ meant.in_layer_order layers.now (meant.named_files words (codes ".bbappend") paths.now)) }
 {
     let recipes = named_files(alloc, globs, ".bb", paths)?;
-    let appends = named_files(alloc, globs, ".bbappend", paths)?;
-    let appends = in_layer_order(alloc, made.layers.as_slice(), appends.as_slice())?;
-    Ok(Config {
-        store: made.store,
-        layers: made.layers,
-        recipes,
-        appends,
-    })
+    let appends = appends_of(alloc, layers, globs, paths)?;
+    Ok((recipes, appends))
+}
+
+/// The lists that a configuration has over its files, which are listed.
+fn lists_over<L: Layers>(
+    alloc: Global,
+    layers: &mut L,
+    made: &Configured,
+) -> Result<(Texts, Texts), LayerFault>
+    ensures ok { IfOk result (λ lists. L.tells → (paths : List (List ℕ)) → IsListing [] (L.files layers.old) paths → with_lists paths (configured_meant made.now) ≡ Ok (listed_meant made.now lists.0 lists.1)) }
+    ensures err { IfErr result (λ fault. L.tells → (paths : List (List ℕ)) → IsListing [] (L.files layers.old) paths → IsLayerFault fault (with_lists paths (configured_meant made.now))) }
+    ensures same { L.files layers.new ≡ L.files layers.old }
+    ensures cause { Counts (L.faults layers.old) (L.faults layers.new) (layers_failed result) }
+{
+    let globs = match globs_over(alloc, &made.store) {
+        Ok(globs) => globs,
+        Err(fault) => return Err(fault),
+    };
+    let paths = match listed(alloc, layers) {
+        Ok(paths) => paths,
+        Err(fault) => return Err(fault),
+    };
+    match lists_of(
+        alloc,
+        made.layers.as_slice(),
+        globs.as_slice(),
+        paths.as_slice(),
+    ) {
+        Ok(lists) => Ok(lists),
+        Err(_) => Err(LayerFault::Memory),
+    }
+}
+
+/// The configuration with its lists.
+fn with_lists<L: Layers>(
+    alloc: Global,
+    layers: &mut L,
+    made: Configured,
+) -> Result<Config, LayerFault>
+    ensures ok { IfOk result (λ config. L.tells → (paths : List (List ℕ)) → IsListing [] (L.files layers.old) paths → with_lists paths (configured_meant made) ≡ Ok (config_meant config)) }
+    ensures err { IfErr result (λ fault. L.tells → (paths : List (List ℕ)) → IsListing [] (L.files layers.old) paths → IsLayerFault fault (with_lists paths (configured_meant made))) }
+    ensures same { L.files layers.new ≡ L.files layers.old }
+    ensures cause { Counts (L.faults layers.old) (L.faults layers.new) (layers_failed result) }
+{
+    match lists_over(alloc, layers, &made) {
+        Ok((recipes, appends)) => Ok(Config {
+            store: made.store,
+            layers: made.layers,
+            recipes,
+            appends,
+        }),
+        Err(fault) => Err(fault),
+    }
 }
 
 /// Reads the configuration of a project: with layers `conf/bblayers.conf`, then `conf/layer.conf` of each word of BBLAYERS, then
@@ -93,20 +153,8 @@ pub fn read_layers<L: Layers>(alloc: Global, layers: &mut L) -> Result<Config, L
     ensures same { L.files layers.new ≡ L.files layers.old }
     ensures cause { Counts (L.faults layers.old) (L.faults layers.new) (layers_failed result) }
 {
-    let made = match read_configured(alloc, layers) {
-        Ok(made) => made,
-        Err(fault) => return Err(fault),
-    };
-    let globs = match globs_over(alloc, &made.store) {
-        Ok(globs) => globs,
-        Err(fault) => return Err(fault),
-    };
-    let paths = match listed(alloc, layers) {
-        Ok(paths) => paths,
-        Err(fault) => return Err(fault),
-    };
-    match lists_of(alloc, made, globs.as_slice(), paths.as_slice()) {
-        Ok(config) => Ok(config),
-        Err(_) => Err(LayerFault::Memory),
+    match read_configured(alloc, layers) {
+        Ok(made) => with_lists(alloc, layers, made),
+        Err(fault) => Err(fault),
     }
 }

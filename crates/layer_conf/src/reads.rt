@@ -37,6 +37,13 @@ pub(crate) struct Configured {
     pub(crate) layers: Texts,
 }
 
+/// Applies an entry, which is given away.
+fn give(store: &mut Datastore, alloc: Global, line: EntryLine) -> Result<(), Mem>
+    ensures { OnOk result (store.new ≡ store.old ++ line ∷ []) }
+{
+    store.apply(alloc, &line)
+}
+
 /// Applies an assignment.
 fn set(store: &mut Datastore, alloc: Global, name: &str, op: Op, text: &str) -> Result<(), Mem>
     ensures { OnOk result (store.new ≡ store.old ++ Set name.now op text.now ∷ []) }
@@ -46,19 +53,28 @@ fn set(store: &mut Datastore, alloc: Global, name: &str, op: Op, text: &str) -> 
         op,
         text: Text::from_str(alloc, text)?,
     };
-    store.apply(alloc, &line)
+    give(store, alloc, line)
 }
 
-/// What is there before the first file is read (own rule).
+/// Applies what is there before the first file is read (own rule).
+fn set_built_in(store: &mut Datastore, alloc: Global) -> Result<(), Mem>
+    ensures { OnOk result (store.old ≡ [] → store.new ≡ meant.built_in) }
+{
+    set(store, alloc, "TOPDIR", Op::Set, ".")?;
+    set(store, alloc, "BB_DEFAULT_TASK", Op::Weak, "build")?;
+    set(store, alloc, "BB_NUMBER_THREADS", Op::Weak, "4")?;
+    set(store, alloc, "PACKAGES", Op::Weak, "${PN}")
+}
+
+/// What is there before the first file is read.
 fn built_in(alloc: Global) -> Result<Datastore, Mem>
     ensures { IfOk result (λ made. made ≡ meant.built_in) }
 {
     let mut store = Datastore::new(alloc);
-    set(&mut store, alloc, "TOPDIR", Op::Set, ".")?;
-    set(&mut store, alloc, "BB_DEFAULT_TASK", Op::Weak, "build")?;
-    set(&mut store, alloc, "BB_NUMBER_THREADS", Op::Weak, "4")?;
-    set(&mut store, alloc, "PACKAGES", Op::Weak, "${PN}")?;
-    Ok(store)
+    match set_built_in(&mut store, alloc) {
+        Ok(()) => Ok(store),
+        Err(_) => Err(Mem),
+    }
 }
 
 /// The same without layers: the recipes stand in one folder (own rule).
@@ -94,6 +110,28 @@ fn bitbake_conf<L: Layers>(
     }
 }
 
+/// Reads the file of this layer, which is the word, at this path, where it is there.
+fn layer_for<L: Layers>(
+    alloc: Global,
+    layers: &mut L,
+    layer: &Option<Text>,
+    word: &str,
+    path: &str,
+    reading: Reading,
+) -> Result<Reading, LayerFault>
+    requires { layer.now ≡ Some word.now }
+    ensures ok { IfOk result (λ made. L.tells → meant.layer_at (sources_of (L.files layers.old)) word.now (Some path.now) reading ≡ Ok made) }
+    ensures err { IfErr result (λ fault. L.tells → IsLayerFault fault (meant.layer_at (sources_of (L.files layers.old)) word.now (Some path.now) reading)) }
+    ensures same { L.files layers.new ≡ L.files layers.old }
+    ensures cause { Counts (L.faults layers.old) (L.faults layers.new) (layers_failed result) }
+{
+    match reading.file_if_there(alloc, layers, layer, path, Kind::Conf) {
+        Ok(Some(made)) => Ok(made),
+        Ok(None) => Err(no_such_layer(alloc, word)),
+        Err(fault) => Err(load_told(fault)),
+    }
+}
+
 /// Reads the file of a layer at this path, where it is there.
 fn layer_there<L: Layers>(
     alloc: Global,
@@ -107,14 +145,28 @@ fn layer_there<L: Layers>(
     ensures same { L.files layers.new ≡ L.files layers.old }
     ensures cause { Counts (L.faults layers.old) (L.faults layers.new) (layers_failed result) }
 {
-    let layer = match word.copy() {
-        Ok(layer) => Some(layer),
-        Err(_) => return Err(LayerFault::Memory),
-    };
-    match reading.file_if_there(alloc, layers, &layer, path, Kind::Conf) {
-        Ok(Some(made)) => Ok(made),
-        Ok(None) => Err(no_such_layer(alloc, word.as_str())),
-        Err(fault) => Err(load_told(fault)),
+    match word.copy() {
+        Ok(layer) => layer_for(alloc, layers, &Some(layer), word.as_str(), path, reading),
+        Err(_) => Err(LayerFault::Memory),
+    }
+}
+
+/// Reads the file of a layer at the path that its word names, if any.
+fn layer_named<L: Layers>(
+    alloc: Global,
+    layers: &mut L,
+    word: &Text,
+    path: Option<Text>,
+    reading: Reading,
+) -> Result<Reading, LayerFault>
+    ensures ok { IfOk result (λ made. L.tells → meant.layer_at (sources_of (L.files layers.old)) word.now path reading ≡ Ok made) }
+    ensures err { IfErr result (λ fault. L.tells → IsLayerFault fault (meant.layer_at (sources_of (L.files layers.old)) word.now path reading)) }
+    ensures same { L.files layers.new ≡ L.files layers.old }
+    ensures cause { Counts (L.faults layers.old) (L.faults layers.new) (layers_failed result) }
+{
+    match path {
+        Some(path) => layer_there(alloc, layers, word, path.as_str(), reading),
+        None => Err(no_such_layer(alloc, word.as_str())),
     }
 }
 
@@ -131,8 +183,7 @@ fn layer_at<L: Layers>(
     ensures cause { Counts (L.faults layers.old) (L.faults layers.new) (layers_failed result) }
 {
     match layer_file(alloc, word.as_str()) {
-        Ok(Some(path)) => layer_there(alloc, layers, word, path.as_str(), reading),
-        Ok(None) => Err(no_such_layer(alloc, word.as_str())),
+        Ok(path) => layer_named(alloc, layers, word, path, reading),
         Err(_) => Err(LayerFault::Memory),
     }
 }

@@ -1,16 +1,16 @@
 -- Answers and refusals, one after another.
 use Rattle.std.proofs.Common.{◌≡◌, refl, sym, ◌∙◌, ap, subst, ℕ, ◌+◌, ◌<◌, List, [], ◌∷◌, ◌++◌, length, get_or, drop, Option, Some, None, Result, Ok, Err, IfOk, IfErr, OnOk, append_assoc, append-nil}
-use Rattle.std.specs.Prelude.{MatchOption, IsErrAnd}
+use Rattle.std.specs.Prelude.{IsErrAnd}
 use Rattle.std.proofs.lemmas.Result.{err_from_is_err_and}
 use Rattle.std.proofs.lemmas.List.{drop_more}
-use Rattle.meta_model.specs.Refusal.{Refusal, value_cycle, too_deep, too_long, unstable}
+use Rattle.meta_model.specs.Refusal.{Refusal}
 use Rattle.var_expand.specs.declared.fault.ExpandFault.{ExpandFault}
 use Rattle.var_expand.specs.declared.fault.ExpandFault.TheVariants as expand
 use Rattle.var_expand.specs.Faults.{IsFaultOf}
 use Rattle.datastore.specs.declared.fault.DataFault.{DataFault}
 use Rattle.datastore.specs.declared.fault.DataFault.TheVariants.{Unstable, Expand, Memory}
-use Rattle.datastore.specs.Faults.{IsDataFault}
-use Rattle.load_model.specs.LoadRefusal.{◌>>=◌, refused_as}
+use Rattle.datastore.specs.Faults.{IsDataFault, IsWantOfMemory}
+use Rattle.load_model.specs.LoadRefusal.{◌>>=◌}
 use Rattle.recipe_facts.specs.Said.{IsRefused, data_refusal}
 use Rattle.recipe_facts.specs.Behind.{behind}
 
@@ -116,3 +116,9 @@ pub exit : {T A : Type 0} (r : Result T DataFault) (fault : DataFault) (meant : 
 exit r fault meant made h =
     let p = err_from_is_err_and r made in
     subst (λ a. IfErr a (λ f. IsDataFault f meant)) (sym p.1) (subst (λ f. IsDataFault f meant) (sym p.2) h)
+
+-- of want of memory nothing is said
+pub want : {T A : Type 0} (r : Result T DataFault) (meant : Result A Refusal) → IsErrAnd r IsWantOfMemory → IfErr r (λ f. IsDataFault f meant)
+want r meant made =
+    let p = err_from_is_err_and r made in
+    subst (λ a. IfErr a (λ f. IsDataFault f meant)) (sym p.1) (subst (λ f. IsDataFault f meant) (sym p.2) tt)

@@ -1,5 +1,5 @@
 -- Text in parentheses, from the front.
-use Rattle.std.proofs.Common.{◌≡◌, refl, sym, ◌∙◌, ap, subst, ℕ, zero, suc, ◌+◌, ◌<◌, ◌≤◌, arith, Bool, true, false, not, ◌||◌, cond, List, [], ◌∷◌, ◌++◌, length, take, drop, get_or, reverse, Some, None, position, append_assoc, append-nil, add-one, ◌⊎◌, inl, inr, eqb, le_trans, length-take}
+use Rattle.std.proofs.Common.{◌≡◌, refl, sym, ◌∙◌, ap, ℕ, suc, ◌+◌, ◌<◌, arith, Bool, true, false, not, cond, List, [], ◌∷◌, ◌++◌, length, take, drop, get_or, reverse, Some, None, position, append_assoc, append-nil, add-one, ◌⊎◌, inl, inr, eqb, le_trans, length-take}
 use Rattle.std.proofs.Math.Seq.{drop-cons}
 use Rattle.std.specs.List.{join_with_byte, position_or_len}
 use Rattle.std.proofs.lemmas.Bool.{ltb-false}

@@ -1,5 +1,5 @@
 -- What is asked of a store one after another.
-use Rattle.std.proofs.Common.{◌≡◌, refl, sym, ◌∙◌, ap, ℕ, List, ◌++◌, map, codes, Result, Ok, Err, Option, unwrap_or}
+use Rattle.std.proofs.Common.{◌≡◌, refl, ◌∙◌, ℕ, List, ◌++◌, map, codes, Result, Ok, Err}
 use Rattle.meta_model.specs.declared.entry.EntryLine.{EntryLine}
 use Rattle.meta_model.specs.declared.facts.RecipeFacts.{RecipeFacts}
 use Rattle.meta_model.specs.declared.facts.Package.{Package}
@@ -12,6 +12,7 @@ use Rattle.load_model.specs.Layers.{words_of}
 use Rattle.load_model.specs.Recipes.{Recipe}
 use Rattle.load_model.specs.Facts.{flag_words, named_task, task_facts, facts_of, form, package_facts, needed_words, all_packages, all_tasks, Wishes, family, wishes}
 use Rattle.recipe_facts.specs.Wished.{wishes_over}
+use Rattle.recipe_facts.specs.Recipe.{facts_behind}
 
 -- a task's flags
 
@@ -38,29 +39,58 @@ task_chain lines task = refl
 abbrev pub Words : Type 0
 Words = List (List ℕ)
 
-abbrev pub facts7 : Recipe → Words → Words → List Package → List TaskFacts → Result RecipeFacts Refusal
-facts7 recipe provides depends packages list = Ok (record { file = recipe.file; pn = recipe.pn; pv = recipe.pv; pr = recipe.pr; provides = provides; depends = depends; packages = packages; tasks = list })
+bind_same : {A B E : Type 0} (m : Result A E) (f g : A → Result B E) → ((a : A) → f a ≡ g a) → (m >>= f) ≡ (m >>= g)
+bind_same (Ok a) f g h = h a
+bind_same (Err refusal) f g h = refl
 
-abbrev pub facts6 : Recipe → Words → Words → List Package → Result RecipeFacts Refusal
-facts6 recipe provides depends packages = all_tasks recipe.lines (tasks recipe.lines) >>= facts7 recipe provides depends packages
+bind_apart : {A B C E : Type 0} (m : Result A E) (f : A → Result B E) (g : B → Result C E) → (m >>= λ a. f a >>= g) ≡ ((m >>= f) >>= g)
+bind_apart (Ok a) f g = refl
+bind_apart (Err refusal) f g = refl
 
-abbrev pub facts5 : Recipe → Words → Words → Words → Words → Words → Result RecipeFacts Refusal
-facts5 recipe provides depends names provided needed = all_packages recipe.lines provided needed names >>= facts6 recipe provides depends
+abbrev pub packages3 : List EntryLine → Words → Words → Words → Result (List Package) Refusal
+packages3 lines names provided needed = all_packages lines provided needed names
 
-abbrev pub facts4 : Recipe → Words → Words → Words → Words → Result RecipeFacts Refusal
-facts4 recipe provides depends names provided = needed_words recipe.lines (codes "RDEPENDS") >>= facts5 recipe provides depends names provided
+abbrev pub packages2 : List EntryLine → Words → Words → Result (List Package) Refusal
+packages2 lines names provided = needed_words lines (codes "RDEPENDS") >>= packages3 lines names provided
 
-abbrev pub facts3 : Recipe → Words → Words → Words → Result RecipeFacts Refusal
-facts3 recipe provides depends names = words_of recipe.lines (codes "RPROVIDES") >>= facts4 recipe provides depends names
+abbrev pub packages1 : List EntryLine → Words → Result (List Package) Refusal
+packages1 lines names = words_of lines (codes "RPROVIDES") >>= packages2 lines names
 
-abbrev pub facts2 : Recipe → Words → Words → Result RecipeFacts Refusal
-facts2 recipe provides depends = words_of recipe.lines (codes "PACKAGES") >>= facts3 recipe provides depends
+abbrev pub facts4 : Recipe → Words → Words → List Package → List TaskFacts → Result RecipeFacts Refusal
+facts4 recipe provides depends packages list = Ok (record { file = recipe.file; pn = recipe.pn; pv = recipe.pv; pr = recipe.pr; provides = provides; depends = depends; packages = packages; tasks = list })
+
+abbrev pub facts3 : Recipe → Words → Words → List Package → Result RecipeFacts Refusal
+facts3 recipe provides depends packages = all_tasks recipe.lines (tasks recipe.lines) >>= facts4 recipe provides depends packages
 
 abbrev pub facts1 : Recipe → Words → Result RecipeFacts Refusal
-facts1 recipe provides = words_of recipe.lines (codes "DEPENDS") >>= facts2 recipe provides
+facts1 recipe provides = words_of recipe.lines (codes "DEPENDS") >>= facts_behind recipe provides
 
-pub facts_chain : (recipe : Recipe) → facts_of recipe ≡ (words_of recipe.lines (codes "PROVIDES") >>= facts1 recipe)
-facts_chain recipe = refl
+packages_apart : (recipe : Recipe) (provides depends : Words)
+    → (words_of recipe.lines (codes "PACKAGES") >>= λ names. words_of recipe.lines (codes "RPROVIDES") >>= λ provided. needed_words recipe.lines (codes "RDEPENDS") >>= λ needed. packages3 recipe.lines names provided needed >>= facts3 recipe provides depends)
+    ≡ facts_behind recipe provides depends
+packages_apart recipe provides depends =
+    let lines = recipe.lines in
+    let ends = facts3 recipe provides depends in
+    bind_same (words_of lines (codes "PACKAGES"))
+    (λ names. words_of lines (codes "RPROVIDES") >>= λ provided. needed_words lines (codes "RDEPENDS") >>= λ needed. packages3 lines names provided needed >>= ends)
+    (λ names. packages1 lines names >>= ends)
+    (λ names. bind_same (words_of lines (codes "RPROVIDES"))
+    (λ provided. needed_words lines (codes "RDEPENDS") >>= λ needed. packages3 lines names provided needed >>= ends)
+    (λ provided. packages2 lines names provided >>= ends)
+    (λ provided. bind_apart (needed_words lines (codes "RDEPENDS")) (packages3 lines names provided) ends)
+    ∙ bind_apart (words_of lines (codes "RPROVIDES")) (packages2 lines names) ends)
+    ∙ bind_apart (words_of lines (codes "PACKAGES")) (packages1 lines) ends
+
+-- what a recipe says, with what it says of its packages apart
+pub facts_apart : (recipe : Recipe) → facts_of recipe ≡ (words_of recipe.lines (codes "PROVIDES") >>= facts1 recipe)
+facts_apart recipe =
+    let lines = recipe.lines in
+    bind_same (words_of lines (codes "PROVIDES"))
+    (λ provides. words_of lines (codes "DEPENDS") >>= λ depends. words_of lines (codes "PACKAGES") >>= λ names. words_of lines (codes "RPROVIDES") >>= λ provided. needed_words lines (codes "RDEPENDS") >>= λ needed. packages3 lines names provided needed >>= facts3 recipe provides depends)
+    (facts1 recipe)
+    (λ provides. bind_same (words_of lines (codes "DEPENDS"))
+    (λ depends. words_of lines (codes "PACKAGES") >>= λ names. words_of lines (codes "RPROVIDES") >>= λ provided. needed_words lines (codes "RDEPENDS") >>= λ needed. packages3 lines names provided needed >>= facts3 recipe provides depends)
+    (facts_behind recipe provides) (packages_apart recipe provides))
 
 -- the configuration
 
@@ -92,29 +122,3 @@ package1 lines provided needed name provides = needed_words lines (form (codes "
 
 pub package_chain : (lines : List EntryLine) (provided needed : Words) (name : List ℕ) → package_facts lines provided needed name ≡ (words_of lines (form (codes "RPROVIDES") name) >>= package1 lines provided needed name)
 package_chain lines provided needed name = refl
-
--- what is made of copies
-
-abbrev pub a_task : List ℕ → Words → List (List ℕ × List ℕ) → Words → Words → Words → TaskFacts
-a_task task after depends deptask rdeptask recrdeptask = record { task = task; after = after; depends = depends; deptask = deptask; rdeptask = rdeptask; recrdeptask = recrdeptask }
-
-pub task_made : (task : Asked) (t : List ℕ) (after depends : Words) (made : List (List ℕ × List ℕ)) (deptask rdeptask recrdeptask : Words) → t ≡ task.0 → after ≡ task.1 → made ≡ map named_task depends
-    → a_task task.0 task.1 (map named_task depends) deptask rdeptask recrdeptask ≡ a_task t after made deptask rdeptask recrdeptask
-task_made task t after depends made deptask rdeptask recrdeptask e f g =
-    ap (λ x. a_task x task.1 (map named_task depends) deptask rdeptask recrdeptask) (sym e) ∙ ap (λ x. a_task t x (map named_task depends) deptask rdeptask recrdeptask) (sym f) ∙ ap (λ x. a_task t after x deptask rdeptask recrdeptask) (sym g)
-
-abbrev pub a_package : List ℕ → Words → Words → Package
-a_package name rdepends rprovides = record { name = name; rdepends = rdepends; rprovides = rprovides }
-
-pub package_made : (provided needed : Words) (name n : List ℕ) (needs provides rdepends rprovides : Words) → n ≡ name → rdepends ≡ needed ++ needs → rprovides ≡ provided ++ provides → a_package name (needed ++ needs) (provided ++ provides) ≡ a_package n rdepends rprovides
-package_made provided needed name n needs provides rdepends rprovides e f g =
-    ap (λ x. a_package x (needed ++ needs) (provided ++ provides)) (sym e) ∙ ap (λ x. a_package n x (provided ++ provides)) (sym f) ∙ ap (a_package n rdepends) (sym g)
-
-abbrev pub a_recipe : List ℕ → List ℕ → List ℕ → List ℕ → Words → Words → List Package → List TaskFacts → RecipeFacts
-a_recipe file pn pv pr provides depends packages list = record { file = file; pn = pn; pv = pv; pr = pr; provides = provides; depends = depends; packages = packages; tasks = list }
-
-pub recipe_made : (recipe : Recipe) (file pn pv pr : List ℕ) (provides depends : Words) (packages : List Package) (list : List TaskFacts) → file ≡ recipe.file → pn ≡ recipe.pn → pv ≡ recipe.pv → pr ≡ recipe.pr
-    → a_recipe recipe.file recipe.pn recipe.pv recipe.pr provides depends packages list ≡ a_recipe file pn pv pr provides depends packages list
-recipe_made recipe file pn pv pr provides depends packages list e f g h =
-    ap (λ x. a_recipe x recipe.pn recipe.pv recipe.pr provides depends packages list) (sym e) ∙ ap (λ x. a_recipe file x recipe.pv recipe.pr provides depends packages list) (sym f)
-    ∙ ap (λ x. a_recipe file pn x recipe.pr provides depends packages list) (sym g) ∙ ap (λ x. a_recipe file pn pv x provides depends packages list) (sym h)

@@ -1,14 +1,13 @@
 -- The fronts of names, and the names in order.
-use Rattle.std.proofs.Common.{◌≡◌, refl, sym, ◌∙◌, ap, subst, ℕ, ◌+◌, ◌<◌, suc, List, [], ◌∷◌, ◌++◌, length, take, drop, get_or, map, filter, flat_map, Bool, true, false, ◌||◌, ◌&&◌, cond, ◌⊎◌, inl, inr, bytes_eq, is_some, add-one, append_assoc, String, BTreeMap, Option, Some, None}
+use Rattle.std.proofs.Common.{◌≡◌, refl, sym, ◌∙◌, ap, ℕ, ◌+◌, ◌<◌, List, [], ◌∷◌, ◌++◌, length, take, drop, get_or, map, filter, flat_map, Bool, true, false, ◌||◌, ◌&&◌, cond, inl, inr, bytes_eq, is_some, add-one, append_assoc, String, BTreeMap, Option, Some, None}
 use Rattle.std.specs.Global.{Global}
 use Rattle.std.proofs.Math.Seq.{drop-cons}
-use Rattle.std.specs.List.{list_any}
 use Rattle.std.specs.BTreeMap.{get_by_text, IsOrdered}
 use Rattle.std.specs.String.{string_cmp}
 use Rattle.std.proofs.lemmas.List.{take_more}
 use Rattle.std.proofs.lemmas.List.Folds.{list_any-append}
 use Rattle.std.proofs.lemmas.List.Concat.{flat_map-append}
-use Rattle.meta_model.proofs.Bools.{either_way, not_both, same_text, text_itself, differs}
+use Rattle.meta_model.proofs.Bools.{either_way, same_text, text_itself, differs}
 use Rattle.meta_model.specs.Text.{is_in, is_empty, begins_with, colon, cuts, in_byte_order}
 use Rattle.datastore.specs.Picked.{picked, passes}
 use Rattle.datastore.proofs.Ordered.{ascending_same, picked_ascending, picked_in, ordered_ascending, ordered_in}

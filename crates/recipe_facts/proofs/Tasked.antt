@@ -1,6 +1,5 @@
 -- Words that name tasks.
-use Rattle.std.proofs.Common.{◌≡◌, ◌≢◌, refl, sym, ◌∙◌, ap, subst, ℕ, suc, ◌+◌, ◌<◌, arith, List, [], ◌∷◌, ◌++◌, length, get_or, Option, Some, None, MatchOption, Bor, ne_eqb}
-use Rattle.std.specs.Option.{option_map}
+use Rattle.std.proofs.Common.{◌≡◌, ◌≢◌, refl, ◌∙◌, ap, ℕ, suc, ◌<◌, arith, List, [], ◌∷◌, ◌++◌, length, get_or, Option, Some, None, MatchOption, Bor, ne_eqb}
 use Rattle.std.proofs.lemmas.Str.Pattern.{IsSplitOnceResult, split_parts}
 use Rattle.meta_model.specs.Text.{colon, split_at_first}
 

@@ -1,5 +1,5 @@
 -- Names with their values.
-use Rattle.std.proofs.Common.{◌≡◌, refl, sym, ◌∙◌, ap, subst, ℕ, ◌+◌, ◌<◌, List, [], ◌∷◌, ◌++◌, length, get_or, drop, filter, Bool, true, false, Option, Some, None, MatchOption, Result, Ok, Err, Bor, inl, inr, append_assoc}
+use Rattle.std.proofs.Common.{◌≡◌, refl, sym, ◌∙◌, ap, subst, ℕ, ◌+◌, ◌<◌, List, [], ◌∷◌, ◌++◌, length, get_or, drop, filter, Bool, true, false, Option, Some, None, MatchOption, Result, Ok, Err, Bor, inl, inr}
 use Rattle.std.specs.Str.{IsCharBoundary}
 use Rattle.std.specs.Str.Pattern.{FindsTextPrefix}
 use Rattle.std.proofs.lemmas.Str.Pattern.{starts_text}

@@ -1,6 +1,5 @@
 -- What a fault says of what was meant, for refusals of any kind.
 use Rattle.std.specs.Prelude.{◌≡◌, Option, Result, Err, MatchOption, ⊤}
-use Rattle.std.specs.Option.{option_map}
 use Rattle.meta_model.specs.Refusal.{Refusal, unstable}
 use Rattle.datastore.specs.declared.fault.DataFault.{DataFault}
 use Rattle.datastore.specs.declared.fault.DataFault.TheVariants as data_fault

@@ -1,6 +1,7 @@
 // What the configuration says of recipes.
 ghost use Rattle.std.specs.Prelude.{◌≡◌, IfOk, IfErr, Ok};
 ghost use Rattle.datastore.specs.Faults.{IsDataFault};
+ghost use Rattle.meta_model.specs.Frozen as frozen;
 ghost use Rattle.load_model.specs.Facts as facts;
 ghost use Rattle.recipe_facts.specs.Wished.{wished, wishes_over};
 
@@ -34,6 +35,14 @@ fn wishes_told(alloc: Global, store: &Datastore) -> Result<Wishes, DataFault>
     })
 }
 
+/// A store with the names of another moved.
+fn frozen_of(alloc: Global, config: &Datastore) -> Result<Datastore, DataFault>
+    ensures ok { IfOk result (λ made. frozen.frozen config.now ≡ Ok made) }
+    ensures err { IfErr result (λ fault. IsDataFault fault (frozen.frozen config.now)) }
+{
+    config.copy(alloc)?.freeze(alloc)
+}
+
 /// What the configuration says of recipes, once its names are moved (own rule). The configuration stays as it is.
 ///
 /// It is refused where a name can't be moved or one of the values is refused.
@@ -41,7 +50,7 @@ pub fn wishes_of(alloc: Global, config: &Datastore) -> Result<Wishes, DataFault>
     ensures ok { IfOk result (λ made. facts.wishes config.now ≡ Ok (wished made)) }
     ensures err { IfErr result (λ fault. IsDataFault fault (facts.wishes config.now)) }
 {
-    let mut store = config.copy(alloc)?.freeze(alloc)?;
+    let mut store = frozen_of(alloc, config)?;
     store.settle(alloc)?;
     wishes_told(alloc, &store)
 }

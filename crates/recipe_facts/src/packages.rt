@@ -1,7 +1,9 @@
 // What a recipe says of its packages.
-ghost use Rattle.std.specs.Prelude.{◌≡◌, ◌++◌, IfOk, IfErr, Ok};
+ghost use Rattle.std.specs.Prelude.{◌≡◌, ◌++◌, IfOk, IfErr, Ok, codes};
 ghost use Rattle.datastore.specs.Faults.{IsDataFault};
+ghost use Rattle.load_model.specs.Layers as layers;
 ghost use Rattle.load_model.specs.Facts as facts;
+ghost use Rattle.recipe_facts.specs.Recipe.{packages_of};
 
 use crate::asked::{needed_words, words_of};
 use datastore::{DataFault, Datastore};
@@ -30,6 +32,45 @@ fn with_all(first: &Texts, others: &Texts) -> Result<Texts, Mem>
     Ok(made)
 }
 
+/// The words of RPROVIDES for a package.
+fn provided_for(alloc: Global, store: &Datastore, name: &str) -> Result<Texts, DataFault>
+    ensures ok { IfOk result (λ made. layers.words_of store.now (facts.form (codes "RPROVIDES") name.now) ≡ Ok made) }
+    ensures err { IfErr result (λ fault. IsDataFault fault (layers.words_of store.now (facts.form (codes "RPROVIDES") name.now))) }
+{
+    let own = form(alloc, "RPROVIDES", name)?;
+    words_of(alloc, store, own.as_str())
+}
+
+/// The words of RDEPENDS for a package, without text in parentheses.
+fn needed_for(alloc: Global, store: &Datastore, name: &str) -> Result<Texts, DataFault>
+    ensures ok { IfOk result (λ made. facts.needed_words store.now (facts.form (codes "RDEPENDS") name.now) ≡ Ok made) }
+    ensures err { IfErr result (λ fault. IsDataFault fault (facts.needed_words store.now (facts.form (codes "RDEPENDS") name.now))) }
+{
+    let own = form(alloc, "RDEPENDS", name)?;
+    needed_words(alloc, store, own.as_str())
+}
+
+/// A package with the words for all packages, and behind them those for this one.
+fn package_made(
+    alloc: Global,
+    name: &str,
+    needed: &Texts,
+    needs: &Texts,
+    provided: &Texts,
+    provides: &Texts,
+) -> Result<Package, Mem>
+    ensures { IfOk result (λ made. made ≡ record { name = name.now; rdepends = needed.now ++ needs.now; rprovides = provided.now ++ provides.now }) }
+{
+    let name = Text::from_str(alloc, name)?;
+    let rdepends = with_all(needed, needs)?;
+    let rprovides = with_all(provided, provides)?;
+    Ok(Package {
+        name,
+        rdepends,
+        rprovides,
+    })
+}
+
 /// What a recipe says for a package: the words for all its packages, and behind them those for this one ("Variables Glossary",
 /// RDEPENDS and RPROVIDES).
 fn package_facts(
@@ -42,19 +83,13 @@ fn package_facts(
     ensures ok { IfOk result (λ made. facts.package_facts store.now provided.now needed.now name.now ≡ Ok made) }
     ensures err { IfErr result (λ fault. IsDataFault fault (facts.package_facts store.now provided.now needed.now name.now)) }
 {
-    let rprovides = form(alloc, "RPROVIDES", name)?;
-    let provides = words_of(alloc, store, rprovides.as_str())?;
-    let rdepends = form(alloc, "RDEPENDS", name)?;
-    let needs = needed_words(alloc, store, rdepends.as_str())?;
-    Ok(Package {
-        name: Text::from_str(alloc, name)?,
-        rdepends: with_all(needed, &needs)?,
-        rprovides: with_all(provided, &provides)?,
-    })
+    let provides = provided_for(alloc, store, name)?;
+    let needs = needed_for(alloc, store, name)?;
+    Ok(package_made(alloc, name, needed, &needs, provided, &provides)?)
 }
 
 /// What a recipe says for each of these packages.
-pub(crate) fn all_packages(
+fn all_packages(
     alloc: Global,
     store: &Datastore,
     provided: &Texts,
@@ -69,4 +104,15 @@ pub(crate) fn all_packages(
         made.push(package_facts(alloc, store, provided, needed, name.as_str())?)?;
     }
     Ok(made)
+}
+
+/// What a recipe says of its packages, the words of PACKAGES.
+pub(crate) fn packages_of(alloc: Global, store: &Datastore) -> Result<ListOf<Package>, DataFault>
+    ensures ok { IfOk result (λ made. packages_of store.now ≡ Ok made) }
+    ensures err { IfErr result (λ fault. IsDataFault fault (packages_of store.now)) }
+{
+    let names = words_of(alloc, store, "PACKAGES")?;
+    let provided = words_of(alloc, store, "RPROVIDES")?;
+    let needed = needed_words(alloc, store, "RDEPENDS")?;
+    all_packages(alloc, store, &provided, &needed, names.as_slice())
 }

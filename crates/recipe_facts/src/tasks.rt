@@ -45,6 +45,31 @@ fn named_tasks(alloc: Global, words: &[Text]) -> Result<ListOf<(Text, Text)>, Me
     Ok(made)
 }
 
+/// What a recipe says of a task, of the words of its flags.
+fn task_made(
+    alloc: Global,
+    task: &Text,
+    after: &Texts,
+    depends: &[Text],
+    deptask: Texts,
+    rdeptask: Texts,
+    recrdeptask: Texts,
+) -> Result<TaskFacts, Mem>
+    ensures { IfOk result (λ made. made ≡ record { task = task.now; after = after.now; depends = map facts.named_task depends.now; deptask = deptask; rdeptask = rdeptask; recrdeptask = recrdeptask }) }
+{
+    let depends = named_tasks(alloc, depends)?;
+    let task = task.copy()?;
+    let after = after.copy()?;
+    Ok(TaskFacts {
+        task,
+        after,
+        depends,
+        deptask,
+        rdeptask,
+        recrdeptask,
+    })
+}
+
 /// What a recipe says of a task that comes after these ones ("Dependencies").
 fn task_facts(
     alloc: Global,
@@ -60,14 +85,15 @@ fn task_facts(
     let deptask = flag_words(alloc, store, name, "deptask")?;
     let rdeptask = flag_words(alloc, store, name, "rdeptask")?;
     let recrdeptask = flag_words(alloc, store, name, "recrdeptask")?;
-    Ok(TaskFacts {
-        task: task.copy()?,
-        after: after.copy()?,
-        depends: named_tasks(alloc, depends.as_slice())?,
+    Ok(task_made(
+        alloc,
+        task,
+        after,
+        depends.as_slice(),
         deptask,
         rdeptask,
         recrdeptask,
-    })
+    )?)
 }
 
 /// What a recipe says of these tasks.

@@ -1,13 +1,14 @@
-use Rattle.std.proofs.Common.{◌∙◌, refl, ap, sym, subst, Ok, true, false}
+use Rattle.std.proofs.Common.{◌∙◌, ℕ, List, refl, ap, sym, subst, Ok, true, false}
 use Rattle.std.specs.Option.{option_map}
 use Rattle.std.proofs.lemmas.Result.{on_ok_weaker, err_from_is_err_and}
 use Rattle.load_model.specs.LoadRefusal.{asked_at, missing_required, missing_class}
 use Rattle.load_model.specs.Loading.{read_within, statement_after, includes_after, include_after, class_after, classes_after}
 use Rattle.class_inherit.specs.Faults.{where_is, IsLoadFault}
+use Rattle.class_inherit.specs.Naming.{includes_named, classes_named}
 use Rattle.class_inherit.specs.Reading.{found_meant, contents_meant, origin_meant, sources_for, statement_for, text_for, words_in}
 use Rattle.class_inherit.proofs.Told.{if_err, passed}
-use Rattle.class_inherit.proofs.Faulting.{fault_one}
-use Rattle.class_inherit.proofs.Loading.{include_reads, include_reads_fault, include_passed, include_missing, include_fault, origin_same, class_reads, class_reads_fault, class_passed, class_missing, class_fault, run_fault, whole_reads, whole_fault, then_fault, named_reads, named_fault, include_parts, require_parts, inherit_parts}
+use Rattle.class_inherit.proofs.Faulting.{fault_one, fault_on, fault_same}
+use Rattle.class_inherit.proofs.Loading.{include_reads, include_reads_fault, include_passed, include_missing, include_fault, origin_same, class_reads, class_reads_fault, class_passed, class_missing, class_fault, run_fault, whole_reads, whole_fault, then, named_reads, named_fault, include_parts, require_parts, inherit_parts}
 use Rattle.class_inherit.proofs.load.+load.Goals as goal
 
 pub include_word-returns-in-Ok-Some-clause-ok : goal.include_word-returns-in-Ok-Some-clause-ok
@@ -127,96 +128,116 @@ read_found-returns-in-Whole-clause-err g t c =
     c.if-left-eq0.false (ap contents_meant c.in-Whole.is) c.as_slice.ensures (h told))
     c.run_statements.ensures.err
 
-pub run_statement-returns-in_err-words-in-Include-clause-err :
-    goal.run_statement-returns-in_err-words-in-Include-clause-err
-run_statement-returns-in_err-words-in-Include-clause-err g t c =
+pub include_named-returns-in-Ok-clause-ok : goal.include_named-returns-in-Ok-clause-ok
+include_named-returns-in-Ok-clause-ok g t c =
     let sources = sources_for c.args.layer.now (g.L.Layers.files c.args.layers.now) in
     let read = read_within c.args.left sources in
     let place = where_is c.args.place.now in
     let origin = origin_meant c.args.origin.now in
-    let fault = c.in_err-words-in-Include.field-0.0 in
-    let p = err_from_is_err_and c.from_residual.result c.from_residual.ensures.1 in
-    passed c.from_residual.result p.0 fault _ p.1 p.2
-    (λ told. then_fault fault (asked_at place (words_in c.args.reading.now.lines (text_for c.args.layer.now c.in-Include.path))) (λ ws. includes_after read sources place origin false ws c.args.reading.now)
-    (statement_after read sources place origin (statement_for c.args.layer.now c.args.statement.now) c.args.reading.now)
-    (include_parts read sources place origin c.args.layer.now c.args.statement.now c.in-Include.path c.args.reading.now c.in-Include.is) c.in_err-words-in-Include.ensures.err)
+    let asked = asked_at place (words_in c.args.reading.now.lines (text_for c.args.layer.now c.args.text.now)) in
+    let go = λ (ws : List (List ℕ)). includes_after read sources place origin c.args.must ws c.args.reading.now in
+    on_ok_weaker c.include_words.result (λ h told. named_reads asked go (then asked go) c.in-Ok.words c.as_slice-words.result.now c.include_words.new.reading refl c.in-Ok.ensures.ok c.as_slice-words.ensures (h told)) c.include_words.ensures.ok
 
-pub run_statement-returns-in_ok-words-in-Include-clause-err :
-    goal.run_statement-returns-in_ok-words-in-Include-clause-err
-run_statement-returns-in_ok-words-in-Include-clause-err g t c =
+pub include_named-returns-in-Ok-clause-err : goal.include_named-returns-in-Ok-clause-err
+include_named-returns-in-Ok-clause-err g t c =
     let sources = sources_for c.args.layer.now (g.L.Layers.files c.args.layers.now) in
     let read = read_within c.args.left sources in
     let place = where_is c.args.place.now in
     let origin = origin_meant c.args.origin.now in
-    if_err c.include_words.result _ _
-    (λ fault h told. named_fault (asked_at place (words_in c.args.reading.now.lines (text_for c.args.layer.now c.in-Include.path))) (λ ws. includes_after read sources place origin false ws c.args.reading.now)
-    (statement_after read sources place origin (statement_for c.args.layer.now c.args.statement.now) c.args.reading.now) c.in_ok-words-in-Include.words c.as_slice-words.result.now fault
-    (include_parts read sources place origin c.args.layer.now c.args.statement.now c.in-Include.path c.args.reading.now c.in-Include.is) c.in_ok-words-in-Include.ensures.ok c.as_slice-words.ensures (h told))
-    c.include_words.ensures.err
+    let asked = asked_at place (words_in c.args.reading.now.lines (text_for c.args.layer.now c.args.text.now)) in
+    let go = λ (ws : List (List ℕ)). includes_after read sources place origin c.args.must ws c.args.reading.now in
+    if_err c.include_words.result _ _ (λ fault h told. named_fault asked go (then asked go) c.in-Ok.words c.as_slice-words.result.now fault refl c.in-Ok.ensures.ok c.as_slice-words.ensures (h told)) c.include_words.ensures.err
 
-pub run_statement-returns-in_err-words-in-Require-clause-err :
-    goal.run_statement-returns-in_err-words-in-Require-clause-err
-run_statement-returns-in_err-words-in-Require-clause-err g t c =
+pub include_named-returns-in-Err-clause-err : goal.include_named-returns-in-Err-clause-err
+include_named-returns-in-Err-clause-err g t c = λ told.
     let sources = sources_for c.args.layer.now (g.L.Layers.files c.args.layers.now) in
     let read = read_within c.args.left sources in
     let place = where_is c.args.place.now in
     let origin = origin_meant c.args.origin.now in
-    let fault = c.in_err-words-in-Require.field-0.0 in
-    let p = err_from_is_err_and c.from_residual-in_err-words-in-Require.result c.from_residual-in_err-words-in-Require.ensures.1 in
-    passed c.from_residual-in_err-words-in-Require.result p.0 fault _ p.1 p.2
-    (λ told. then_fault fault (asked_at place (words_in c.args.reading.now.lines (text_for c.args.layer.now c.in-Require.path))) (λ ws. includes_after read sources place origin true ws c.args.reading.now)
-    (statement_after read sources place origin (statement_for c.args.layer.now c.args.statement.now) c.args.reading.now)
-    (require_parts read sources place origin c.args.layer.now c.args.statement.now c.in-Require.path c.args.reading.now c.in-Require.is) c.in_err-words-in-Require.ensures.err)
+    let asked = asked_at place (words_in c.args.reading.now.lines (text_for c.args.layer.now c.args.text.now)) in
+    let go = λ (ws : List (List ℕ)). includes_after read sources place origin c.args.must ws c.args.reading.now in
+    fault_on c.in-Err.fault asked go c.in-Err.ensures.err
 
-pub run_statement-returns-in_ok-words-in-Require-clause-err :
-    goal.run_statement-returns-in_ok-words-in-Require-clause-err
-run_statement-returns-in_ok-words-in-Require-clause-err g t c =
+pub inherit_named-returns-in-Ok-clause-ok : goal.inherit_named-returns-in-Ok-clause-ok
+inherit_named-returns-in-Ok-clause-ok g t c =
     let sources = sources_for c.args.layer.now (g.L.Layers.files c.args.layers.now) in
     let read = read_within c.args.left sources in
     let place = where_is c.args.place.now in
-    let origin = origin_meant c.args.origin.now in
-    if_err c.include_words-in-Require.result _ _
-    (λ fault h told. named_fault (asked_at place (words_in c.args.reading.now.lines (text_for c.args.layer.now c.in-Require.path))) (λ ws. includes_after read sources place origin true ws c.args.reading.now)
-    (statement_after read sources place origin (statement_for c.args.layer.now c.args.statement.now) c.args.reading.now) c.in_ok-words-in-Require.words c.as_slice-words-in-Require.result.now fault
-    (require_parts read sources place origin c.args.layer.now c.args.statement.now c.in-Require.path c.args.reading.now c.in-Require.is) c.in_ok-words-in-Require.ensures.ok c.as_slice-words-in-Require.ensures (h told))
-    c.include_words-in-Require.ensures.err
+    let asked = asked_at place (words_in c.args.reading.now.lines c.args.text.now) in
+    let go = λ (ws : List (List ℕ)). classes_after read sources place true ws c.args.reading.now in
+    on_ok_weaker c.inherit_words.result (λ h told. named_reads asked go (then asked go) c.in-Ok.names c.as_slice.result.now c.inherit_words.new.reading refl c.in-Ok.ensures.ok c.as_slice.ensures (h told)) c.inherit_words.ensures.ok
 
-pub run_statement-returns-in_err-names-in-Inherit-clause-err :
-    goal.run_statement-returns-in_err-names-in-Inherit-clause-err
-run_statement-returns-in_err-names-in-Inherit-clause-err g t c =
+pub inherit_named-returns-in-Ok-clause-err : goal.inherit_named-returns-in-Ok-clause-err
+inherit_named-returns-in-Ok-clause-err g t c =
     let sources = sources_for c.args.layer.now (g.L.Layers.files c.args.layers.now) in
     let read = read_within c.args.left sources in
     let place = where_is c.args.place.now in
-    let origin = origin_meant c.args.origin.now in
-    let fault = c.in_err-names-in-Inherit.field-0.0 in
-    let p = err_from_is_err_and c.from_residual-in_err-names-in-Inherit.result c.from_residual-in_err-names-in-Inherit.ensures.1 in
-    passed c.from_residual-in_err-names-in-Inherit.result p.0 fault _ p.1 p.2
-    (λ told. then_fault fault (asked_at place (words_in c.args.reading.now.lines c.in-Inherit.names)) (λ ws. classes_after read sources place true ws c.args.reading.now)
-    (statement_after read sources place origin (statement_for c.args.layer.now c.args.statement.now) c.args.reading.now)
-    (inherit_parts read sources place origin c.args.layer.now c.args.statement.now c.in-Inherit.names c.args.reading.now c.in-Inherit.is) c.in_err-names-in-Inherit.ensures.err)
+    let asked = asked_at place (words_in c.args.reading.now.lines c.args.text.now) in
+    let go = λ (ws : List (List ℕ)). classes_after read sources place true ws c.args.reading.now in
+    if_err c.inherit_words.result _ _ (λ fault h told. named_fault asked go (then asked go) c.in-Ok.names c.as_slice.result.now fault refl c.in-Ok.ensures.ok c.as_slice.ensures (h told)) c.inherit_words.ensures.err
 
-pub run_statement-returns-in_ok-names-in-Inherit-clause-ok :
-    goal.run_statement-returns-in_ok-names-in-Inherit-clause-ok
-run_statement-returns-in_ok-names-in-Inherit-clause-ok g t c =
+pub inherit_named-returns-in-Err-clause-err : goal.inherit_named-returns-in-Err-clause-err
+inherit_named-returns-in-Err-clause-err g t c = λ told.
     let sources = sources_for c.args.layer.now (g.L.Layers.files c.args.layers.now) in
     let read = read_within c.args.left sources in
     let place = where_is c.args.place.now in
-    let origin = origin_meant c.args.origin.now in
-    on_ok_weaker c.inherit_words.result
-    (λ h told. named_reads (asked_at place (words_in c.args.reading.now.lines c.in-Inherit.names)) (λ ws. classes_after read sources place true ws c.args.reading.now)
-    (statement_after read sources place origin (statement_for c.args.layer.now c.args.statement.now) c.args.reading.now) c.in_ok-names-in-Inherit.names c.as_slice.result.now c.inherit_words.new.reading
-    (inherit_parts read sources place origin c.args.layer.now c.args.statement.now c.in-Inherit.names c.args.reading.now c.in-Inherit.is) c.in_ok-names-in-Inherit.ensures.ok c.as_slice.ensures (h told))
-    c.inherit_words.ensures.ok
+    let asked = asked_at place (words_in c.args.reading.now.lines c.args.text.now) in
+    let go = λ (ws : List (List ℕ)). classes_after read sources place true ws c.args.reading.now in
+    fault_on c.in-Err.fault asked go c.in-Err.ensures.err
 
-pub run_statement-returns-in_ok-names-in-Inherit-clause-err :
-    goal.run_statement-returns-in_ok-names-in-Inherit-clause-err
-run_statement-returns-in_ok-names-in-Inherit-clause-err g t c =
+pub run_statement-returns-in-Include-clause-ok : goal.run_statement-returns-in-Include-clause-ok
+run_statement-returns-in-Include-clause-ok g t c =
     let sources = sources_for c.args.layer.now (g.L.Layers.files c.args.layers.now) in
     let read = read_within c.args.left sources in
     let place = where_is c.args.place.now in
     let origin = origin_meant c.args.origin.now in
-    if_err c.inherit_words.result _ _
-    (λ fault h told. named_fault (asked_at place (words_in c.args.reading.now.lines c.in-Inherit.names)) (λ ws. classes_after read sources place true ws c.args.reading.now)
-    (statement_after read sources place origin (statement_for c.args.layer.now c.args.statement.now) c.args.reading.now) c.in_ok-names-in-Inherit.names c.as_slice.result.now fault
-    (inherit_parts read sources place origin c.args.layer.now c.args.statement.now c.in-Inherit.names c.args.reading.now c.in-Inherit.is) c.in_ok-names-in-Inherit.ensures.ok c.as_slice.ensures (h told))
-    c.inherit_words.ensures.err
+    on_ok_weaker c.include_named.result (λ h told. include_parts read sources place origin c.args.layer.now c.args.statement.now c.in-Include.path c.args.reading.now c.in-Include.is ∙ h told) c.include_named.ensures.ok
+
+pub run_statement-returns-in-Include-clause-err : goal.run_statement-returns-in-Include-clause-err
+run_statement-returns-in-Include-clause-err g t c =
+    let sources = sources_for c.args.layer.now (g.L.Layers.files c.args.layers.now) in
+    let read = read_within c.args.left sources in
+    let place = where_is c.args.place.now in
+    let origin = origin_meant c.args.origin.now in
+    if_err c.include_named.result _ _
+    (λ fault h told. fault_same fault (statement_after read sources place origin (statement_for c.args.layer.now c.args.statement.now) c.args.reading.now) (includes_named read sources place origin false c.args.layer.now c.in-Include.path c.args.reading.now)
+    (include_parts read sources place origin c.args.layer.now c.args.statement.now c.in-Include.path c.args.reading.now c.in-Include.is) (h told))
+    c.include_named.ensures.err
+
+pub run_statement-returns-in-Require-clause-ok : goal.run_statement-returns-in-Require-clause-ok
+run_statement-returns-in-Require-clause-ok g t c =
+    let sources = sources_for c.args.layer.now (g.L.Layers.files c.args.layers.now) in
+    let read = read_within c.args.left sources in
+    let place = where_is c.args.place.now in
+    let origin = origin_meant c.args.origin.now in
+    on_ok_weaker c.include_named-in-Require.result (λ h told. require_parts read sources place origin c.args.layer.now c.args.statement.now c.in-Require.path c.args.reading.now c.in-Require.is ∙ h told) c.include_named-in-Require.ensures.ok
+
+pub run_statement-returns-in-Require-clause-err : goal.run_statement-returns-in-Require-clause-err
+run_statement-returns-in-Require-clause-err g t c =
+    let sources = sources_for c.args.layer.now (g.L.Layers.files c.args.layers.now) in
+    let read = read_within c.args.left sources in
+    let place = where_is c.args.place.now in
+    let origin = origin_meant c.args.origin.now in
+    if_err c.include_named-in-Require.result _ _
+    (λ fault h told. fault_same fault (statement_after read sources place origin (statement_for c.args.layer.now c.args.statement.now) c.args.reading.now) (includes_named read sources place origin true c.args.layer.now c.in-Require.path c.args.reading.now)
+    (require_parts read sources place origin c.args.layer.now c.args.statement.now c.in-Require.path c.args.reading.now c.in-Require.is) (h told))
+    c.include_named-in-Require.ensures.err
+
+pub run_statement-returns-in-Inherit-clause-ok : goal.run_statement-returns-in-Inherit-clause-ok
+run_statement-returns-in-Inherit-clause-ok g t c =
+    let sources = sources_for c.args.layer.now (g.L.Layers.files c.args.layers.now) in
+    let read = read_within c.args.left sources in
+    let place = where_is c.args.place.now in
+    let origin = origin_meant c.args.origin.now in
+    on_ok_weaker c.inherit_named.result (λ h told. inherit_parts read sources place origin c.args.layer.now c.args.statement.now c.in-Inherit.names c.args.reading.now c.in-Inherit.is ∙ h told) c.inherit_named.ensures.ok
+
+pub run_statement-returns-in-Inherit-clause-err : goal.run_statement-returns-in-Inherit-clause-err
+run_statement-returns-in-Inherit-clause-err g t c =
+    let sources = sources_for c.args.layer.now (g.L.Layers.files c.args.layers.now) in
+    let read = read_within c.args.left sources in
+    let place = where_is c.args.place.now in
+    let origin = origin_meant c.args.origin.now in
+    if_err c.inherit_named.result _ _
+    (λ fault h told. fault_same fault (statement_after read sources place origin (statement_for c.args.layer.now c.args.statement.now) c.args.reading.now) (classes_named read sources place c.in-Inherit.names c.args.reading.now)
+    (inherit_parts read sources place origin c.args.layer.now c.args.statement.now c.in-Inherit.names c.args.reading.now c.in-Inherit.is) (h told))
+    c.inherit_named.ensures.err

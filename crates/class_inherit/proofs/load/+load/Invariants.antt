@@ -10,6 +10,12 @@ decreases-run_statements g l = 10 * l.left + 9
 abbrev pub decreases-run_statement : goal.decreases-run_statement
 decreases-run_statement g l = 10 * l.left + 8
 
+abbrev pub decreases-include_named : goal.decreases-include_named
+decreases-include_named g l = 10 * l.left + 7
+
+abbrev pub decreases-inherit_named : goal.decreases-inherit_named
+decreases-inherit_named g l = 10 * l.left + 7
+
 abbrev pub decreases-include_words : goal.decreases-include_words
 decreases-include_words g l = 10 * l.left + 6
 

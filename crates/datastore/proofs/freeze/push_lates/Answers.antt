@@ -1,4 +1,4 @@
-use Rattle.std.proofs.Common.{◌≡◌, ◌∙◌, ap, sym, subst, ◌++◌, ◌∷◌, [], ◌+◌, drop}
+use Rattle.std.proofs.Common.{◌∙◌, ap, sym, subst, ◌+◌, drop}
 use Rattle.std.proofs.lemmas.Result.{err_from_is_err_and}
 use Rattle.meta_model.specs.declared.entry.EntryLine.TheVariants.{Later}
 use Rattle.meta_model.specs.Frozen as frozen
@@ -31,10 +31,7 @@ loop-late-preserved c =
     let i = c.loop-late.late-index in
     let x = c.late-item.result in
     let made = Later target x.kind c.in_ok-when.when x.text in
-    let put = Later c.in_ok-from_str.field-0 x.kind c.when.inside.list.items c.in_ok-copy.field-0 in
-    let pushed : c.push.new.self.items ≡ c.loop-late.lines.items ++ put ∷ [] = c.in_ok-push.ensures.items in
-    let same : put ≡ made = ap (λ w. Later c.in_ok-from_str.field-0 x.kind w c.in_ok-copy.field-0) c.when.view_is ∙ ap (λ t. Later t x.kind c.in_ok-when.when c.in_ok-copy.field-0) c.in_ok-from_str.ensures ∙ ap (Later target x.kind c.in_ok-when.when) c.in_ok-copy.ensures in
     let done = late_ok list target x c.in_ok-when.when (ap (frozen.conditions list) (sym c.as_slice.ensures) ∙ c.in_ok-when.ensures.ok) in
     c.loop-late.invariant ∙ ap (onto c.loop-late.lines.items) (next_of (frozen.told_lates list target) lates i x c.late-item.is c.loop-late-test.true)
     ∙ one_more (late_made list target) (frozen.told_lates list target) (lates_are list target) c.loop-late.lines.items x (drop (i + 1) lates) made done
-    ∙ ap (λ m. onto m (frozen.told_lates list target (drop (i + 1) lates))) (sym (pushed ∙ ap (λ l. c.loop-late.lines.items ++ l ∷ []) same))
+    ∙ ap (λ m. onto m (frozen.told_lates list target (drop (i + 1) lates))) (sym c.in_ok-push_late.ensures)

@@ -1,5 +1,6 @@
-use Rattle.std.proofs.Common.{◌≡◌, refl, ◌∙◌, ap, sym, ◌||◌, ℕ, List, Some, None, is_some, string_bytes, bytes_eq}
+use Rattle.std.proofs.Common.{◌≡◌, refl, ◌∙◌, ap, sym, ◌||◌, ℕ, List, Some, None, is_some, bytes_eq}
 use Rattle.std.specs.BTreeMap.{get_by_text}
+use Rattle.std.specs.Map.{update}
 use Rattle.std.proofs.lemmas.Map.Text.{btree_map_updates_text}
 use Rattle.std.proofs.lemmas.Result.{on_ok_weaker}
 use Rattle.datastore.specs.Orders.{is_noted}
@@ -19,14 +20,15 @@ returns-in-Some c =
     (λ b. e b ∙ ap (λ o. bytes_eq c.args.other.now b || is_noted o b) (sym found)))
     c.put.ensures
 
-pub returns-in_ok-insert-in-None : goal.returns-in_ok-insert-in-None
-returns-in_ok-insert-in-None c =
-    let m = c.args.orders.now in
-    let w = c.put-in-None.new.set in
-    let n = c.insert.new.self in
-    let key = c.in_ok-from_str-in-None.ensures.ok in
-    let found : get_by_text m c.args.task.now ≡ None = sym c.in-None.ensures.value in
-    let u = btree_map_updates_text (string_bytes c.in_ok-from_str-in-None.field-0) c.get_mut.follows.lender-at-none n (Some w) c.in_ok-insert-in-None.ensures.updates in
-    order_put (get_by_text m) (get_by_text n) c.args.task.now c.args.other.now w
-    (rw (c.get_mut.follows.holds-at-none, key) at u)
-    (λ b. c.in_ok-put-in-None.ensures b ∙ order_first c.new-set.result (get_by_text m c.args.task.now) (bytes_eq c.args.other.now b) b c.new-set.ensures.empty found)
+pub returns-in_ok-set-in-None : goal.returns-in_ok-set-in-None
+returns-in_ok-set-in-None c =
+    let m = c.get_mut.follows.lender-at-none in
+    let n = c.put_value.new.map in
+    let k = c.args.task.now in
+    let w = c.in_ok-set-in-None.set in
+    let found : get_by_text c.args.orders.now k ≡ None = sym c.in-None.ensures.value in
+    on_ok_weaker c.put_value.result
+    (λ (u : (q : List ℕ) → get_by_text n q ≡ update bytes_eq (get_by_text m) k (Some w) q).
+    order_put (get_by_text c.args.orders.now) (get_by_text n) k c.args.other.now w (rw c.get_mut.follows.holds-at-none at u)
+    (λ b. c.in_ok-set-in-None.ensures b ∙ order_first (get_by_text c.args.orders.now k) (bytes_eq c.args.other.now b) b found))
+    c.put_value.ensures.ok

@@ -1,10 +1,12 @@
-use Rattle.std.proofs.Common.{string_bytes}
+use Rattle.std.proofs.Common.{◌≡◌, ℕ, List, Some, bytes_eq}
 use Rattle.std.specs.BTreeMap.{get_by_text}
-use Rattle.std.proofs.lemmas.Map.Text.{btree_map_updates_text}
+use Rattle.std.specs.Map.{update}
+use Rattle.std.proofs.lemmas.Result.{on_ok_weaker}
 use Rattle.datastore.proofs.Sets.{some_put}
 use Rattle.datastore.proofs.tasks.put.Goals as goal
 
 pub returns : goal.returns
 returns c =
-    let u = btree_map_updates_text (string_bytes c.in_ok-from_str.field-0) c.args.set.now c.insert.new.self _ c.in_ok-insert.ensures.updates in
-    some_put (get_by_text c.args.set.now) (get_by_text c.insert.new.self) c.args.name.now tt (rw c.in_ok-from_str.ensures.ok at u)
+    let m = get_by_text c.args.set.now in
+    let n = get_by_text c.put_value.new.map in
+    on_ok_weaker c.put_value.result (λ (u : (q : List ℕ) → n q ≡ update bytes_eq m c.args.name.now (Some tt) q). some_put m n c.args.name.now tt u) c.put_value.ensures.ok

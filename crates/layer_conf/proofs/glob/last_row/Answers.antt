@@ -1,4 +1,4 @@
-use Rattle.std.proofs.Common.{◌≡◌, ◌∙◌, ◌++◌, ◌∷◌, [], ◌+◌, ap, sym, true, false, arith, replicate, add-one, length}
+use Rattle.std.proofs.Common.{◌≡◌, ◌∙◌, ◌++◌, ◌∷◌, [], ap, sym, true, false, arith, replicate, add-one, length}
 use Rattle.layer_conf.proofs.Globs.{first_row, one_more_false}
 use Rattle.layer_conf.proofs.glob.last_row.Goals as goal
 

@@ -1,4 +1,4 @@
-use Rattle.std.proofs.Common.{◌≡◌, ◌∙◌, ◌++◌, ◌∷◌, [], ◌+◌, ◌-◌, ap, sym, refl, arith, length, get_or, false}
+use Rattle.std.proofs.Common.{◌≡◌, ◌∙◌, ◌++◌, ◌∷◌, [], ◌+◌, ◌-◌, ap, refl, arith, length, get_or, false}
 use Rattle.load_model.specs.Patterns.{goes_on}
 use Rattle.layer_conf.specs.Rows.{cell_of}
 use Rattle.layer_conf.proofs.Globs.{row_start, row_next, later_next, later_within, none_later, one_longer}

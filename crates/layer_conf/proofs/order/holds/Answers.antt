@@ -1,4 +1,4 @@
-use Rattle.std.proofs.Common.{◌≡◌, ◌∙◌, ap, sym, true, ◌∷◌, [], length, drop, arith}
+use Rattle.std.proofs.Common.{◌≡◌, ◌∙◌, sym, true, ◌∷◌, [], length, drop, arith}
 use Rattle.std.proofs.lemmas.Grind.{common_steps}
 use Rattle.meta_model.specs.Text.{begins_with}
 use Rattle.load_model.specs.Paths.{slash}

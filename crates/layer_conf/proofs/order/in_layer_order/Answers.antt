@@ -1,5 +1,4 @@
-use Rattle.std.proofs.Common.{◌≡◌, ◌∙◌, ap, sym, map, flat_map, filter, eqb, length, arith, ℕ, List}
-use Rattle.load_model.specs.Paths.{path_named}
+use Rattle.std.proofs.Common.{◌≡◌, ◌∙◌, ap, sym, map, flat_map, filter, eqb, length, arith}
 use Rattle.load_model.specs.Layers.{layer_place}
 use Rattle.layer_conf.specs.Places.{place_in}
 use Rattle.layer_conf.proofs.Placing.{below, below_more, numbers_are, more_placed, places_are}

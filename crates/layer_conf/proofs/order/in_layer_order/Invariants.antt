@@ -1,4 +1,4 @@
-use Rattle.std.proofs.Common.{◌≡◌, ◌==◌, take, flat_map, filter}
+use Rattle.std.proofs.Common.{◌≡◌, ◌==◌, flat_map, filter}
 use Rattle.load_model.specs.Layers.{layer_place}
 use Rattle.layer_conf.proofs.Placing.{below}
 use Rattle.layer_conf.proofs.order.in_layer_order.Given as goal

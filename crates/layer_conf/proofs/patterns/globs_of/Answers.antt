@@ -1,4 +1,4 @@
-use Rattle.std.proofs.Common.{◌∙◌, ap, sym, ◌++◌}
+use Rattle.std.proofs.Common.{◌∙◌, ap, ◌++◌}
 use Rattle.std.specs.Option.{option_to_list}
 use Rattle.load_model.specs.Paths.{path_named}
 use Rattle.layer_conf.proofs.Globbing.{globs_more}

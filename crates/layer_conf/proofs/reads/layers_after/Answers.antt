@@ -1,4 +1,4 @@
-use Rattle.std.proofs.Common.{◌≡◌, ◌∙◌, ap, sym, subst, Ok}
+use Rattle.std.proofs.Common.{◌∙◌, ap, sym, subst}
 use Rattle.outside_traits.specs.Fault.{Counts}
 use Rattle.load_model.specs.Loading.{sources_of}
 use Rattle.load_model.specs.Layers.{layer_at, layer_file, layers_after}

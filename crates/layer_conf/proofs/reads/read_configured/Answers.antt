@@ -1,8 +1,8 @@
-use Rattle.std.proofs.Common.{◌≡◌, ◌∙◌, ap, sym, subst, Ok, Some, None, IfSome, is_some, true, false}
+use Rattle.std.proofs.Common.{◌≡◌, ◌∙◌, ap, sym, subst, Ok, IfSome, is_some}
 use Rattle.std.proofs.lemmas.Result.{IfOk-weaker, IfErr-weaker}
 use Rattle.meta_model.specs.declared.line.Kind.TheVariants.{Conf}
 use Rattle.load_model.specs.Loading.{sources_of, entries}
-use Rattle.load_model.specs.Layers.{starting_with, built_in, configured, flat}
+use Rattle.load_model.specs.Layers.{starting_with, configured, flat}
 use Rattle.layer_conf.specs.Faults.{IsLayerFault}
 use Rattle.layer_conf.specs.Config.{configured_meant, layered_from}
 use Rattle.layer_conf.proofs.Layering.{first_file, layer_same, configured_layered, configured_flat, configured_fault}

@@ -1,7 +1,7 @@
-use Rattle.std.proofs.Common.{◌≡◌, ◌∙◌, ap, sym, ◌∷◌, [], ◌++◌, reverse, inl, inr, ◌⊎◌}
+use Rattle.std.proofs.Common.{◌∙◌, ap, sym, ◌∷◌, reverse}
 use Rattle.load_model.specs.Facts.{bracket_before}
 use Rattle.recipe_facts.specs.Brackets.{with_open}
-use Rattle.recipe_facts.proofs.Bracketed.{opens, closes, closes_none, onto_reverse, other_one}
+use Rattle.recipe_facts.proofs.Bracketed.{opens, closes, onto_reverse, other_one}
 use Rattle.recipe_facts.proofs.brackets.behind_bracket.Goals as goal
 
 pub returns-then-byte-eq40 : goal.returns-then-byte-eq40

@@ -1,5 +1,4 @@
-use Rattle.std.proofs.Common.{◌≡◌, ◌∙◌, ap, sym, subst, Ok, codes, map}
-use Rattle.datastore.specs.Faults.{IsDataFault}
+use Rattle.std.proofs.Common.{◌∙◌, codes}
 use Rattle.recipe_facts.proofs.Binding.{exit, fault_on, fault_later, goes_on}
 use Rattle.load_model.specs.Layers.{words_of}
 use Rattle.load_model.specs.Facts.{family}

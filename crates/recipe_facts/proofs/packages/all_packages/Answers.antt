@@ -1,4 +1,4 @@
-use Rattle.std.proofs.Common.{◌≡◌, ◌∙◌, ap, sym, subst, refl, ◌+◌, drop}
+use Rattle.std.proofs.Common.{◌∙◌, ap, sym, subst, refl, ◌+◌, drop}
 use Rattle.datastore.specs.Faults.{IsDataFault}
 use Rattle.load_model.specs.Facts.{package_facts, all_packages}
 use Rattle.recipe_facts.specs.Behind.{behind}

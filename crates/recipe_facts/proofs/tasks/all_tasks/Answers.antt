@@ -1,4 +1,4 @@
-use Rattle.std.proofs.Common.{◌≡◌, ◌∙◌, ap, sym, refl, ◌+◌, drop}
+use Rattle.std.proofs.Common.{◌∙◌, ap, sym, refl, ◌+◌, drop}
 use Rattle.load_model.specs.Facts.{task_facts, all_tasks}
 use Rattle.recipe_facts.specs.Behind.{behind}
 use Rattle.recipe_facts.proofs.Binding.{exit, one_turn, one_fault}

@@ -1,8 +1,8 @@
-use Rattle.std.proofs.Common.{◌≡◌, ◌∙◌, ap, sym, subst, Ok, codes, map}
+use Rattle.std.proofs.Common.{◌∙◌, ap, sym, subst, Ok, codes}
 use Rattle.datastore.specs.Faults.{IsDataFault}
-use Rattle.recipe_facts.proofs.Binding.{exit, fault_on, fault_later, goes_on}
-use Rattle.load_model.specs.Facts.{flag_words, named_task, task_facts}
-use Rattle.recipe_facts.proofs.Chains.{Asked, task1, task2, task3, task4, task_made}
+use Rattle.recipe_facts.proofs.Binding.{exit, fault_on, fault_later, goes_on, want}
+use Rattle.load_model.specs.Facts.{flag_words, task_facts}
+use Rattle.recipe_facts.proofs.Chains.{Asked, task1, task2, task3, task4}
 use Rattle.recipe_facts.proofs.tasks.task_facts.Goals as goal
 
 pub returns-in_err-depends-clause-err : goal.returns-in_err-depends-clause-err
@@ -43,6 +43,9 @@ returns-in_err-recrdeptask-clause-err c =
     (fault_later fault (flag_words lines task.0 (codes "rdeptask")) (c.in_ok-rdeptask.rdeptask) (task3 lines task c.in_ok-depends.depends c.in_ok-deptask.deptask) (ap (λ t. flag_words lines t (codes "rdeptask")) (sym c.as_str-name.ensures) ∙ c.in_ok-rdeptask.ensures.ok)
     (fault_on fault (flag_words lines task.0 (codes "recrdeptask")) (task4 task c.in_ok-depends.depends c.in_ok-deptask.deptask c.in_ok-rdeptask.rdeptask) (subst (λ t. IsDataFault fault (flag_words lines t (codes "recrdeptask"))) c.as_str-name.ensures c.in_err-recrdeptask.ensures.err)))))
 
+pub returns-in_err-task_made-clause-err : goal.returns-in_err-task_made-clause-err
+returns-in_err-task_made-clause-err c = want c.from_residual-in_err-task_made.result (task_facts c.args.store.now (c.args.task.now, c.args.after.now)) c.from_residual-in_err-task_made.ensures.1
+
 pub returns-clause-ok : goal.returns-clause-ok
 returns-clause-ok c =
     let lines = c.args.store.now in
@@ -51,4 +54,4 @@ returns-clause-ok c =
     ∙ goes_on (flag_words lines task.0 (codes "deptask")) (c.in_ok-deptask.deptask) (task2 lines task c.in_ok-depends.depends) (ap (λ t. flag_words lines t (codes "deptask")) (sym c.as_str-name.ensures) ∙ c.in_ok-deptask.ensures.ok)
     ∙ goes_on (flag_words lines task.0 (codes "rdeptask")) (c.in_ok-rdeptask.rdeptask) (task3 lines task c.in_ok-depends.depends c.in_ok-deptask.deptask) (ap (λ t. flag_words lines t (codes "rdeptask")) (sym c.as_str-name.ensures) ∙ c.in_ok-rdeptask.ensures.ok)
     ∙ goes_on (flag_words lines task.0 (codes "recrdeptask")) (c.in_ok-recrdeptask.recrdeptask) (task4 task c.in_ok-depends.depends c.in_ok-deptask.deptask c.in_ok-rdeptask.rdeptask) (ap (λ t. flag_words lines t (codes "recrdeptask")) (sym c.as_str-name.ensures) ∙ c.in_ok-recrdeptask.ensures.ok)
-    ∙ ap Ok (task_made task c.in_ok-copy.field-0 c.in_ok-copy-2.field-0 c.in_ok-depends.depends c.in_ok-named_tasks.field-0 c.in_ok-deptask.deptask c.in_ok-rdeptask.rdeptask c.in_ok-recrdeptask.recrdeptask c.in_ok-copy.ensures c.in_ok-copy-2.ensures (c.in_ok-named_tasks.ensures ∙ ap (map named_task) c.as_slice.ensures))
+    ∙ ap (λ made. task4 task made c.in_ok-deptask.deptask c.in_ok-rdeptask.rdeptask c.in_ok-recrdeptask.recrdeptask) (sym c.as_slice.ensures) ∙ ap Ok (sym c.in_ok-task_made.ensures)

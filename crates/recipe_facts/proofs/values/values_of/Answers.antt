@@ -1,4 +1,4 @@
-use Rattle.std.proofs.Common.{◌≡◌, ◌∙◌, ap, sym, subst, ◌∷◌, [], Ok, filter}
+use Rattle.std.proofs.Common.{◌∙◌, ap, sym, subst, ◌∷◌, [], filter}
 use Rattle.meta_model.specs.Text.{begins_with}
 use Rattle.datastore.specs.Faults.{IsDataFault}
 use Rattle.load_model.specs.Facts.{values_behind}

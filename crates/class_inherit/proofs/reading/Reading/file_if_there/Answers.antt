@@ -9,7 +9,7 @@ returns-in-Ok-clause-ok g c = λ told.
     there_reads c.args.layer.now (g.L.Layers.files c.args.layers.now) (g.L.Layers.files c.contents_at.new.layers) c.args.kind c.args.path.now c.args.self c.in-Ok.reading (option_map contents_meant c.in-Ok-Some.field-0) (contents_meant c.in-Ok-Some.contents)
     (c.in-Ok-Some.ensures.ok told) (ap (option_map contents_meant) c.in-Ok-Some.field-0-is) c.in-Ok-Some.ensures.same (c.in-Ok.ensures.ok told)
 
-pub returns-in-Ok-Some-clause-err : goal.returns-in-Ok-Some-clause-err
-returns-in-Ok-Some-clause-err g c = λ told.
+pub returns-in-Err-read_first-clause-err : goal.returns-in-Err-read_first-clause-err
+returns-in-Err-read_first-clause-err g c = λ told.
     there_fault c.args.layer.now (g.L.Layers.files c.args.layers.now) (g.L.Layers.files c.contents_at.new.layers) c.args.kind c.args.path.now c.args.self (option_map contents_meant c.in-Ok-Some.field-0) (contents_meant c.in-Ok-Some.contents) c.in-Err-read_first.fault
     (c.in-Ok-Some.ensures.ok told) (ap (option_map contents_meant) c.in-Ok-Some.field-0-is) c.in-Ok-Some.ensures.same (c.in-Err-read_first.ensures.err told)

@@ -15,4 +15,4 @@ loop-name-preserved c = λ list keeps.
 pub returns : goal.returns
 returns c = λ list keeps.
     let all : c.loop-name.made ≡ filter (is_left list) c.as_slice-name-items.result.now = grind (arith, common_steps, c.loop-name.invariant list keeps) in
-    all ∙ names_are list c.args.self.now c.as_slice-name-items.result.now keeps c.in_ok-keys.ensures.ordered (c.as_slice-name-items.ensures ∙ c.in_ok-keys.ensures.keys)
+    all ∙ names_are list c.args.self.now c.as_slice-name-items.result.now keeps c.in_ok-keys.ensures.ordered (c.as_slice-name-items.ensures ∙ c.in_ok-keys.ensures.names)

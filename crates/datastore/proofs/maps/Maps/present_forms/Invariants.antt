@@ -3,4 +3,4 @@ use Rattle.datastore.specs.Found.{is_present}
 use Rattle.datastore.proofs.maps.Maps.present_forms.Given as goal
 
 abbrev pub invariant-loop-rest : goal.invariant-loop-rest
-invariant-loop-rest l = l.made.items ≡ filter (is_present l.self l.active l.name) (take l.rest-index l.rest-items)
+invariant-loop-rest l = l.made ≡ filter (is_present l.self l.active l.name) (take l.rest-index l.rest-items)
