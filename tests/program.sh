@@ -512,5 +512,12 @@ for runner in "$top/crates/cases/out/cases" "python3 $top/tests/cases.py --progr
     holds "no other name, by ${runner##*/}" test "$(grep -c '^topic/' "$room/text")" -eq 1
 done
 
+# The table of faults is the one in the documents, and has each kind that a case shows.
+holds "the tables of faults" python3 "$top/bench/fault_tables.py" --check
+grep -rhoE '^\|fault (3|10) ([^ ]*:[0-9]+: |[^ ]+: )?[A-Z][A-Za-z0-9]*' "$top/crates/cases/data" | sed 's/.* //' | sort -u >"$room/kinds-shown"
+cut -f1 "$top/docs/faults.tsv" | sort -u >"$room/kinds-told"
+holds "each kind of fault in the table" test -z "$(comm -23 "$room/kinds-shown" "$room/kinds-told")"
+holds "kinds of faults in cases" test "$(comm -12 "$room/kinds-shown" "$room/kinds-told" | wc -l)" -ge 27
+
 echo "$passed passed, $failed failed"
 test "$failed" -eq 0
