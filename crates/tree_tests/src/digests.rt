@@ -1,12 +1,26 @@
 // Digests and manifests against values from outside: FIPS 180-4 and `sha256sum`.
-use crate::build::{entries_of, file, shown_lines, tree_of};
+use crate::build::{file, shown_lines, tree_of};
+use std::alloc::Global;
+use std::process::Abort;
 use tree_model::{Entry, Hash, Manifest, Text, Tree, TreeFault, manifest_of, matches};
+
+/// One message and its digest.
+fn check_vector(
+    rt: &impl Abort,
+    alloc: Global,
+    message: &[u8],
+    digits: &str,
+) -> Result<(), TreeFault> {
+    let hash = Hash::of(message);
+    assert_eq!(rt; hash.text(alloc)?.as_str(), digits);
+    assert_eq!(rt; hash.digits().as_slice(), digits.as_bytes());
+    assert_eq!(rt; Hash::read(digits), Some(hash));
+    Ok(())
+}
 
 #[test]
 fn sha256_vectors(rt: HostRuntime) -> Result<(), TreeFault> {
-    let alloc = rt.alloc();
-    let million = vec![in alloc; b'a'; 1_000_000]?;
-    let vectors: [(&[u8], &str); 5] = [
+    let vectors: [(&[u8], &str); 4] = [
         (
             b"",
             "e3b0c44298fc1c149afbf4c8996fb92427ae41e4649b934ca495991b7852b855",
@@ -23,18 +37,18 @@ fn sha256_vectors(rt: HostRuntime) -> Result<(), TreeFault> {
             b"abcdefghbcdefghicdefghijdefghijkefghijklfghijklmghijklmnhijklmnoijklmnopjklmnopqklmnopqrlmnopqrsmnopqrstnopqrstu",
             "cf5b16a778af8380036ce59e7b0492370b249b11e8f07a51afac45037afee9d1",
         ),
-        (
-            &million,
-            "cdc76e5c9914fb9281a1c7e284d73e67f1809a48a497200e046d39ccc7112cd0",
-        ),
     ];
     for (message, digits) in vectors {
-        let hash = Hash::of(message);
-        assert_eq!(rt; hash.text(alloc)?.as_str(), digits);
-        assert_eq!(rt; hash.digits().as_slice(), digits.as_bytes());
-        assert_eq!(rt; Hash::read(digits), Some(hash));
+        check_vector(&rt, rt.alloc(), message, digits)?;
     }
     Ok(())
+}
+
+#[test]
+fn sha256_of_a_million(rt: HostRuntime) -> Result<(), TreeFault> {
+    let million = vec![in rt.alloc(); b'a'; 1_000_000]?;
+    let digits = "cdc76e5c9914fb9281a1c7e284d73e67f1809a48a497200e046d39ccc7112cd0";
+    check_vector(&rt, rt.alloc(), million.as_slice(), digits)
 }
 
 #[test]
@@ -52,31 +66,72 @@ fn texts_that_are_no_digest(rt: HostRuntime) {
     }
 }
 
+/// A tree of one file.
+fn plain(alloc: Global) -> Result<Tree, TreeFault> {
+    tree_of(alloc, &[("hello.txt", "hello\n")])
+}
+
+/// A link with this target.
+fn link(alloc: Global, target: &str) -> Result<Entry, TreeFault> {
+    Ok(Entry::Link {
+        target: Text::from_str(alloc, target)?,
+    })
+}
+
+/// Puts an entry behind the others.
+fn push_entry(
+    alloc: Global,
+    list: &mut Vec<(Text, Entry)>,
+    path: &str,
+    entry: Entry,
+) -> Result<(), TreeFault> {
+    let path = Text::from_str(alloc, path)?;
+    Ok(list.push((path, entry))?)
+}
+
+/// The same file, executable, and a link.
+fn other_entries(alloc: Global) -> Result<Vec<(Text, Entry)>, TreeFault> {
+    let mut list = Vec::new(alloc);
+    push_entry(alloc, &mut list, "hello.txt", file(alloc, true, "hello\n")?)?;
+    push_entry(alloc, &mut list, "link", link(alloc, "hello.txt")?)?;
+    Ok(list)
+}
+
+/// Their tree.
+fn other(alloc: Global) -> Result<Tree, TreeFault> {
+    Tree::from_entries(other_entries(alloc)?)
+}
+
+/// The manifest of a tree, shown.
+fn lines(alloc: Global, tree: &Tree) -> Result<String, TreeFault> {
+    let manifest = manifest_of(alloc, tree)?;
+    Ok(shown_lines(alloc, &manifest)?)
+}
+
+/// Whether one tree matches the manifest of another.
+fn match_each(alloc: Global, tree: &Tree, other: &Tree) -> Result<bool, TreeFault> {
+    Ok(matches(tree, &manifest_of(alloc, other)?))
+}
+
 #[test]
 fn manifests(rt: HostRuntime) -> Result<(), TreeFault> {
     let alloc = rt.alloc();
-    let tree = tree_of(alloc, &[("hello.txt", "hello\n")])?;
-    let manifest = manifest_of(alloc, &tree)?;
     assert_eq!(rt;
-        shown_lines(alloc, &manifest)?.as_str(),
+        lines(alloc, &plain(alloc)?)?.as_str(),
         "hello.txt f 6 5891b5b522d5df086d0ff0b110fbd9d21bb4fc7163af34d08286a2e846f6be03\n"
     );
-    assert!(rt; matches(&tree, &manifest));
-    let mut list = entries_of(alloc, &[])?;
-    list.push((
-        Text::from_str(alloc, "hello.txt")?,
-        file(alloc, true, "hello\n")?,
-    ))?;
-    let target = Text::from_str(alloc, "hello.txt")?;
-    list.push((Text::from_str(alloc, "link")?, Entry::Link { target }))?;
-    let other = Tree::from_entries(list)?;
-    let lines = manifest_of(alloc, &other)?;
     assert_eq!(rt;
-        shown_lines(alloc, &lines)?.as_str(),
+        lines(alloc, &other(alloc)?)?.as_str(),
         "hello.txt x 6 5891b5b522d5df086d0ff0b110fbd9d21bb4fc7163af34d08286a2e846f6be03\nlink l 9 734cad14909bedfafb5b273b6b0eb01fbfa639587d217f78ce9639bba41f4415\n"
     );
-    assert!(rt; !matches(&other, &manifest));
-    assert!(rt; !matches(&tree, &lines));
-    assert!(rt; matches(&Tree::empty(alloc), &Manifest::from_lines(Vec::new(alloc))));
+    assert!(rt; match_each(alloc, &plain(alloc)?, &plain(alloc)?)?);
+    assert!(rt; !match_each(alloc, &other(alloc)?, &plain(alloc)?)?);
+    assert!(rt; !match_each(alloc, &plain(alloc)?, &other(alloc)?)?);
     Ok(())
+}
+
+#[test]
+fn an_empty_manifest(rt: HostRuntime) {
+    let alloc = rt.alloc();
+    assert!(rt; matches(&Tree::empty(alloc), &Manifest::from_lines(Vec::new(alloc))));
 }

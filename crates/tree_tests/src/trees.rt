@@ -1,55 +1,112 @@
 // Trees by the calls that make and change them.
 use crate::build::{entries_of, file, is_refused_at, shown, tree_of};
+use std::alloc::Global;
 use tree_model::{Entry, Size, Text, Tree, TreeFault, is_below, is_clean};
+
+/// Paths and contents of files.
+type Files = &'static [(&'static str, &'static str)];
+
+const BADLY_SORTED: Files = &[
+    ("a0", "1"),
+    ("a/b", "2"),
+    ("a.b", "3"),
+    ("a-b", "4"),
+    ("a/a", "5"),
+];
+
+const FOLDERS: Files = &[("a/b", "1"), ("a/c/d", "2"), ("a-b", "3"), ("e", "4")];
+
+/// The tree of these files, shown.
+fn made(alloc: Global, files: Files) -> Result<String, TreeFault> {
+    let tree = tree_of(alloc, files)?;
+    Ok(shown(alloc, &tree)?)
+}
+
+/// A copy of their tree, shown.
+fn copied(alloc: Global, files: Files) -> Result<String, TreeFault> {
+    let tree = tree_of(alloc, files)?.copy()?;
+    Ok(shown(alloc, &tree)?)
+}
+
+/// The number of paths of their tree that begin with a prefix.
+fn listed(alloc: Global, files: Files, prefix: &str) -> Result<usize, TreeFault> {
+    let tree = tree_of(alloc, files)?;
+    Ok(tree.listing(alloc, prefix)?.len())
+}
+
+/// Whether their tree has an entry at a path.
+fn has(alloc: Global, files: Files, path: &str) -> Result<bool, TreeFault> {
+    Ok(tree_of(alloc, files)?.get(path).is_some())
+}
+
+/// The size of their tree.
+fn size_of(alloc: Global, files: Files) -> Result<Size, TreeFault> {
+    Ok(tree_of(alloc, files)?.size())
+}
+
+/// One tree laid over another, shown.
+fn overlaid(alloc: Global, earlier: Files, later: Files) -> Result<String, TreeFault> {
+    let mut tree = tree_of(alloc, earlier)?;
+    lay_over(alloc, &mut tree, later)?;
+    Ok(shown(alloc, &tree)?)
+}
+
+/// Lays the tree of these files over a tree.
+fn lay_over(alloc: Global, tree: &mut Tree, later: Files) -> Result<(), TreeFault> {
+    let later = tree_of(alloc, later)?;
+    Ok(tree.overlay(alloc, &later)?)
+}
+
+/// What stands in a folder of their tree, shown.
+fn picked(alloc: Global, files: Files, folder: &str) -> Result<String, TreeFault> {
+    let tree = tree_of(alloc, files)?.pick(alloc, folder)?;
+    Ok(shown(alloc, &tree)?)
+}
+
+/// Their tree in a folder, shown.
+fn placed(alloc: Global, files: Files, folder: &str) -> Result<String, TreeFault> {
+    let tree = tree_of(alloc, files)?.place(alloc, folder)?;
+    Ok(shown(alloc, &tree)?)
+}
+
+/// Their tree without what stands at a path, shown.
+fn without(alloc: Global, files: Files, path: &str) -> Result<String, TreeFault> {
+    let mut tree = tree_of(alloc, files)?;
+    let _ = tree.take(path);
+    Ok(shown(alloc, &tree)?)
+}
 
 #[test]
 fn paths_that_sort_badly(rt: HostRuntime) -> Result<(), TreeFault> {
     let alloc = rt.alloc();
-    let tree = tree_of(
-        alloc,
-        &[
-            ("a0", "1"),
-            ("a/b", "2"),
-            ("a.b", "3"),
-            ("a-b", "4"),
-            ("a/a", "5"),
-        ],
-    )?;
-    assert_eq!(rt;
-        shown(alloc, &tree)?.as_str(),
-        "a-b:4 a.b:3 a/a:5 a/b:2 a0:1 "
-    );
-    assert_eq!(rt;
-        tree.size(),
-        Size {
-            entries: 5,
-            largest: 1,
-            bytes: 5
-        }
-    );
+    let want = "a-b:4 a.b:3 a/a:5 a/b:2 a0:1 ";
+    assert_eq!(rt; made(alloc, BADLY_SORTED)?.as_str(), want);
+    assert_eq!(rt; copied(alloc, BADLY_SORTED)?.as_str(), want);
+    assert_eq!(rt; listed(alloc, BADLY_SORTED, "a/")?, 2);
+    assert_eq!(rt; listed(alloc, BADLY_SORTED, "")?, 5);
+    assert!(rt; has(alloc, BADLY_SORTED, "a/b")?);
+    assert!(rt; !has(alloc, BADLY_SORTED, "a")?);
+    Ok(())
+}
+
+#[test]
+fn sizes(rt: HostRuntime) -> Result<(), TreeFault> {
+    let size = size_of(rt.alloc(), BADLY_SORTED)?;
+    let (entries, largest) = (5, 1);
+    assert_eq!(rt; size.entries, entries);
     assert!(rt;
-        tree.size().is_within(&Size {
-            entries: 5,
-            largest: 1,
+        size.is_within(&Size {
+            entries,
+            largest,
             bytes: 5
         })
     );
     assert!(rt;
-        !tree.size().is_within(&Size {
-            entries: 5,
-            largest: 1,
+        !size.is_within(&Size {
+            entries,
+            largest,
             bytes: 4
         })
-    );
-    let listing = tree.listing(alloc, "a/")?;
-    assert_eq!(rt; listing.len(), 2);
-    assert_eq!(rt; listing.as_slice()[0].as_str(), "a/a");
-    assert_eq!(rt; tree.listing(alloc, "")?.len(), 5);
-    assert!(rt; tree.get("a/b").is_some());
-    assert!(rt; tree.get("a").is_none());
-    assert_eq!(rt;
-        shown(alloc, &tree.copy()?)?.as_str(),
-        shown(alloc, &tree)?.as_str()
     );
     Ok(())
 }
@@ -57,7 +114,7 @@ fn paths_that_sort_badly(rt: HostRuntime) -> Result<(), TreeFault> {
 #[test]
 fn what_is_no_tree(rt: HostRuntime) -> Result<(), TreeFault> {
     let alloc = rt.alloc();
-    let refusals: [(&[(&str, &str)], &str); 7] = [
+    let refusals: [(Files, &str); 7] = [
         (&[("a0", ""), ("a", ""), ("a-b", ""), ("a/b", "")], "a"),
         (&[("x", ""), ("b", ""), ("b", "")], "b"),
         (&[("b/c/d", ""), ("b/c/d/e", ""), ("b", "")], "b"),
@@ -80,7 +137,7 @@ fn what_is_no_tree(rt: HostRuntime) -> Result<(), TreeFault> {
 #[test]
 fn overlays(rt: HostRuntime) -> Result<(), TreeFault> {
     let alloc = rt.alloc();
-    let rows: [(&[(&str, &str)], &[(&str, &str)], &str); 8] = [
+    let rows: [(Files, Files, &str); 8] = [
         (
             &[("a", "1"), ("b", "2")],
             &[("b", "3"), ("c", "4")],
@@ -115,11 +172,36 @@ fn overlays(rt: HostRuntime) -> Result<(), TreeFault> {
         ),
     ];
     for (earlier, later, both) in rows {
-        let mut tree = tree_of(alloc, earlier)?;
-        tree.overlay(alloc, &tree_of(alloc, later)?)?;
-        assert_eq!(rt; shown(alloc, &tree)?.as_str(), both);
+        assert_eq!(rt; overlaid(alloc, earlier, later)?.as_str(), both);
     }
     Ok(())
+}
+
+/// Three trees, the last two laid over each other first, and then over the first.
+fn from_the_right(
+    alloc: Global,
+    first: Files,
+    middle: Files,
+    last: Files,
+) -> Result<String, TreeFault> {
+    let mut later = tree_of(alloc, middle)?;
+    lay_over(alloc, &mut later, last)?;
+    let mut tree = tree_of(alloc, first)?;
+    tree.overlay(alloc, &later)?;
+    Ok(shown(alloc, &tree)?)
+}
+
+/// Three trees, laid over each other one after the other.
+fn from_the_left(
+    alloc: Global,
+    first: Files,
+    middle: Files,
+    last: Files,
+) -> Result<String, TreeFault> {
+    let mut tree = tree_of(alloc, first)?;
+    lay_over(alloc, &mut tree, middle)?;
+    lay_over(alloc, &mut tree, last)?;
+    Ok(shown(alloc, &tree)?)
 }
 
 #[test]
@@ -127,26 +209,25 @@ fn overlay_is_associative_only_where_no_file_became_a_folder(
     rt: HostRuntime,
 ) -> Result<(), TreeFault> {
     let alloc = rt.alloc();
-    let (first, middle, last) = ([("a/c", "1")], [("a", "2")], [("a/b", "3")]);
-    let mut left = tree_of(alloc, &first)?;
-    left.overlay(alloc, &tree_of(alloc, &middle)?)?;
-    left.overlay(alloc, &tree_of(alloc, &last)?)?;
-    let mut later = tree_of(alloc, &middle)?;
-    later.overlay(alloc, &tree_of(alloc, &last)?)?;
-    let mut right = tree_of(alloc, &first)?;
-    right.overlay(alloc, &later)?;
-    assert_eq!(rt; shown(alloc, &left)?.as_str(), "a/b:3 ");
-    assert_eq!(rt; shown(alloc, &right)?.as_str(), "a/b:3 a/c:1 ");
+    let (first, middle, last): (Files, Files, Files) = (
+        &[("a/c", "1")],
+        &[("a", "2")],
+        &[("a/b", "3")],
+    );
+    assert_eq!(rt;
+        from_the_left(alloc, first, middle, last)?.as_str(),
+        "a/b:3 "
+    );
+    assert_eq!(rt;
+        from_the_right(alloc, first, middle, last)?.as_str(),
+        "a/b:3 a/c:1 "
+    );
     Ok(())
 }
 
 #[test]
 fn folders(rt: HostRuntime) -> Result<(), TreeFault> {
     let alloc = rt.alloc();
-    let tree = tree_of(
-        alloc,
-        &[("a/b", "1"), ("a/c/d", "2"), ("a-b", "3"), ("e", "4")],
-    )?;
     let picks = [
         ("a", "b:1 c/d:2 "),
         (".", "a-b:3 a/b:1 a/c/d:2 e:4 "),
@@ -156,35 +237,47 @@ fn folders(rt: HostRuntime) -> Result<(), TreeFault> {
     ];
     for (folder, want) in picks {
         assert_eq!(rt;
-            shown(alloc, &tree.pick(alloc, folder)?)?.as_str(),
+            picked(alloc, FOLDERS, folder)?.as_str(),
             want,
             "at {folder}"
         );
     }
-    let placed = tree.place(alloc, "x/y")?;
-    assert_eq!(rt;
-        shown(alloc, &placed)?.as_str(),
-        "x/y/a-b:3 x/y/a/b:1 x/y/a/c/d:2 x/y/e:4 "
-    );
-    assert_eq!(rt;
-        shown(alloc, &placed.pick(alloc, "x/y")?)?.as_str(),
-        shown(alloc, &tree)?.as_str()
-    );
-    assert_eq!(rt;
-        shown(alloc, &tree.place(alloc, ".")?)?.as_str(),
-        shown(alloc, &tree)?.as_str()
-    );
-    assert!(rt; is_refused_at(tree.place(alloc, ".."), "../a-b"));
+    let places = [
+        ("x/y", "x/y/a-b:3 x/y/a/b:1 x/y/a/c/d:2 x/y/e:4 "),
+        (".", "a-b:3 a/b:1 a/c/d:2 e:4 "),
+    ];
+    for (folder, want) in places {
+        assert_eq!(rt;
+            placed(alloc, FOLDERS, folder)?.as_str(),
+            want,
+            "at {folder}"
+        );
+    }
+    Ok(())
+}
+
+/// The answer for a folder that makes no clean path.
+#[test]
+fn no_folder(rt: HostRuntime) -> Result<(), TreeFault> {
+    let tree = tree_of(rt.alloc(), FOLDERS)?;
+    assert!(rt; is_refused_at(tree.place(rt.alloc(), ".."), "../a-b"));
     Ok(())
 }
 
 #[test]
-fn one_entry(rt: HostRuntime) -> Result<(), TreeFault> {
+fn taken_entries(rt: HostRuntime) -> Result<(), TreeFault> {
     let alloc = rt.alloc();
-    let mut tree = tree_of(alloc, &[("a", "1"), ("b/c", "2")])?;
-    assert!(rt; tree.take("a") == Some(file(alloc, false, "1")?));
-    assert!(rt; tree.take("b").is_none());
-    assert_eq!(rt; shown(alloc, &tree)?.as_str(), "b/c:2 ");
+    let files: Files = &[("a", "1"), ("b/c", "2")];
+    assert_eq!(rt; without(alloc, files, "a")?.as_str(), "b/c:2 ");
+    assert_eq!(rt; without(alloc, files, "b")?.as_str(), "a:1 b/c:2 ");
+    Ok(())
+}
+
+#[test]
+fn copied_entries(rt: HostRuntime) -> Result<(), TreeFault> {
+    let alloc = rt.alloc();
+    let text = file(alloc, false, "1")?;
+    assert!(rt; text.copy()? == text);
     let mut target = Text::new(alloc);
     target.push_str("b")?;
     let link = Entry::Link { target };
