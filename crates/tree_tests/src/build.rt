@@ -1,5 +1,6 @@
 // Trees from tables of paths and contents.
 use std::alloc::Global;
+use std::process::Abort;
 use tree_model::{Bytes, Entry, EntryKind, Manifest, Mem, Text, Tree, TreeFault};
 
 /// The paths of a tree, one behind another, each with a blank behind it.
@@ -70,4 +71,14 @@ pub(crate) fn shown_lines(alloc: Global, manifest: &Manifest) -> Result<String, 
         out.push_str("\n")?;
     }
     Ok(out)
+}
+
+/// Asserts that a text is the one that is wanted. (One assertion is proved once, and not at each place that makes it.)
+pub(crate) fn expect_text(rt: &impl Abort, found: &str, want: &str) {
+    assert_eq!(rt; found, want);
+}
+
+/// Asserts that a test holds.
+pub(crate) fn expect(rt: &impl Abort, holds: bool) {
+    assert!(rt; holds);
 }

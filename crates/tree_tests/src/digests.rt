@@ -1,5 +1,5 @@
 // Digests and manifests against values from outside: FIPS 180-4 and `sha256sum`.
-use crate::build::{file, shown_lines, tree_of};
+use crate::build::{expect, expect_text, file, shown_lines, tree_of};
 use std::alloc::Global;
 use std::process::Abort;
 use tree_model::{Entry, Hash, Manifest, Text, Tree, TreeFault, manifest_of, matches};
@@ -12,9 +12,9 @@ fn check_vector(
     digits: &str,
 ) -> Result<(), TreeFault> {
     let hash = Hash::of(message);
-    assert_eq!(rt; hash.text(alloc)?.as_str(), digits);
-    assert_eq!(rt; hash.digits().as_slice(), digits.as_bytes());
-    assert_eq!(rt; Hash::read(digits), Some(hash));
+    expect_text(rt, hash.text(alloc)?.as_str(), digits);
+    expect(rt, hash.digits().as_slice() == digits.as_bytes());
+    expect(rt, Hash::read(digits) == Some(hash));
     Ok(())
 }
 
@@ -62,7 +62,7 @@ fn texts_that_are_no_digest(rt: HostRuntime) {
         " 3b0c44298fc1c149afbf4c8996fb92427ae41e4649b934ca495991b7852b855",
     ];
     for text in texts {
-        assert_eq!(rt; Hash::read(text), None, "at {text}");
+        expect(&rt, Hash::read(text).is_none());
     }
 }
 
@@ -116,22 +116,27 @@ fn match_each(alloc: Global, tree: &Tree, other: &Tree) -> Result<bool, TreeFaul
 #[test]
 fn manifests(rt: HostRuntime) -> Result<(), TreeFault> {
     let alloc = rt.alloc();
-    assert_eq!(rt;
+    expect_text(
+        &rt,
         lines(alloc, &plain(alloc)?)?.as_str(),
-        "hello.txt f 6 5891b5b522d5df086d0ff0b110fbd9d21bb4fc7163af34d08286a2e846f6be03\n"
+        "hello.txt f 6 5891b5b522d5df086d0ff0b110fbd9d21bb4fc7163af34d08286a2e846f6be03\n",
     );
-    assert_eq!(rt;
+    expect_text(
+        &rt,
         lines(alloc, &other(alloc)?)?.as_str(),
-        "hello.txt x 6 5891b5b522d5df086d0ff0b110fbd9d21bb4fc7163af34d08286a2e846f6be03\nlink l 9 734cad14909bedfafb5b273b6b0eb01fbfa639587d217f78ce9639bba41f4415\n"
+        "hello.txt x 6 5891b5b522d5df086d0ff0b110fbd9d21bb4fc7163af34d08286a2e846f6be03\nlink l 9 734cad14909bedfafb5b273b6b0eb01fbfa639587d217f78ce9639bba41f4415\n",
     );
-    assert!(rt; match_each(alloc, &plain(alloc)?, &plain(alloc)?)?);
-    assert!(rt; !match_each(alloc, &other(alloc)?, &plain(alloc)?)?);
-    assert!(rt; !match_each(alloc, &plain(alloc)?, &other(alloc)?)?);
+    expect(&rt, match_each(alloc, &plain(alloc)?, &plain(alloc)?)?);
+    expect(&rt, !match_each(alloc, &other(alloc)?, &plain(alloc)?)?);
+    expect(&rt, !match_each(alloc, &plain(alloc)?, &other(alloc)?)?);
     Ok(())
 }
 
 #[test]
 fn an_empty_manifest(rt: HostRuntime) {
     let alloc = rt.alloc();
-    assert!(rt; matches(&Tree::empty(alloc), &Manifest::from_lines(Vec::new(alloc))));
+    expect(
+        &rt,
+        matches(&Tree::empty(alloc), &Manifest::from_lines(Vec::new(alloc))),
+    );
 }

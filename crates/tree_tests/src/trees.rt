@@ -1,5 +1,5 @@
 // Trees by the calls that make and change them.
-use crate::build::{entries_of, file, is_refused_at, shown, tree_of};
+use crate::build::{entries_of, expect, expect_text, file, is_refused_at, shown, tree_of};
 use std::alloc::Global;
 use tree_model::{Entry, Size, Text, Tree, TreeFault, is_below, is_clean};
 
@@ -80,12 +80,12 @@ fn without(alloc: Global, files: Files, path: &str) -> Result<String, TreeFault>
 fn paths_that_sort_badly(rt: HostRuntime) -> Result<(), TreeFault> {
     let alloc = rt.alloc();
     let want = "a-b:4 a.b:3 a/a:5 a/b:2 a0:1 ";
-    assert_eq!(rt; made(alloc, BADLY_SORTED)?.as_str(), want);
-    assert_eq!(rt; copied(alloc, BADLY_SORTED)?.as_str(), want);
-    assert_eq!(rt; listed(alloc, BADLY_SORTED, "a/")?, 2);
-    assert_eq!(rt; listed(alloc, BADLY_SORTED, "")?, 5);
-    assert!(rt; has(alloc, BADLY_SORTED, "a/b")?);
-    assert!(rt; !has(alloc, BADLY_SORTED, "a")?);
+    expect_text(&rt, made(alloc, BADLY_SORTED)?.as_str(), want);
+    expect_text(&rt, copied(alloc, BADLY_SORTED)?.as_str(), want);
+    expect(&rt, listed(alloc, BADLY_SORTED, "a/")? == 2);
+    expect(&rt, listed(alloc, BADLY_SORTED, "")? == 5);
+    expect(&rt, has(alloc, BADLY_SORTED, "a/b")?);
+    expect(&rt, !has(alloc, BADLY_SORTED, "a")?);
     Ok(())
 }
 
@@ -93,7 +93,7 @@ fn paths_that_sort_badly(rt: HostRuntime) -> Result<(), TreeFault> {
 fn sizes(rt: HostRuntime) -> Result<(), TreeFault> {
     let size = size_of(rt.alloc(), BADLY_SORTED)?;
     let (entries, largest) = (5, 1);
-    assert_eq!(rt; size.entries, entries);
+    expect(&rt, size.entries == entries);
     assert!(rt;
         size.is_within(&Size {
             entries,
@@ -125,12 +125,12 @@ fn what_is_no_tree(rt: HostRuntime) -> Result<(), TreeFault> {
     ];
     for (files, bad) in refusals {
         let made = Tree::from_entries(entries_of(alloc, files)?);
-        assert!(rt; is_refused_at(made, bad), "at {bad}");
+        expect(&rt, is_refused_at(made, bad));
     }
-    assert!(rt; is_clean("a/b-c/..d"));
-    assert!(rt; !is_clean("a\0b"));
-    assert!(rt; is_below("a", "a/b"));
-    assert!(rt; !is_below("a", "a-b"));
+    expect(&rt, is_clean("a/b-c/..d"));
+    expect(&rt, !is_clean("a\0b"));
+    expect(&rt, is_below("a", "a/b"));
+    expect(&rt, !is_below("a", "a-b"));
     Ok(())
 }
 
@@ -172,7 +172,7 @@ fn overlays(rt: HostRuntime) -> Result<(), TreeFault> {
         ),
     ];
     for (earlier, later, both) in rows {
-        assert_eq!(rt; overlaid(alloc, earlier, later)?.as_str(), both);
+        expect_text(&rt, overlaid(alloc, earlier, later)?.as_str(), both);
     }
     Ok(())
 }
@@ -214,13 +214,15 @@ fn overlay_is_associative_only_where_no_file_became_a_folder(
         &[("a", "2")],
         &[("a/b", "3")],
     );
-    assert_eq!(rt;
+    expect_text(
+        &rt,
         from_the_left(alloc, first, middle, last)?.as_str(),
-        "a/b:3 "
+        "a/b:3 ",
     );
-    assert_eq!(rt;
+    expect_text(
+        &rt,
         from_the_right(alloc, first, middle, last)?.as_str(),
-        "a/b:3 a/c:1 "
+        "a/b:3 a/c:1 ",
     );
     Ok(())
 }
@@ -236,22 +238,14 @@ fn folders(rt: HostRuntime) -> Result<(), TreeFault> {
         ("x", ""),
     ];
     for (folder, want) in picks {
-        assert_eq!(rt;
-            picked(alloc, FOLDERS, folder)?.as_str(),
-            want,
-            "at {folder}"
-        );
+        expect_text(&rt, picked(alloc, FOLDERS, folder)?.as_str(), want);
     }
     let places = [
         ("x/y", "x/y/a-b:3 x/y/a/b:1 x/y/a/c/d:2 x/y/e:4 "),
         (".", "a-b:3 a/b:1 a/c/d:2 e:4 "),
     ];
     for (folder, want) in places {
-        assert_eq!(rt;
-            placed(alloc, FOLDERS, folder)?.as_str(),
-            want,
-            "at {folder}"
-        );
+        expect_text(&rt, placed(alloc, FOLDERS, folder)?.as_str(), want);
     }
     Ok(())
 }
@@ -260,7 +254,7 @@ fn folders(rt: HostRuntime) -> Result<(), TreeFault> {
 #[test]
 fn no_folder(rt: HostRuntime) -> Result<(), TreeFault> {
     let tree = tree_of(rt.alloc(), FOLDERS)?;
-    assert!(rt; is_refused_at(tree.place(rt.alloc(), ".."), "../a-b"));
+    expect(&rt, is_refused_at(tree.place(rt.alloc(), ".."), "../a-b"));
     Ok(())
 }
 
@@ -268,8 +262,8 @@ fn no_folder(rt: HostRuntime) -> Result<(), TreeFault> {
 fn taken_entries(rt: HostRuntime) -> Result<(), TreeFault> {
     let alloc = rt.alloc();
     let files: Files = &[("a", "1"), ("b/c", "2")];
-    assert_eq!(rt; without(alloc, files, "a")?.as_str(), "b/c:2 ");
-    assert_eq!(rt; without(alloc, files, "b")?.as_str(), "a:1 b/c:2 ");
+    expect_text(&rt, without(alloc, files, "a")?.as_str(), "b/c:2 ");
+    expect_text(&rt, without(alloc, files, "b")?.as_str(), "a:1 b/c:2 ");
     Ok(())
 }
 
@@ -277,11 +271,11 @@ fn taken_entries(rt: HostRuntime) -> Result<(), TreeFault> {
 fn copied_entries(rt: HostRuntime) -> Result<(), TreeFault> {
     let alloc = rt.alloc();
     let text = file(alloc, false, "1")?;
-    assert!(rt; text.copy()? == text);
+    expect(&rt, text.copy()? == text);
     let mut target = Text::new(alloc);
     target.push_str("b")?;
     let link = Entry::Link { target };
-    assert_eq!(rt; link.len(), 1);
-    assert!(rt; link.copy()? == link);
+    expect(&rt, link.len() == 1);
+    expect(&rt, link.copy()? == link);
     Ok(())
 }
