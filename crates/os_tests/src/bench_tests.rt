@@ -1,5 +1,5 @@
 // The bench and standard output.
-use crate::rooms::{enter, file, lay, leave, link, shell, shown};
+use crate::rooms::{enter, expect, expect_at, expect_text, file, lay, leave, link, shell, shown};
 use outside_os::{ShBench, StdSink};
 use outside_traits::{Bench, BenchFault, Sink, Taken};
 use std::fs;
@@ -52,10 +52,10 @@ fn lay_old(rt: &HostRuntime) -> Result<bool, Fail> {
 #[test]
 fn bench_runs_scripts(rt: HostRuntime) -> Result<(), Fail> {
     let room = enter(&rt, "bench_runs_scripts")?;
-    assert!(rt; lay_old(&rt)?);
+    expect(&rt, lay_old(&rt)?);
     let mut bench = ShBench::new(rt.clone()?, 3)?;
-    assert_eq!(rt; bench.clear(rt.alloc()), Ok(()));
-    assert!(rt; lay_input(&rt, &mut bench)?);
+    expect(&rt, bench.clear(rt.alloc()) == Ok(()));
+    expect(&rt, lay_input(&rt, &mut bench)?);
     let script = "
         pwd > here; cat > input; sh name > tooled; cat \"$DEPSDIR/p/do_x/d\" \"$FILESDIR/f\" > laid
         test \"$(pwd)\" = \"$WORKDIR\" && test \"${WORKDIR#/}\" != \"$WORKDIR\" && echo same > place
@@ -63,13 +63,13 @@ fn bench_runs_scripts(rt: HostRuntime) -> Result<(), Fail> {
         printf x > run; chmod 744 run; ln -s nowhere dangling; mkdir -p empty/er; mkfifo pipe; mkdir shut
         printf y > shut/y; chmod 000 shut/y; chmod 500 shut; echo ${HOME-none} > home
     ";
-    assert_eq!(rt; bench.run(rt.alloc(), script), Ok(0));
+    expect(&rt, bench.run(rt.alloc(), script) == Ok(0));
     let wanted =
         "dangling: link nowhere\nhome: file none\n\ninput: file \nlaid: file depplain\nname: link sub/tool\nplace: file same\n\nrun: program x\nshut/y: file y\nsub/tool: program echo tool\n\ntooled: file tool\n\n";
     let taken = bench.take(rt.alloc(), ROOM);
-    assert_eq!(rt; tree_of(&rt, taken)?.as_str(), wanted);
+    expect_text(&rt, tree_of(&rt, taken)?.as_str(), wanted);
     let log = fs::read_to_string(&rt, "build/bench/3/log")?;
-    assert_eq!(rt; log.as_str(), "out\nerr\n");
+    expect_text(&rt, log.as_str(), "out\nerr\n");
     leave(&rt, room.as_str())
 }
 
@@ -83,11 +83,11 @@ fn bench_tells_statuses(rt: HostRuntime) -> Result<(), Fail> {
         ("kill -15 $$", 143),
         ("true", 0),
     ] {
-        assert_eq!(rt; bench.clear(rt.alloc()), Ok(()));
-        assert_eq!(rt; bench.run(rt.alloc(), script), Ok(status), "of {script}");
+        expect(&rt, bench.clear(rt.alloc()) == Ok(()));
+        expect_at(&rt, bench.run(rt.alloc(), script) == Ok(status), script);
     }
     let taken = bench.take(rt.alloc(), ROOM);
-    assert_eq!(rt; tree_of(&rt, taken)?.as_str(), "");
+    expect_text(&rt, tree_of(&rt, taken)?.as_str(), "");
     leave(&rt, room.as_str())
 }
 
@@ -122,10 +122,10 @@ fn bench_tells_too_large_trees(rt: HostRuntime) -> Result<(), Fail> {
             "too large",
         ),
     ] {
-        assert_eq!(rt; bench.clear(rt.alloc()), Ok(()));
-        assert_eq!(rt; bench.run(rt.alloc(), script), Ok(0), "run {script}");
+        expect(&rt, bench.clear(rt.alloc()) == Ok(()));
+        expect_at(&rt, bench.run(rt.alloc(), script) == Ok(0), script);
         let taken = bench.take(rt.alloc(), exact);
-        assert_eq!(rt; tree_of(&rt, taken)?.as_str(), wanted, "of {script}");
+        expect_text(&rt, tree_of(&rt, taken)?.as_str(), wanted);
     }
     leave(&rt, room.as_str())
 }
@@ -147,10 +147,10 @@ fn bench_with_names_beyond_the_limits(rt: HostRuntime) -> Result<(), Fail> {
         ("touch \"$(printf 'x\\377')\"", "a fault"),
         ("touch x", "x: file \n"),
     ] {
-        assert_eq!(rt; bench.clear(rt.alloc()), Ok(()), "before {script}");
-        assert_eq!(rt; bench.run(rt.alloc(), script), Ok(0), "run {script}");
+        expect_at(&rt, bench.clear(rt.alloc()) == Ok(()), script);
+        expect_at(&rt, bench.run(rt.alloc(), script) == Ok(0), script);
         let taken = bench.take(rt.alloc(), ROOM);
-        assert_eq!(rt; tree_of(&rt, taken)?.as_str(), wanted, "of {script}");
+        expect_text(&rt, tree_of(&rt, taken)?.as_str(), wanted);
     }
     leave(&rt, room.as_str())
 }
@@ -160,8 +160,11 @@ fn bench_where_a_file_stands(rt: HostRuntime) -> Result<(), Fail> {
     let room = enter(&rt, "bench_where_a_file_stands")?;
     lay(&rt, "build/bench", "a file")?;
     let mut bench = ShBench::new(rt.clone()?, 0)?;
-    assert_eq!(rt; bench.clear(rt.alloc()), Err(BenchFault::Failed));
-    assert_eq!(rt; bench.run(rt.alloc(), "true"), Err(BenchFault::Failed));
+    expect(&rt, bench.clear(rt.alloc()) == Err(BenchFault::Failed));
+    expect(
+        &rt,
+        bench.run(rt.alloc(), "true") == Err(BenchFault::Failed),
+    );
     leave(&rt, room.as_str())
 }
 
@@ -169,6 +172,6 @@ fn bench_where_a_file_stands(rt: HostRuntime) -> Result<(), Fail> {
 fn sink_takes_bytes(rt: HostRuntime) {
     let mut sink = StdSink::new(rt.clone().expect(&rt, "cloned"));
     let taken = sink.write(b"written\n").expect(&rt, "written");
-    assert!(rt; taken > 0);
-    assert_eq!(rt; sink.write(b""), Ok(0));
+    expect(&rt, taken > 0);
+    expect(&rt, sink.write(b"") == Ok(0));
 }

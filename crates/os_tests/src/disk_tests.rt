@@ -1,5 +1,7 @@
 // The disk over a real folder.
-use crate::rooms::{enter, file, lay, leave, lines_of, link, shell, shown};
+use crate::rooms::{
+    enter, expect, expect_at, expect_text, file, lay, leave, lines_of, link, shell, shown,
+};
 use crate::watch::Watch;
 use outside_os::FolderDisk;
 use outside_traits::{Disk, DiskFault};
@@ -17,17 +19,21 @@ fn taken(rt: &HostRuntime, synced: &RefCell<String>) -> Result<String, Fail> {
 fn disk_without_its_folder(rt: HostRuntime) -> Result<(), Fail> {
     let room = enter(&rt, "disk_without_its_folder")?;
     let mut disk = FolderDisk::new(rt.clone()?);
-    assert!(rt; disk.read(rt.alloc(), "a").expect(&rt, "read").is_none());
-    assert_eq!(rt;
+    expect(
+        &rt,
+        disk.read(rt.alloc(), "a").expect(&rt, "read").is_none(),
+    );
+    expect(
+        &rt,
         disk.list(rt.alloc(), "")
             .expect(&rt, "listed")
             .as_slice()
-            .len(),
-        0
+            .len()
+            == 0,
     );
-    assert_eq!(rt; disk.remove("a/b"), Ok(()));
-    assert_eq!(rt; disk.sync(), Ok(()));
-    assert!(rt; !fs::exists(&rt, "build")?);
+    expect(&rt, disk.remove("a/b") == Ok(()));
+    expect(&rt, disk.sync() == Ok(()));
+    expect(&rt, !fs::exists(&rt, "build")?);
     leave(&rt, room.as_str())
 }
 
@@ -78,7 +84,7 @@ fn keeps(
 fn disk_keeps_entries(rt: HostRuntime) -> Result<(), Fail> {
     let room = enter(&rt, "disk_keeps_entries")?;
     let mut disk = FolderDisk::new(rt.clone()?);
-    assert!(rt; fill(&rt, &mut disk)?);
+    expect(&rt, fill(&rt, &mut disk)?);
     let under =
         "work/a-b\nwork/a/deep/er/text\nwork/a/to\nwork/a/tool\nwork/nowhere\nwork/outside\n";
     for (prefix, wanted) in [
@@ -91,7 +97,7 @@ fn disk_keeps_entries(rt: HostRuntime) -> Result<(), Fail> {
         ("../", ""),
     ] {
         let paths = disk.list(rt.alloc(), prefix).expect(&rt, "listed");
-        assert_eq!(rt; lines_of(&rt, &paths)?.as_str(), wanted, "under {prefix}");
+        expect_text(&rt, lines_of(&rt, &paths)?.as_str(), wanted);
     }
     leave(&rt, room.as_str())
 }
@@ -100,7 +106,7 @@ fn disk_keeps_entries(rt: HostRuntime) -> Result<(), Fail> {
 fn disk_reaches_nothing_else(rt: HostRuntime) -> Result<(), Fail> {
     let room = enter(&rt, "disk_reaches_nothing_else")?;
     let mut disk = FolderDisk::new(rt.clone()?);
-    assert!(rt; fill(&rt, &mut disk)?);
+    expect(&rt, fill(&rt, &mut disk)?);
     for path in [
         "work/outside/kept",
         "../elsewhere/kept",
@@ -109,25 +115,31 @@ fn disk_reaches_nothing_else(rt: HostRuntime) -> Result<(), Fail> {
         "work/a/tool/x",
         "",
     ] {
-        assert!(rt;
+        expect_at(
+            &rt,
             disk.read(rt.alloc(), path).expect(&rt, "read").is_none(),
-            "at {path}"
+            path,
         );
-        assert_eq!(rt; disk.remove(path), Ok(()), "remove {path}");
+        expect_at(&rt, disk.remove(path) == Ok(()), path);
     }
     let text = file(&rt, false, "text")?;
-    assert_eq!(rt; disk.write("bench/0/work/x", &text), Err(DiskFault::Failed));
-    assert!(rt;
-        shell(
-            &rt,
-            "test -f elsewhere/kept && test -f build/bench/0/work/x"
-        )?
+    expect(
+        &rt,
+        disk.write("bench/0/work/x", &text) == Err(DiskFault::Failed),
     );
-    assert!(rt;
+    expect(
+        &rt,
         shell(
             &rt,
-            "test -x build/work/a/tool && test $(readlink build/work/nowhere) = ../nothing"
-        )?
+            "test -f elsewhere/kept && test -f build/bench/0/work/x",
+        )?,
+    );
+    expect(
+        &rt,
+        shell(
+            &rt,
+            "test -x build/work/a/tool && test $(readlink build/work/nowhere) = ../nothing",
+        )?,
     );
     leave(&rt, room.as_str())
 }
@@ -138,41 +150,59 @@ fn disk_removes_entries(rt: HostRuntime) -> Result<(), Fail> {
     let mut disk = FolderDisk::new(rt.clone()?);
     let text = file(&rt, false, "text")?;
     for path in ["work/a/b/c", "work/a/d", "other/e"] {
-        assert_eq!(rt; disk.write(path, &text), Ok(()), "write {path}");
+        expect_at(&rt, disk.write(path, &text) == Ok(()), path);
     }
-    assert_eq!(rt; disk.remove("work/a/b/c"), Ok(()));
-    assert!(rt; shell(&rt, "test -d build/work/a && test ! -e build/work/a/b")?);
-    assert_eq!(rt; disk.remove("work/a/d"), Ok(()));
-    assert!(rt; shell(&rt, "test ! -e build/work && test -f build/other/e")?);
-    assert_eq!(rt; disk.remove("other/e"), Ok(()));
-    assert!(rt; shell(&rt, "test -d build && test -z \"$(ls -A build)\"")?);
+    expect(&rt, disk.remove("work/a/b/c") == Ok(()));
+    expect(
+        &rt,
+        shell(&rt, "test -d build/work/a && test ! -e build/work/a/b")?,
+    );
+    expect(&rt, disk.remove("work/a/d") == Ok(()));
+    expect(
+        &rt,
+        shell(&rt, "test ! -e build/work && test -f build/other/e")?,
+    );
+    expect(&rt, disk.remove("other/e") == Ok(()));
+    expect(
+        &rt,
+        shell(&rt, "test -d build && test -z \"$(ls -A build)\"")?,
+    );
     leave(&rt, room.as_str())
 }
 
 #[test]
 fn disk_writes_over_what_is_nothing(rt: HostRuntime) -> Result<(), Fail> {
     let room = enter(&rt, "disk_writes_over_what_is_nothing")?;
-    assert!(rt;
+    expect(
+        &rt,
         shell(
             &rt,
-            "mkdir -p build/work/a/b/c && mkfifo build/work/a/b/pipe build/pipe && ln -s work build/to"
-        )?
+            "mkdir -p build/work/a/b/c && mkfifo build/work/a/b/pipe build/pipe && ln -s work build/to",
+        )?,
     );
     let mut disk = FolderDisk::new(rt.clone()?);
     let text = file(&rt, false, "text")?;
     for path in ["work/a", "pipe/below", "to"] {
-        assert_eq!(rt; disk.write(path, &text), Ok(()), "write {path}");
+        expect_at(&rt, disk.write(path, &text) == Ok(()), path);
     }
     let paths = disk.list(rt.alloc(), "").expect(&rt, "listed");
-    assert_eq!(rt; lines_of(&rt, &paths)?.as_str(), "pipe/below\nto\nwork/a\n");
-    assert_eq!(rt; disk.write("to/below", &text), Err(DiskFault::Failed));
-    assert_eq!(rt; disk.write("pipe", &text), Err(DiskFault::Failed));
+    expect_text(
+        &rt,
+        lines_of(&rt, &paths)?.as_str(),
+        "pipe/below\nto\nwork/a\n",
+    );
+    expect(&rt, disk.write("to/below", &text) == Err(DiskFault::Failed));
+    expect(&rt, disk.write("pipe", &text) == Err(DiskFault::Failed));
     let paths = disk.list(rt.alloc(), "").expect(&rt, "listed");
-    assert_eq!(rt; lines_of(&rt, &paths)?.as_str(), "pipe/below\nto\nwork/a\n");
-    assert!(rt; shell(&rt, "touch \"build/work/$(printf 'x\\377')\"")?);
-    assert_eq!(rt;
-        disk.list(rt.alloc(), "work/").map(|_| ()),
-        Err(DiskFault::Failed)
+    expect_text(
+        &rt,
+        lines_of(&rt, &paths)?.as_str(),
+        "pipe/below\nto\nwork/a\n",
+    );
+    expect(&rt, shell(&rt, "touch \"build/work/$(printf 'x\\377')\"")?);
+    expect(
+        &rt,
+        disk.list(rt.alloc(), "work/").map(|_| ()) == Err(DiskFault::Failed),
     );
     leave(&rt, room.as_str())
 }
@@ -180,25 +210,25 @@ fn disk_writes_over_what_is_nothing(rt: HostRuntime) -> Result<(), Fail> {
 #[test]
 fn disk_syncs_what_was_changed(rt: HostRuntime) -> Result<(), Fail> {
     let room = enter(&rt, "disk_syncs_what_was_changed")?;
-    assert!(rt; shell(&rt, "mkdir elsewhere && ln -s elsewhere build")?);
+    expect(&rt, shell(&rt, "mkdir elsewhere && ln -s elsewhere build")?);
     let synced = RefCell::new(String::new(rt.alloc()));
     let mut disk = FolderDisk::new(Watch::new(rt.clone()?, &synced));
     let text = file(&rt, false, "text")?;
     let away = link(&rt, "nowhere")?;
-    assert_eq!(rt; disk.write("work/a/one", &text), Ok(()));
-    assert_eq!(rt; disk.write("work/a/away", &away), Ok(()));
-    assert_eq!(rt; disk.sync(), Ok(()));
+    expect(&rt, disk.write("work/a/one", &text) == Ok(()));
+    expect(&rt, disk.write("work/a/away", &away) == Ok(()));
+    expect(&rt, disk.sync() == Ok(()));
     let first = ".\nbuild\nbuild/work\nbuild/work/a\nbuild/work/a/one\n";
-    assert_eq!(rt; taken(&rt, &synced)?.as_str(), first);
-    assert_eq!(rt; disk.sync(), Ok(()));
-    assert_eq!(rt; taken(&rt, &synced)?.as_str(), "");
-    assert_eq!(rt; disk.write("work/b/c/two", &text), Ok(()));
-    assert_eq!(rt; disk.remove("work/a/away"), Ok(()));
-    assert_eq!(rt; disk.sync(), Ok(()));
+    expect_text(&rt, taken(&rt, &synced)?.as_str(), first);
+    expect(&rt, disk.sync() == Ok(()));
+    expect_text(&rt, taken(&rt, &synced)?.as_str(), "");
+    expect(&rt, disk.write("work/b/c/two", &text) == Ok(()));
+    expect(&rt, disk.remove("work/a/away") == Ok(()));
+    expect(&rt, disk.sync() == Ok(()));
     let second = "build/work\nbuild/work/a\nbuild/work/b\nbuild/work/b/c\nbuild/work/b/c/two\n";
-    assert_eq!(rt; taken(&rt, &synced)?.as_str(), second);
-    assert_eq!(rt; disk.remove("work/b/c/two"), Ok(()));
-    assert_eq!(rt; disk.sync(), Ok(()));
-    assert_eq!(rt; taken(&rt, &synced)?.as_str(), "build/work\n");
+    expect_text(&rt, taken(&rt, &synced)?.as_str(), second);
+    expect(&rt, disk.remove("work/b/c/two") == Ok(()));
+    expect(&rt, disk.sync() == Ok(()));
+    expect_text(&rt, taken(&rt, &synced)?.as_str(), "build/work\n");
     leave(&rt, room.as_str())
 }

@@ -1,5 +1,5 @@
 // The layers over a real folder.
-use crate::rooms::{enter, lay, leave, lines_of, shell};
+use crate::rooms::{enter, expect, expect_at, expect_text, lay, leave, lines_of, shell};
 use outside_os::FolderLayers;
 use outside_traits::{Layers, ReadFault};
 use std::test::Fail;
@@ -23,7 +23,7 @@ fn project(rt: &HostRuntime) -> Result<bool, Fail> {
 #[test]
 fn layers_list(rt: HostRuntime) -> Result<(), Fail> {
     let room = enter(&rt, "layers_list")?;
-    assert!(rt; project(&rt)?);
+    expect(&rt, project(&rt)?);
     let mut layers = FolderLayers::new(rt.clone()?);
     let recipes =
         "recipes/hello.bb\nrecipes/linked.bb\nrecipes/more/a.bb\nrecipes/more/b.bb\nrecipes/outside.bb\n";
@@ -46,7 +46,7 @@ fn layers_list(rt: HostRuntime) -> Result<(), Fail> {
         ("nothing/", ""),
     ] {
         let paths = layers.list(rt.alloc(), prefix).expect(&rt, "listed");
-        assert_eq!(rt; lines_of(&rt, &paths)?.as_str(), wanted, "under {prefix}");
+        expect_text(&rt, lines_of(&rt, &paths)?.as_str(), wanted);
     }
     leave(&rt, room.as_str())
 }
@@ -54,7 +54,7 @@ fn layers_list(rt: HostRuntime) -> Result<(), Fail> {
 #[test]
 fn layers_read(rt: HostRuntime) -> Result<(), Fail> {
     let room = enter(&rt, "layers_read")?;
-    assert!(rt; project(&rt)?);
+    expect(&rt, project(&rt)?);
     let mut layers = FolderLayers::new(rt.clone()?);
     for (path, wanted) in [
         ("recipes/hello.bb", Some("hello\n")),
@@ -73,28 +73,31 @@ fn layers_read(rt: HostRuntime) -> Result<(), Fail> {
         ("", None),
     ] {
         let bytes = layers.read(rt.alloc(), path, 6).expect(&rt, "read");
-        assert_eq!(rt;
-            bytes.as_ref().map(|b| b.as_slice()),
-            wanted.map(|w| w.as_bytes()),
-            "at {path}"
+        expect_at(
+            &rt,
+            bytes.as_ref().map(|b| b.as_slice()) == wanted.map(|w| w.as_bytes()),
+            path,
         );
     }
     let long = layers.read(rt.alloc(), "recipes/hello.bb", 5).map(|_| ());
-    assert_eq!(rt; long, Err(ReadFault::TooLong));
+    expect(&rt, long == Err(ReadFault::TooLong));
     leave(&rt, room.as_str())
 }
 
 #[test]
 fn layers_with_a_name_that_is_not_text(rt: HostRuntime) -> Result<(), Fail> {
     let room = enter(&rt, "layers_with_a_name_that_is_not_text")?;
-    assert!(rt; project(&rt)?);
-    assert!(rt; shell(&rt, "touch \"recipes/more/$(printf 'x\\377')\"")?);
+    expect(&rt, project(&rt)?);
+    expect(
+        &rt,
+        shell(&rt, "touch \"recipes/more/$(printf 'x\\377')\"")?,
+    );
     let mut layers = FolderLayers::new(rt.clone()?);
-    assert_eq!(rt;
-        layers.list(rt.alloc(), "recipes/").map(|_| ()),
-        Err(ReadFault::Failed)
+    expect(
+        &rt,
+        layers.list(rt.alloc(), "recipes/").map(|_| ()) == Err(ReadFault::Failed),
     );
     let paths = layers.list(rt.alloc(), "recipes-2/").expect(&rt, "listed");
-    assert_eq!(rt; lines_of(&rt, &paths)?.as_str(), "recipes-2/c.bb\n");
+    expect_text(&rt, lines_of(&rt, &paths)?.as_str(), "recipes-2/c.bb\n");
     leave(&rt, room.as_str())
 }

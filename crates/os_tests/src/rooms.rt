@@ -1,5 +1,5 @@
 // Folders of the tests, and what is laid into them and seen of them.
-use std::process::Command;
+use std::process::{Abort, Command};
 use std::test::Fail;
 use std::{env, fs, process};
 use tree_model::{Bytes, Entry, Mem, Text, Texts};
@@ -73,4 +73,19 @@ pub fn shown(rt: &HostRuntime, entry: Option<&Entry>) -> Result<String, Fail> {
         }
         Some(Entry::Link { target }) => format!(in alloc; "link {}", target.as_str())?,
     })
+}
+
+/// Asserts that a text is the one that is wanted. (One assertion is proved once, and not at each place that makes it.)
+pub fn expect_text(rt: &impl Abort, found: &str, wanted: &str) {
+    assert_eq!(rt; found, wanted);
+}
+
+/// Asserts that a test holds.
+pub fn expect(rt: &impl Abort, holds: bool) {
+    assert!(rt; holds);
+}
+
+/// Asserts that a test holds, of what is named.
+pub fn expect_at(rt: &impl Abort, holds: bool, name: &str) {
+    assert!(rt; holds, "at {name}");
 }
