@@ -1,0 +1,14 @@
+pub mod Steps
+pub mod Numbers
+pub mod Texts
+pub mod Loop
+pub mod Lists
+pub mod PartLaws
+pub mod Records
+pub mod Paths
+pub mod Storing
+pub mod Written
+pub mod Trees
+pub mod Sorting
+pub mod Gathering
+pub mod LaidOrder

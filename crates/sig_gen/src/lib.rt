@@ -1,0 +1,34 @@
+//! Signatures: what decides a task's output, from a plan, and as bytes.
+//!
+//! A signature and a stored record (`store_model`) are seen as the values of their fields; their bytes as a list. What a value's
+//! bytes are says `store_model` (`Spelling`); which values have bytes that are read again say `Sound` and `Stored` here: texts
+//! are UTF-8, lists ascend strictly, and the paths of a manifest are those of a tree.
+//!
+//! - `sig_of` gives the signature of a task of a plan, by the unihashes of all its tasks.
+//! - `decode` and `decode_stored` answer a value exactly where all of the bytes are its one spelling; everything else is
+//!   `BadRecord`. They read once, from left to right, and a length or a count beyond the bytes that are left ends the reading
+//!   before anything is taken, so no number that was read makes them take room.
+//! - `encode`, `encode_stored` and `encode_manifest` write into one growing buffer. What was written is read again where the
+//!   lists ascend; that texts are UTF-8 and lengths fit is so for every value that a program holds.
+//! - The manifest of a tree is in order, and what is in order has the paths of a tree (`trees_are_in_order`).
+//!
+//! Want of memory is the one free answer. That reading and writing take linear time is measured (`record_bench`), not proved.
+#![tactic(auto)]
+
+mod copies;
+mod fault;
+mod laws;
+mod laying;
+mod list;
+mod manifest;
+mod netstring;
+mod parts;
+mod record;
+mod signing;
+mod writing;
+
+pub use fault::SigFault;
+pub use laws::trees_are_in_order;
+pub use record::{decode, decode_stored};
+pub use signing::sig_of;
+pub use writing::{encode, encode_manifest, encode_stored};
