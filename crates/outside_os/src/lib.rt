@@ -1,7 +1,7 @@
 //! The devices over the real things: layers and a disk in the current folder, benches that run `sh`, standard output.
 //!
 //! Their model is that of the devices' traits. A device here tells nothing of what a folder, `sh` or standard output
-//! holds, so no clause speaks of that, and `os_tests` tests it by runs. Promised of each: its calls return, its count of
+//! holds, so no clause speaks of that, and `os_cases` shows it by runs. Promised of each: its calls return, its count of
 //! faults rises where a call answers that the device failed, and in no other call, and it stands still at its last value.
 //! What is decided is decided elsewhere; here are only the calls of the system. (Own rules: no part of the BitBake User
 //! Manual.)

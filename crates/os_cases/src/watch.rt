@@ -7,7 +7,7 @@ use std::io::{Read, Seek, SeekFrom, Write};
 use std::path::PathBuf;
 use std::rt::Files;
 
-/// A runtime whose files write their paths down as they are synced, each on a line.
+/// A runtime whose files write their paths down as they are synced, each with a blank behind.
 #[derive(Drop)]
 pub struct Watch<'a> {
     rt: HostRuntime,
@@ -122,7 +122,7 @@ impl<'a> OpenFile for WatchedFile<'a> {
             return Err(io::Error::from(io::ErrorKind::ResourceBusy));
         };
         synced.push_str(self.path.as_str())?;
-        synced.push('\n')?;
+        synced.push(' ')?;
         Ok(())
     }
 

@@ -1,0 +1,177 @@
+// The calls that a line can be. In texts `\n` stands for a newline; a path or a prefix may be empty.
+//
+//   sh SCRIPT                       lets `sh` run the script in the room, and says whether it ended with status 0
+//   layers list PREFIX              disk list PREFIX           bench K clear
+//   layers read MAX PATH            disk read PATH             bench K put KIND PATH TEXT
+//                                   disk write KIND PATH TEXT  bench K run SCRIPT
+//   sink TEXT                       disk remove PATH           bench K take ENTRIES LARGEST BYTES
+//                                   disk sync
+//
+// KIND is `file`, `program` or `link`. `disk sync` answers what was synced, each file and folder by its path.
+use crate::answers::{entry_of, of_a_line, of_paths, of_tree, of_word, on_a_line};
+use crate::disk_calls::disk_answer;
+use crate::rooms::{no_call, shell};
+use crate::watch::Watch;
+use outside_os::{FolderDisk, FolderLayers, ShBench, StdSink};
+use outside_traits::{Bench, BenchFault, Layers, ReadFault, Sink, Taken};
+use std::cell::RefCell;
+use std::io;
+use tree_model::{Bytes, Mem, Size, is_clean};
+
+/// What the call of a line answers.
+pub fn answer(
+    rt: &HostRuntime,
+    disk: &mut FolderDisk<Watch<'_>>,
+    synced: &RefCell<String>,
+    line: &str,
+) -> io::Result<String> {
+    let (device, call) = line.split_once(' ').unwrap_or((line, ""));
+    match device {
+        "sh" => {
+            let script = of_a_line(rt.alloc(), call)?;
+            let word = if shell(rt, script.as_str())? {
+                "ok"
+            } else {
+                "failed"
+            };
+            Ok(of_word(rt.alloc(), word)?)
+        }
+        "layers" => layers_answer(rt, call),
+        "disk" => disk_answer(rt.alloc(), disk, synced, call),
+        "bench" => numbered_answer(rt, call),
+        "sink" => sink_answer(rt, call),
+        _ => Err(no_call()),
+    }
+}
+
+/// What the layers answer.
+fn layers_answer(rt: &HostRuntime, call: &str) -> io::Result<String> {
+    let mut layers = FolderLayers::new(rt.clone()?);
+    match call.split_once(' ') {
+        Some(("list", prefix)) => match layers.list(rt.alloc(), prefix) {
+            Ok(paths) => Ok(of_paths(rt.alloc(), paths.as_slice())?),
+            Err(fault) => Ok(of_word(rt.alloc(), read_word(fault))?),
+        },
+        Some(("read", rest)) => match rest.split_once(' ') {
+            Some((max, path)) => read_answer(rt, &mut layers, number(max)?, path),
+            None => Err(no_call()),
+        },
+        _ => Err(no_call()),
+    }
+}
+
+fn read_answer(
+    rt: &HostRuntime,
+    layers: &mut FolderLayers<HostRuntime>,
+    max: u64,
+    path: &str,
+) -> io::Result<String> {
+    let found: Result<Option<Bytes>, ReadFault> = layers.read(rt.alloc(), path, max);
+    match found {
+        Ok(Some(bytes)) => Ok(on_a_line(rt.alloc(), bytes.as_slice())?),
+        Ok(None) => Ok(of_word(rt.alloc(), "nothing")?),
+        Err(fault) => Ok(of_word(rt.alloc(), read_word(fault))?),
+    }
+}
+
+fn read_word(fault: ReadFault) -> &'static str {
+    match fault {
+        ReadFault::Failed => "failed",
+        ReadFault::TooLong => "too long",
+        ReadFault::Memory => "memory",
+    }
+}
+
+/// What the bench with a number answers.
+fn numbered_answer(rt: &HostRuntime, call: &str) -> io::Result<String> {
+    match call.split_once(' ') {
+        Some((k, call)) => {
+            let number = u32::try_from(number(k)?).map_err(|_| no_call())?;
+            let mut bench = ShBench::new(rt.clone()?, number)?;
+            bench_answer(rt, &mut bench, call)
+        }
+        None => Err(no_call()),
+    }
+}
+
+fn bench_answer(
+    rt: &HostRuntime,
+    bench: &mut ShBench<HostRuntime>,
+    call: &str,
+) -> io::Result<String> {
+    let (word, rest) = call.split_once(' ').unwrap_or((call, ""));
+    match word {
+        "clear" => bench_word(rt, bench.clear(rt.alloc())),
+        "put" => put_answer(rt, bench, rest),
+        "run" => {
+            let script = of_a_line(rt.alloc(), rest)?;
+            match bench.run(rt.alloc(), script.as_str()) {
+                Ok(status) => Ok(format!(in rt.alloc(); "{status}")?),
+                Err(fault) => bench_word(rt, Err(fault)),
+            }
+        }
+        "take" => take_answer(rt, bench, rest),
+        _ => Err(no_call()),
+    }
+}
+
+fn bench_word(rt: &HostRuntime, done: Result<(), BenchFault>) -> io::Result<String> {
+    let word = match done {
+        Ok(()) => "ok",
+        Err(BenchFault::Failed) => "failed",
+        Err(BenchFault::Memory) => "memory",
+    };
+    Ok(of_word(rt.alloc(), word)?)
+}
+
+fn put_answer(
+    rt: &HostRuntime,
+    bench: &mut ShBench<HostRuntime>,
+    rest: &str,
+) -> io::Result<String> {
+    let alloc = rt.alloc();
+    let (kind, rest) = rest.split_once(' ').unwrap_or((rest, ""));
+    let (path, text) = rest.split_once(' ').unwrap_or((rest, ""));
+    let text = of_a_line(alloc, text)?;
+    match entry_of(alloc, kind, text.as_str()) {
+        Ok(entry) if is_clean(path) => bench_word(rt, bench.put(alloc, path, &entry)),
+        Ok(_) => Err(no_call()),
+        Err(Mem) => bench_word(rt, Err(BenchFault::Memory)),
+    }
+}
+
+fn take_answer(
+    rt: &HostRuntime,
+    bench: &mut ShBench<HostRuntime>,
+    rest: &str,
+) -> io::Result<String> {
+    let (entries, rest) = rest.split_once(' ').unwrap_or((rest, ""));
+    let (largest, bytes) = rest.split_once(' ').unwrap_or((rest, ""));
+    let max = Size {
+        entries: number(entries)?,
+        largest: number(largest)?,
+        bytes: number(bytes)?,
+    };
+    match bench.take(rt.alloc(), max) {
+        Ok(Taken::Tree(tree)) => Ok(of_tree(rt.alloc(), &tree)?),
+        Ok(Taken::TooLarge) => Ok(of_word(rt.alloc(), "too large")?),
+        Err(fault) => bench_word(rt, Err(fault)),
+    }
+}
+
+/// What standard output answers: whether all of the text was taken at once.
+fn sink_answer(rt: &HostRuntime, call: &str) -> io::Result<String> {
+    let text = of_a_line(rt.alloc(), call)?;
+    let mut sink = StdSink::new(rt.clone()?);
+    let word = match sink.write(text.as_bytes()) {
+        Ok(taken) if taken == text.len() => "all",
+        Ok(_) => "a part",
+        Err(_) => "failed",
+    };
+    Ok(of_word(rt.alloc(), word)?)
+}
+
+/// A number in decimal digits.
+fn number(text: &str) -> io::Result<u64> {
+    text.parse::<u64>().map_err(|_| no_call())
+}

@@ -1,0 +1,74 @@
+// The calls of the disk.
+use crate::answers::{entry_of, of_a_line, of_entry, of_paths, of_word};
+use crate::rooms::no_call;
+use crate::watch::Watch;
+use outside_os::FolderDisk;
+use outside_traits::{Disk, DiskFault};
+use std::alloc::Global;
+use std::cell::RefCell;
+use std::io;
+use tree_model::{Entry, Texts, is_clean};
+
+/// What the disk answers.
+pub fn disk_answer(
+    alloc: Global,
+    disk: &mut FolderDisk<Watch<'_>>,
+    synced: &RefCell<String>,
+    call: &str,
+) -> io::Result<String> {
+    let (word, rest) = call.split_once(' ').unwrap_or((call, ""));
+    match word {
+        "list" => list_answer(alloc, disk.list(alloc, rest)),
+        "read" => read_answer(alloc, disk.read(alloc, rest)),
+        "write" => write_answer(alloc, disk, rest),
+        "remove" => disk_word(alloc, disk.remove(rest)),
+        "sync" => match disk.sync() {
+            Ok(()) => taken(alloc, synced),
+            Err(fault) => disk_word(alloc, Err(fault)),
+        },
+        _ => Err(no_call()),
+    }
+}
+
+/// What was synced since the last look.
+fn taken(alloc: Global, synced: &RefCell<String>) -> io::Result<String> {
+    match synced.try_replace(String::new(alloc)) {
+        Ok(paths) => Ok(paths),
+        Err(_) => Err(no_call()),
+    }
+}
+
+fn disk_word(alloc: Global, done: Result<(), DiskFault>) -> io::Result<String> {
+    let word = match done {
+        Ok(()) => "ok",
+        Err(DiskFault::Failed) => "failed",
+        Err(DiskFault::Memory) => "memory",
+    };
+    Ok(of_word(alloc, word)?)
+}
+
+fn list_answer(alloc: Global, listed: Result<Texts, DiskFault>) -> io::Result<String> {
+    match listed {
+        Ok(paths) => Ok(of_paths(alloc, paths.as_slice())?),
+        Err(fault) => disk_word(alloc, Err(fault)),
+    }
+}
+
+fn read_answer(alloc: Global, found: Result<Option<Entry>, DiskFault>) -> io::Result<String> {
+    match found {
+        Ok(Some(entry)) => Ok(of_entry(alloc, &entry)?),
+        Ok(None) => Ok(of_word(alloc, "nothing")?),
+        Err(fault) => disk_word(alloc, Err(fault)),
+    }
+}
+
+fn write_answer(alloc: Global, disk: &mut FolderDisk<Watch<'_>>, rest: &str) -> io::Result<String> {
+    let (kind, rest) = rest.split_once(' ').unwrap_or((rest, ""));
+    let (path, text) = rest.split_once(' ').unwrap_or((rest, ""));
+    let text = of_a_line(alloc, text)?;
+    match entry_of(alloc, kind, text.as_str()) {
+        Ok(entry) if is_clean(path) => disk_word(alloc, disk.write(path, &entry)),
+        Ok(_) => Err(no_call()),
+        Err(_) => disk_word(alloc, Err(DiskFault::Memory)),
+    }
+}
