@@ -1,11 +1,15 @@
 -- The texts that the program prints.
-use Rattle.std.specs.Prelude.{ℕ, zero, suc, ◌==◌, ◌||◌, Bool, List, [], ◌∷◌, ◌++◌, codes, flat_map, if◌then◌else◌}
+use Rattle.std.specs.Prelude.{ℕ, zero, suc, ◌==◌, ◌||◌, Bool, List, [], ◌∷◌, ◌++◌, codes, flat_map, length, slice_get, if◌then◌else◌}
+use Rattle.std.specs.Option.{option_map_or}
 use Rattle.std.specs.Fmt.{decimal}
 use Rattle.tree_model.specs.Hash.{hash_text}
 use Rattle.tree_model.specs.declared.hash.Hash.{Hash}
 use Rattle.meta_model.specs.declared.event.Status.{Status}
 use Rattle.meta_model.specs.declared.event.Status.TheVariants.{Ok, TaskFailed, Usage, Metadata, DiskFault, BenchFault, ReadFault, WriteFault, Collision, Unsteady, Limit, OutOfMemory}
 use Rattle.meta_model.specs.declared.facts.RecipeFacts.{RecipeFacts}
+use Rattle.meta_model.specs.declared.facts.TaskId.{TaskId}
+use Rattle.meta_model.specs.declared.plan.Plan.{Plan}
+use Rattle.meta_model.specs.declared.plan.PlanTask.{PlanTask}
 
 -- A byte of a value as it is printed: a backslash, a quote and a newline are written with a backslash in front (own rule).
 abbrev pub escape : ℕ → List ℕ
@@ -41,6 +45,39 @@ versions_text recipes = flat_map version_line recipes
 -- what is printed once so many recipe files were read ("The bitbake Command", option `-p`; the text is an own rule)
 abbrev pub parsed_text : ℕ → List ℕ
 parsed_text count = codes "parsed " ++ (decimal count ++ codes " recipes\n")
+
+-- how a task is written
+abbrev pub task_label : TaskId → List ℕ
+task_label id = id.pn ++ (codes ":" ++ id.task)
+
+-- the line of a task of which something was left out of what decides whether it has to run again
+abbrev pub excluded_line : PlanTask → List ℕ
+excluded_line task = if task.key.excluded then codes "excluded " ++ (task_label task.id ++ codes "\n") else []
+
+-- how many tasks and threads there are
+abbrev pub plan_line : ℕ → ℕ → List ℕ
+plan_line tasks threads = codes "plan " ++ (decimal tasks ++ (codes " tasks, " ++ (decimal threads ++ codes " threads\n")))
+
+-- The text of a plan: its first line, and the tasks of which something was left out, in the order of the plan (own rule).
+abbrev pub plan_text : Plan → List ℕ
+plan_text plan = plan_line (length plan.tasks) plan.threads ++ flat_map excluded_line plan.tasks
+
+-- the task with a number, behind a blank
+abbrev pub need_text : List PlanTask → ℕ → List ℕ
+need_text tasks n = codes " " ++ option_map_or (λ task. task_label task.id) (slice_get tasks n) []
+
+-- what a task needs directly
+abbrev pub needs_text : List PlanTask → List ℕ → List ℕ
+needs_text tasks [] = []
+needs_text tasks (first ∷ deps) = codes " needs" ++ flat_map (need_text tasks) (first ∷ deps)
+
+abbrev pub task_line : List PlanTask → PlanTask → List ℕ
+task_line tasks task = codes "task " ++ (task_label task.id ++ (needs_text tasks task.deps ++ codes "\n"))
+
+-- The text of a dry run: the plan, and each task with those that it needs directly, all in the order of the plan (own rule; BitBake
+-- User Manual, "The bitbake Command", option `-n`).
+abbrev pub dry_text : Plan → List ℕ
+dry_text plan = plan_text plan ++ flat_map (task_line plan.tasks) plan.tasks
 
 -- where a fault of metadata stands: a file and a line, a file alone, or nothing
 abbrev pub place_text : List ℕ → ℕ → List ℕ

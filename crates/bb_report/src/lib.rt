@@ -6,11 +6,13 @@
 #![tactic(auto)]
 
 mod fault;
+mod plans;
 mod values;
 mod versions;
 mod written;
 
 pub use fault::fault_text;
+pub use plans::{dry_text, plan_text};
 pub use values::{env_text, recipe_line};
 pub use versions::{parsed_text, versions_text};
 pub use written::write_all;
