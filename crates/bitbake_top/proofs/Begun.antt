@@ -8,10 +8,11 @@ use Rattle.meta_model.specs.declared.event.Logged.{Logged}
 use Rattle.meta_model.specs.declared.event.Status.{Status}
 use Rattle.meta_model.specs.declared.event.Status.TheVariants as status
 use Rattle.load_model.specs.Loading.{sources_of}
-use Rattle.read_modes.specs.Answered.{is_failed_read, is_refusal}
-use Rattle.read_modes.specs.Modes.{not_built}
+use Rattle.project_reading.specs.Answered.{is_failed_read, is_refusal}
+use Rattle.project_reading.specs.Project.{not_built}
 use Rattle.single_plan.specs.Single.{IsSingle}
-use Rattle.single_plan.proofs.OneRun.{run_not_refused, single_not_unbuilt}
+use Rattle.run_targets.proofs.OneRun.{run_not_refused}
+use Rattle.single_plan.proofs.OneRun.{single_not_unbuilt}
 use Rattle.single_run.specs.Run.{IsUnchanged}
 use Rattle.single_run.proofs.Ends.{unchanged_rose}
 use Rattle.bitbake_top.specs.declared.asked.RunRequest.{RunRequest}

@@ -3,8 +3,8 @@ use Rattle.std.proofs.Common.{◌≡◌, inl, inr, subst, ℕ, false, List, [], 
 use Rattle.std.specs.Prelude.{Option, IfErr}
 use Rattle.outside_traits.specs.Store.{IsListing}
 use Rattle.meta_model.specs.declared.event.Status.{Status}
-use Rattle.read_modes.specs.Faults.{IsAnswered}
-use Rattle.read_modes.specs.Modes.{not_built}
+use Rattle.project_reading.specs.Faults.{IsAnswered}
+use Rattle.project_reading.specs.Project.{not_built}
 use Rattle.single_plan.specs.Single.{IsSingle, IsNoSingle}
 use Rattle.bitbake_top.specs.declared.asked.RunRequest.{RunRequest}
 use Rattle.bitbake_top.specs.Run.{Files, IsUnrun}

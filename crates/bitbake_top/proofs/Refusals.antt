@@ -16,12 +16,12 @@ use Rattle.load_model.specs.Loading.{Sources}
 use Rattle.load_model.specs.Layers.{Config, LayerRefusal, no_such_layer, bad_pattern, load as layer_load, no_list, config}
 use Rattle.load_model.specs.Recipes.{SetRefusal, bad_name, dangling_append, load as set_load, too_many, no_value as set_value, text_of}
 use Rattle.load_model.specs.Facts.{RecipeSet, recipe_set}
-use Rattle.read_modes.specs.Said.{value_status, cause_status, layer_status, set_status, lack_status}
-use Rattle.read_modes.specs.Modes.{not_built, read_config, read_recipes}
-use Rattle.single_plan.specs.Targets.{target_of}
-use Rattle.single_plan.specs.Refused.{IsGraphStatus, lacking, cycle, many}
-use Rattle.single_plan.specs.Asked.{Asked, asked, asked_under, asked_over, asked_with, config_text, default_task, moved, target_in, targets_in, targets_of, threads_text}
-use Rattle.single_plan.specs.Runs.{IsRunRefused, asking, graph as no_graph, value as no_text, threads as no_threads}
+use Rattle.project_reading.specs.Said.{value_status, cause_status, layer_status, set_status, lack_status}
+use Rattle.project_reading.specs.Project.{not_built, read_config, read_recipes}
+use Rattle.run_targets.specs.Targets.{target_of}
+use Rattle.run_targets.specs.Refused.{IsGraphStatus, lacking, cycle, many}
+use Rattle.run_targets.specs.Asked.{Asked, asked, asked_under, asked_over, asked_with, config_text, default_task, moved, target_in, targets_in, targets_of, threads_text}
+use Rattle.run_targets.specs.Runs.{IsRunRefused, asking, graph as no_graph, value as no_text, threads as no_threads}
 
 -- whether a status says that something isn't built
 abbrev says_unbuilt : Status → Bool

@@ -3,7 +3,7 @@ use Rattle.std.specs.Prelude.{◌≡◌, ◌⊎◌, ℕ, Bool, true, false, List
 use Rattle.meta_model.specs.declared.event.Status.{Status}
 use Rattle.meta_model.specs.declared.event.Status.TheVariants as status
 use Rattle.bb_report.specs.Written.{WritesFront}
-use Rattle.read_modes.specs.Answered.{is_refusal}
+use Rattle.project_reading.specs.Answered.{is_refusal}
 use Rattle.single_run.specs.Run.{IsUnchanged}
 
 -- the status is that of the refusal that was meant, unless memory ran out

@@ -10,7 +10,7 @@ use Rattle.command_words.specs.Modes.{mode_of}
 use Rattle.command_words.specs.Reading.{request_of}
 use Rattle.read_modes.specs.declared.modes.ReadMode.{ReadMode}
 use Rattle.read_modes.specs.declared.modes.ReadMode.TheVariants as read
-use Rattle.read_modes.specs.Modes.{not_built}
+use Rattle.project_reading.specs.Project.{not_built}
 use Rattle.bitbake_top.specs.declared.asked.Asked.{Asked}
 use Rattle.bitbake_top.specs.declared.asked.Asked.TheVariants.{Runs, Reads}
 use Rattle.bitbake_top.specs.declared.asked.RunRequest.{RunRequest}

@@ -6,9 +6,9 @@ use Rattle.meta_model.specs.declared.event.Logged.{Logged}
 use Rattle.meta_model.specs.declared.event.Status.{Status}
 use Rattle.meta_model.specs.declared.event.Status.TheVariants as status
 use Rattle.load_model.specs.Loading.{sources_of}
-use Rattle.read_modes.specs.Answered.{is_refusal}
-use Rattle.read_modes.specs.Modes.{not_built}
-use Rattle.single_plan.specs.Runs.{IsRunRefused}
+use Rattle.project_reading.specs.Answered.{is_refusal}
+use Rattle.project_reading.specs.Project.{not_built}
+use Rattle.run_targets.specs.Runs.{IsRunRefused}
 use Rattle.single_plan.specs.Single.{IsSingle, IsUnbuilt}
 use Rattle.single_run.specs.Run.{ConcludesRun, clean_task}
 use Rattle.bitbake_top.specs.declared.asked.RunRequest.{RunRequest}

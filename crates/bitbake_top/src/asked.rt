@@ -5,7 +5,8 @@ ghost use Rattle.bitbake_top.specs.Asked as asked;
 
 use command_words::{Mode, Request, WordsFault, read_words};
 use meta_model::Status;
-use read_modes::{ReadMode, not_built};
+use project_reading::not_built;
+use read_modes::ReadMode;
 use std::alloc::Global;
 use tree_model::{Text, Texts};
 

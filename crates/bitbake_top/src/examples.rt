@@ -2,7 +2,7 @@
 ghost use Rattle.std.specs.Prelude.{◌≡◌, [], ◌∷◌, Ok, Err, Some, None, true, false, codes};
 ghost use Rattle.meta_model.specs.declared.event.Status.TheVariants.{Usage};
 ghost use Rattle.read_modes.specs.declared.modes.ReadMode.TheVariants.{Parse, Versions, Environment};
-ghost use Rattle.read_modes.specs.Modes.{not_built};
+ghost use Rattle.project_reading.specs.Project.{not_built};
 ghost use Rattle.bitbake_top.specs.declared.asked.Asked.TheVariants.{Runs, Reads};
 ghost use Rattle.bitbake_top.specs.Asked.{asked_of};
 

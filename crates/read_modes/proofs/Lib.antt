@@ -1,4 +1,2 @@
-pub mod Joins
-pub mod Told
 pub mod Reading
 pub mod Numbers

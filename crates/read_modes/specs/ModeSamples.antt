@@ -6,7 +6,8 @@ use Rattle.load_model.specs.LoadRefusal.{◌>>=◌}
 use Rattle.load_model.specs.LoadSamples.{Files, sample}
 use Rattle.read_modes.specs.declared.modes.ReadMode.{ReadMode}
 use Rattle.bb_report.specs.Texts.{fault_text}
-use Rattle.read_modes.specs.Modes.{read_config, read_recipes, target_recipes, mode_text}
+use Rattle.project_reading.specs.Project.{read_config, read_recipes}
+use Rattle.read_modes.specs.Modes.{target_recipes, mode_text}
 
 abbrev pub paths_of : Files → List (List ℕ)
 paths_of files = map (λ file. file.0) files

@@ -1,39 +1,23 @@
 -- What the modes that only read metadata print.
-use Rattle.std.specs.Prelude.{ℕ, List, [], ◌∷◌, ◌++◌, length, slice_get, slice_index_or, Option, Result, Ok, Err, codes, if◌then◌else◌}
+use Rattle.std.specs.Prelude.{ℕ, List, [], ◌∷◌, ◌++◌, length, slice_get, slice_index_or, Option, Result, Ok, Err, if◌then◌else◌}
 use Rattle.std.specs.Option.{option_map, option_map_or}
 use Rattle.meta_model.specs.declared.entry.EntryLine.{EntryLine}
 use Rattle.meta_model.specs.declared.facts.FactSet.{FactSet}
 use Rattle.meta_model.specs.declared.facts.RecipeFacts.{RecipeFacts}
 use Rattle.meta_model.specs.declared.event.Status.{Status}
-use Rattle.meta_model.specs.declared.event.Status.TheVariants.{Metadata}
-use Rattle.meta_model.specs.Text.{colon, begins_with, split_at_first}
 use Rattle.meta_model.specs.Frozen.{frozen}
 use Rattle.meta_model.specs.Providers.{provider}
 use Rattle.meta_model.specs.GraphRefusal.{nothing_provides, unprovided}
 use Rattle.load_model.specs.LoadRefusal.{◌>>=◌, refused_as}
 use Rattle.load_model.specs.Loading.{Sources}
-use Rattle.load_model.specs.Layers.{Config, config}
-use Rattle.load_model.specs.Facts.{RecipeSet, recipe_set, environment}
+use Rattle.load_model.specs.Layers.{Config}
+use Rattle.load_model.specs.Facts.{RecipeSet, environment}
 use Rattle.bb_report.specs.Texts.{env_text, recipe_line, versions_text, parsed_text}
 use Rattle.read_modes.specs.declared.modes.ReadMode.{ReadMode}
 use Rattle.read_modes.specs.declared.modes.ReadMode.TheVariants.{Parse, Versions, Environment}
-use Rattle.read_modes.specs.Said.{value_status, layer_status, set_status, lack_status}
-
--- what isn't built so far, which is no answer of these modes
-abbrev pub not_built : Status
-not_built = Metadata [] 0 (codes "NotBuilt") []
-
--- the configuration, over the paths of all files
-abbrev pub read_config : Sources → List (List ℕ) → Result Config Status
-read_config sources paths = refused_as layer_status (config sources paths)
-
--- all recipes
-abbrev pub read_recipes : Sources → Config → Result RecipeSet Status
-read_recipes sources made = refused_as set_status (recipe_set sources made.lines made.recipes made.appends)
-
--- the name of a target: what stands before its first colon, or the whole word
-abbrev pub target_name : List ℕ → List ℕ
-target_name word = option_map_or (λ cut. cut.0) (split_at_first colon word) word
+use Rattle.project_reading.specs.Said.{value_status, lack_status}
+use Rattle.project_reading.specs.Project.{read_config, read_recipes}
+use Rattle.run_targets.specs.Targets.{is_elsewhere, target_name}
 
 -- the number of the recipe that provides a name
 abbrev pub provider_number : FactSet → List ℕ → Result ℕ Status
@@ -42,7 +26,7 @@ provider_number facts name = refused_as (λ pns. lack_status (unprovided name pn
 -- The number of a target's recipe. A target is NAME or NAME:TASK: its recipe is the provider of NAME, and its task isn't looked at.
 -- A word that begins with `mc:` asks for another configuration, which nothing provides until several are built (own rules).
 abbrev pub target_recipe : FactSet → List ℕ → Result ℕ Status
-target_recipe facts word = if begins_with (codes "mc:") word then Err (lack_status (nothing_provides word)) else provider_number facts (target_name word)
+target_recipe facts word = if is_elsewhere word then Err (lack_status (nothing_provides word)) else provider_number facts (target_name word)
 
 -- the numbers of the targets' recipes, in the order of the targets
 abbrev pub target_recipes : FactSet → List (List ℕ) → Result (List ℕ) Status

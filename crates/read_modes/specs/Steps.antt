@@ -7,8 +7,9 @@ use Rattle.load_model.specs.Loading.{Sources}
 use Rattle.load_model.specs.Layers.{Config}
 use Rattle.load_model.specs.Facts.{environment}
 use Rattle.bb_report.specs.Texts.{env_text, versions_text, parsed_text}
-use Rattle.read_modes.specs.Said.{value_status}
-use Rattle.read_modes.specs.Modes.{read_recipes, values_of_targets}
+use Rattle.project_reading.specs.Said.{value_status}
+use Rattle.project_reading.specs.Project.{read_recipes}
+use Rattle.read_modes.specs.Modes.{values_of_targets}
 
 -- the values of entries, as they are printed
 abbrev pub values_at : List ℕ → List EntryLine → Result (List ℕ) Status

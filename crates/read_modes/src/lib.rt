@@ -2,27 +2,18 @@
 //! recipe files were read.
 //!
 //! The text of a mode, or the status that it is refused with, is a definition over the files of the layers (`specs/Modes.antt`,
-//! `mode_text`), which stands over those of `load_model`; `specs/Said.antt` has the status of each refusal, with its place, kind and
-//! texts. `mode_examples` works such answers out over small projects, each derived from the rules by hand. A target of `-e` is found
-//! as one of a run is: its recipe is the provider of its name (`task_graph`).
+//! `mode_text`), which stands over those of `load_model`; the status of each refusal stands in `project_reading`. `mode_examples` works
+//! such answers out over small projects, each derived from the rules by hand. A target of `-e` is found as one of a run is: its recipe
+//! is the provider of its name (`task_graph`).
 //!
 //! Promised of `read_mode`, for any layers that tell what they hold: it gives that text, and is refused with that status exactly
 //! where the definition refuses. `ReadFault` comes only where the layers' count of faults rose in the call; want of memory alone is
 //! free. No file is changed, and nothing but the layers is touched. The line that a status is printed with stands in `bb_report`.
-//!
-//! The parts of it that a run needs too are public, with promises of the same kind: the configuration, all recipes, and the statuses
-//! of refusals, those of `task_graph` among them.
 #![tactic(auto)]
 
-mod graph_faults;
 mod mode_examples;
 mod modes;
-mod refused;
-mod said;
 mod targets;
 mod values;
 
-pub use graph_faults::{graph_status, nothing_provides};
-pub use modes::{ReadMode, read_config, read_mode, read_recipes};
-pub use said::{not_built, value_status};
-pub use values::or_status;
+pub use modes::{ReadMode, read_mode};

@@ -6,16 +6,15 @@ ghost use Rattle.load_model.specs.Loading.{sources_of};
 ghost use Rattle.layer_conf.specs.Config.{config_meant};
 ghost use Rattle.read_modes.specs.Modes as modes;
 ghost use Rattle.read_modes.specs.Steps as steps;
-ghost use Rattle.read_modes.specs.Answered.{IsRefusedAs, is_refusal, mode_failed};
+ghost use Rattle.project_reading.specs.Answered.{IsRefusedAs, is_refusal, mode_failed};
 
-use crate::refused::{layer_status, set_status};
 use crate::targets::values_of_targets;
-use crate::values::{config_values, or_status};
+use crate::values::config_values;
 use bb_report::{parsed_text, versions_text};
-use layer_conf::{Config, read_layers};
+use layer_conf::Config;
 use meta_model::Status;
 use outside_traits::Layers;
-use recipe_set::{RecipeSet, read_all};
+use project_reading::{or_status, read_config, read_recipes};
 use std::alloc::Global;
 use tree_model::Text;
 
@@ -28,46 +27,6 @@ pub enum ReadMode {
     Versions,
     /// Prints the values of the targets' recipes, or of the configuration (`-e`).
     Environment,
-}
-
-/// Reads the configuration.
-///
-/// Refused as the definition is (`specs/Modes.antt`, `read_config`), over the list of the paths of all files. `ReadFault` comes
-/// only where the layers' count of faults rose, and want of memory alone is free. No call changes a file.
-pub fn read_config<L: Layers>(alloc: Global, layers: &mut L) -> Result<Config, Status>
-    ensures ok { IfOk result (λ made. L.tells → (paths : List (List ℕ)) → IsListing [] (L.files layers.old) paths → modes.read_config (sources_of (L.files layers.old)) paths ≡ Ok (config_meant made)) }
-    ensures err { IfErr result (λ status. L.tells → (paths : List (List ℕ)) → IsListing [] (L.files layers.old) paths → IsRefusedAs status (modes.read_config (sources_of (L.files layers.old)) paths)) }
-    ensures refusal { IfErr result (λ status. is_refusal status ≡ true) }
-    ensures same { L.files layers.new ≡ L.files layers.old }
-    ensures cause { Counts (L.faults layers.old) (L.faults layers.new) (mode_failed result) }
-{
-    match read_layers(alloc, layers) {
-        Ok(config) => Ok(config),
-        Err(fault) => Err(layer_status(alloc, fault)),
-    }
-}
-
-/// Reads all recipes of a configuration, and chooses one of each PN.
-///
-/// Refused as the definition is (`specs/Modes.antt`, `read_recipes`). `ReadFault` comes only where the layers' count of faults
-/// rose, and want of memory alone is free. No call changes a file.
-pub fn read_recipes<L: Layers>(
-    alloc: Global,
-    layers: &mut L,
-    config: &Config,
-) -> Result<RecipeSet, Status>
-    ensures ok { IfOk result (λ set. L.tells → modes.read_recipes (sources_of (L.files layers.old)) (config_meant config.now) ≡ Ok set) }
-    ensures err { IfErr result (λ status. L.tells → IsRefusedAs status (modes.read_recipes (sources_of (L.files layers.old)) (config_meant config.now))) }
-    ensures refusal { IfErr result (λ status. is_refusal status ≡ true) }
-    ensures same { L.files layers.new ≡ L.files layers.old }
-    ensures cause { Counts (L.faults layers.old) (L.faults layers.new) (mode_failed result) }
-{
-    let recipes = config.recipes.as_slice();
-    let appends = config.appends.as_slice();
-    match read_all(alloc, layers, &config.store, recipes, appends) {
-        Ok(set) => Ok(set),
-        Err(fault) => Err(set_status(alloc, fault)),
-    }
 }
 
 /// How many recipe files were read.

@@ -1,33 +1,16 @@
 // The recipes that targets name.
 ghost use Rattle.std.specs.Prelude.{◌≡◌, ◌<◌, ◌≤◌, All, length, true, false, Ok, IfOk, IfErr};
-ghost use Rattle.meta_model.specs.Text.{begins_with as begins};
 ghost use Rattle.read_modes.specs.Modes as modes;
-ghost use Rattle.read_modes.specs.Answered.{IsRefusedAs, is_refusal, mode_failed};
+ghost use Rattle.project_reading.specs.Answered.{IsRefusedAs, is_refusal, mode_failed};
 
-use crate::graph_faults::{graph_status, nothing_provides};
-use crate::values::{all_values, or_status};
+use crate::values::all_values;
 use meta_model::{FactSet, ListOf, Status};
+use project_reading::{graph_status, nothing_provides, or_status};
 use recipe_set::RecipeSet;
+use run_targets::{is_elsewhere, target_name};
 use std::alloc::Global;
 use task_graph::provider;
 use tree_model::Text;
-
-/// Whether a text begins with the other.
-fn begins_with(front: &str, text: &str) -> bool
-    ensures { result ≡ begins front.now text.now }
-{
-    text.as_bytes().starts_with(front.as_bytes())
-}
-
-/// The name of a target: what stands before its first colon, or the whole word.
-fn target_name(word: &str) -> &str
-    ensures { result.now ≡ modes.target_name word.now }
-{
-    match word.split_once(':') {
-        Some((name, _)) => name,
-        None => word,
-    }
-}
 
 /// The number of the recipe that provides a name, found by going through all recipes.
 fn provider_number(alloc: Global, facts: &FactSet, name: &str) -> Result<u32, Status>
@@ -54,7 +37,7 @@ fn target_recipe(alloc: Global, facts: &FactSet, word: &str) -> Result<u32, Stat
     ensures refusal { IfErr result (λ fault. is_refusal fault ≡ true) }
     ensures no_failure { mode_failed result ≡ false }
 {
-    if begins_with("mc:", word) {
+    if is_elsewhere(word) {
         return Err(nothing_provides(alloc, word));
     }
     provider_number(alloc, facts, target_name(word))

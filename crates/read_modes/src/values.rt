@@ -4,32 +4,21 @@ ghost use Rattle.meta_model.specs.declared.event.Status.TheVariants as status;
 ghost use Rattle.class_inherit.specs.Faults.{data_refusal};
 ghost use Rattle.layer_conf.specs.Config.{config_meant};
 ghost use Rattle.bb_report.specs.Texts as texts;
-ghost use Rattle.read_modes.specs.Said as said;
+ghost use Rattle.project_reading.specs.Said as said;
 ghost use Rattle.read_modes.specs.Modes as modes;
 ghost use Rattle.read_modes.specs.Steps as steps;
-ghost use Rattle.read_modes.specs.Faults.{IsAnsweredAs};
-ghost use Rattle.read_modes.specs.Answered.{IsRefusedAs, is_refusal, mode_failed};
+ghost use Rattle.project_reading.specs.Faults.{IsAnsweredAs};
+ghost use Rattle.project_reading.specs.Answered.{IsRefusedAs, is_refusal, mode_failed};
 
-use crate::said::value_status;
 use bb_report::{env_text, recipe_line};
 use datastore::{DataFault, Datastore};
 use layer_conf::Config;
 use meta_model::{RecipeFacts, Status};
+use project_reading::{or_status, value_status};
 use recipe_facts::environment;
 use recipe_set::RecipeSet;
 use std::alloc::Global;
 use tree_model::{Mem, Text};
-
-/// What was made, or the status of want of memory.
-pub fn or_status<T>(made: Result<T, Mem>) -> Result<T, Status>
-    ensures ok { IfOk result (λ value. made ≡ Ok value) }
-    ensures err { IfErr result (λ fault. fault ≡ status.OutOfMemory) }
-{
-    match made {
-        Ok(value) => Ok(value),
-        Err(_) => Err(Status::OutOfMemory),
-    }
-}
 
 /// The status of a value of a file that is refused, or, where the file is empty, of the configuration.
 fn refused_value(alloc: Global, file: &str, fault: DataFault) -> Status

@@ -5,7 +5,7 @@ use Rattle.outside_traits.specs.Store.{IsListing}
 use Rattle.meta_model.specs.declared.facts.RecipeFacts.{RecipeFacts}
 use Rattle.load_model.specs.Recipes.{is_pn, belongs}
 use Rattle.single_plan.specs.Recipe.{IsRecipe}
-use Rattle.single_plan.specs.Asked.{Asked}
+use Rattle.run_targets.specs.Asked.{Asked}
 use Rattle.single_plan.specs.Single.{HasNoneUnder}
 use Rattle.single_plan.specs.Steps.{IsBodyIn, IsBodyAt, IsBodyOfRecipe, IsBodyOfForm}
 

@@ -1,6 +1,5 @@
 pub mod Forms
 pub mod OneTask
-pub mod AnyGraph
 pub mod OneRun
 pub mod Texts
 pub mod Nodes

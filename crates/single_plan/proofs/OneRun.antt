@@ -10,15 +10,15 @@ use Rattle.meta_model.specs.declared.facts.Graph.{Graph}
 use Rattle.meta_model.specs.Needs.{Task}
 use Rattle.meta_model.specs.Threads.{AreThreads}
 use Rattle.load_model.specs.Loading.{sources_of}
-use Rattle.read_modes.specs.Modes.{not_built}
+use Rattle.project_reading.specs.Project.{not_built}
 use Rattle.single_plan.specs.Recipe.{task_name, IsRecipe}
-use Rattle.single_plan.specs.Refused.{IsGraphStatus}
-use Rattle.single_plan.specs.Asked.{Asked, asked, threads_text}
-use Rattle.single_plan.specs.Runs.{HasGraph, IsRun, IsRunRefused, asking, graph as no_graph, value as no_value, threads as no_threads}
+use Rattle.run_targets.specs.Refused.{IsGraphStatus}
+use Rattle.run_targets.specs.Asked.{Asked, asked, threads_text}
+use Rattle.run_targets.specs.Runs.{HasGraph, IsRun, IsRunRefused, asking, graph as no_graph, value as no_value, threads as no_threads}
 use Rattle.single_plan.specs.Single.{IsFormed, IsOnlyRecipe, IsBuilt, IsSingle, IsUnbuilt, IsNoSingle}
 use Rattle.single_plan.proofs.Forms.{ok_same, body_once}
 use Rattle.single_plan.proofs.OneTask.{other_only}
-use Rattle.single_plan.proofs.AnyGraph.{graph_stands}
+use Rattle.run_targets.proofs.OneRun.{same_asked, run_not_refused}
 
 some_same : {A : Type 0} (a b : A) → Some a ≡ Some b → a ≡ b
 some_same a b e = cc
@@ -56,11 +56,6 @@ built_once files what graph a b x y m n =
     let r = recipe_same what graph m.recipe n.recipe m.only n.only in
     (m.named ∙ ap (λ s. s.pn) r ∙ sym n.named, formed_once files what m.recipe x y m.form.formed (subst (λ s. IsFormed files what s y) (sym r) n.form.formed))
 
--- the same words ask for the same
-same_asked : (files : List ℕ → Option (List ℕ)) (paths others words : List (List ℕ)) (task : Option (List ℕ)) (v w : Asked) → IsListing [] files paths → IsListing [] files others
-    → asked (sources_of files) paths words task ≡ Ok v → asked (sources_of files) others words task ≡ Ok w → v ≡ w
-same_asked files paths others words task v w l m e f = ok_same v w (sym e ∙ ap (λ p. asked (sources_of files) p words task) (listing_once [] files paths others l m) ∙ f)
-
 pub single_once : (files : List ℕ → Option (List ℕ)) (paths others words : List (List ℕ)) (task : Option (List ℕ)) (a b x y : List ℕ) → IsListing [] files paths → IsListing [] files others
     → IsSingle files paths words task a x → IsSingle files others words task b y → (a ≡ b) × (x ≡ y)
 single_once files paths others words task a b x y l m s t =
@@ -75,29 +70,6 @@ single_not_unbuilt files paths others words task name body l m s u =
     let same = same_asked files paths others words task s.what u.what l m s.run.asked u.run.asked in
     let graph = subst (λ w. HasGraph w s.graph) same s.run.graph in
     u.other name body (built_in files u.what s.graph u.graph name body graph u.run.graph (subst (λ w. IsBuilt files w s.graph name body) same s.built))
-
--- what the words have a run of isn't refused
-pub run_not_refused : (files : List ℕ → Option (List ℕ)) (paths others words : List (List ℕ)) (task : Option (List ℕ)) (made : Asked) (graph : Graph) (number : ℕ) (status : Status) → IsListing [] files paths → IsListing [] files others
-    → IsRun (sources_of files) paths words task made graph number → IsRunRefused (sources_of files) others words task status → ⊥
-run_not_refused files paths others words task made graph number status l m s (asking e) =
-    let is : asked (sources_of files) others words task ≡ Ok made = ap (λ p. asked (sources_of files) p words task) (listing_once [] files others paths m l) ∙ s.asked in
-    apart made status (sym is ∙ e)
-  where
-    apart : (w : Asked) (t : Status) → Ok w ≡ Err t → ⊥
-    apart w t h = absurd cc
-run_not_refused files paths others words task made graph number status l m s (no_graph what e h) =
-    let same = same_asked files paths others words task made what l m s.asked e in
-    graph_stands made graph status s.graph (subst (λ w. IsGraphStatus w.set.facts w.targets status) (sym same) h)
-run_not_refused files paths others words task made graph number status l m s (no_value what other e g h) =
-    let same = same_asked files paths others words task made what l m s.asked e in
-    apart s.threads.text status (sym (ap threads_text (sym same) ∙ s.threads.is) ∙ h)
-  where
-    apart : (w : List ℕ) (t : Status) → Ok w ≡ Err t → ⊥
-    apart w t h = absurd cc
-run_not_refused files paths others words task made graph number status l m s (no_threads what other text e g h none is) =
-    let same = same_asked files paths others words task made what l m s.asked e in
-    let texts = ok_same s.threads.text text (sym (ap threads_text (sym same) ∙ s.threads.is) ∙ h) in
-    none number (subst (λ t. AreThreads t number) texts s.threads.number)
 
 -- where there is a single run, only the layers or memory can fail
 pub single_fails : (files : List ℕ → Option (List ℕ)) (paths others words : List (List ℕ)) (task : Option (List ℕ)) (name body : List ℕ) (status : Status) → IsListing [] files paths → IsListing [] files others

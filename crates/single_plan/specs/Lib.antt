@@ -1,9 +1,3 @@
 pub mod Recipe
-pub mod Targets
-pub mod Refused
-pub mod Asked
-pub mod Runs
 pub mod Single
-pub mod Meaning
 pub mod Steps
-pub mod Samples

@@ -9,10 +9,10 @@ use Rattle.meta_model.specs.declared.facts.Graph.{Graph}
 use Rattle.meta_model.specs.TaskGraph.{node_task}
 use Rattle.load_model.specs.Loading.{sources_of}
 use Rattle.load_model.specs.Recipes.{is_pn, belongs}
-use Rattle.read_modes.specs.Modes.{not_built}
+use Rattle.project_reading.specs.Project.{not_built}
 use Rattle.single_plan.specs.Recipe.{task_name, IsRecipe}
-use Rattle.single_plan.specs.Asked.{Asked}
-use Rattle.single_plan.specs.Runs.{IsRun, IsRunRefused}
+use Rattle.run_targets.specs.Asked.{Asked}
+use Rattle.run_targets.specs.Runs.{IsRun, IsRunRefused}
 
 -- no file stands under the prefix
 abbrev pub HasNoneUnder : (List ℕ → Option (List ℕ)) → List ℕ → Type 0

@@ -7,12 +7,12 @@ use Rattle.meta_model.specs.declared.facts.Node.{Node}
 use Rattle.meta_model.specs.declared.facts.Graph.{Graph}
 use Rattle.meta_model.specs.TaskGraph.{node_task}
 use Rattle.meta_model.specs.Threads.{AreThreads}
-use Rattle.read_modes.specs.Modes.{not_built}
+use Rattle.project_reading.specs.Project.{not_built}
 use Rattle.single_plan.specs.Recipe.{task_name, IsRecipe}
-use Rattle.read_modes.specs.Said.{threads_status}
-use Rattle.single_plan.specs.Refused.{IsGraphStatus}
-use Rattle.single_plan.specs.Asked.{Asked, threads_text}
-use Rattle.single_plan.specs.Runs.{HasGraph, HasThreads}
+use Rattle.project_reading.specs.Said.{threads_status}
+use Rattle.run_targets.specs.Refused.{IsGraphStatus}
+use Rattle.run_targets.specs.Asked.{Asked, threads_text}
+use Rattle.run_targets.specs.Runs.{HasGraph, HasThreads}
 use Rattle.single_plan.specs.Single.{IsFormed, IsOfForm, IsBuilt}
 
 -- the body of the file at a path, where it is a recipe of the form
@@ -35,31 +35,7 @@ IsBodyOfForm files what recipe found = MatchOption found ((body : List ℕ) → 
 abbrev pub AreOnly : List Node → ℕ → Type 0
 AreOnly nodes number = map node_task nodes ≡ (number, task_name) ∷ []
 
--- the layers failed, or memory ran out
-abbrev pub IsDeviceStatus : Status → Type 0
-IsDeviceStatus status = (status ≡ OutOfMemory) ⊎ (status ≡ ReadFault)
-
--- the status of a text that is no number of threads, or that is refused
-pub data HasNoThreads (what : Asked) (status : Status) : Type 0 where
-  value : threads_text what ≡ Err status → HasNoThreads what status
-  threads : (text : List ℕ) → threads_text what ≡ Ok text → ((threads : ℕ) → AreThreads text threads → ⊥) → status ≡ threads_status text → HasNoThreads what status
-
 -- the status of a graph that isn't of the form
 pub record IsNoForm (files : List ℕ → Option (List ℕ)) (what : Asked) (graph : Graph) (status : Status) : Type 0 where
   pub told : status ≡ not_built
   pub other : (name body : List ℕ) → IsBuilt files what graph name body → ⊥
-
--- what is asked for has a run of the form
-pub record IsSingleOf (files : List ℕ → Option (List ℕ)) (what : Asked) (name body : List ℕ) : Type 0 where
-  pub graph : Graph
-  pub threads : ℕ
-  pub has_graph : HasGraph what graph
-  pub has_threads : HasThreads what threads
-  pub built : IsBuilt files what graph name body
-
--- why what is asked for has none
-pub data IsNoSingleOf (files : List ℕ → Option (List ℕ)) (what : Asked) (status : Status) : Type 0 where
-  device : IsDeviceStatus status → IsNoSingleOf files what status
-  no_graph : IsGraphStatus what.set.facts what.targets status → IsNoSingleOf files what status
-  no_threads : (graph : Graph) → HasGraph what graph → HasNoThreads what status → IsNoSingleOf files what status
-  unbuilt : (graph : Graph) (threads : ℕ) → HasGraph what graph → HasThreads what threads → IsNoForm files what graph status → IsNoSingleOf files what status

@@ -4,18 +4,17 @@ ghost use Rattle.std.specs.Option.{option_copied};
 ghost use Rattle.outside_traits.specs.Fault.{Counts};
 ghost use Rattle.outside_traits.specs.Store.{IsListing};
 ghost use Rattle.load_model.specs.Recipes.{is_pn};
-ghost use Rattle.read_modes.specs.Answered.{is_refusal, mode_failed};
-ghost use Rattle.single_plan.specs.Meaning.{asked_meant};
-ghost use Rattle.single_plan.specs.Runs.{HasGraph};
+ghost use Rattle.project_reading.specs.Answered.{is_refusal, mode_failed};
+ghost use Rattle.run_targets.specs.Meaning.{asked_meant};
 ghost use Rattle.single_plan.specs.Single.{IsBuilt, IsNoSingle, IsOnlyRecipe, IsSingle};
-ghost use Rattle.single_plan.specs.Steps.{IsDeviceStatus, IsNoForm, IsNoSingleOf, IsSingleOf};
+ghost use Rattle.run_targets.specs.Runs.{IsDeviceStatus};
+ghost use Rattle.single_plan.specs.Steps.{IsNoForm};
 
-use crate::asked::{Asked, read_asked};
 use crate::form::{body_of_form, only_recipe};
-use crate::graph::{graph_of, number_of_threads};
 use meta_model::{Graph, RecipeFacts, Status};
 use outside_traits::Layers;
-use read_modes::{not_built, or_status};
+use project_reading::{not_built, or_status};
+use run_targets::{Asked, find_run};
 use std::alloc::Global;
 use tree_model::{Mem, Text};
 
@@ -82,49 +81,13 @@ fn single_in<L: Layers>(
     }
 }
 
-/// The one task of a graph whose run has a number of threads.
-fn single_with<L: Layers>(
-    alloc: Global,
-    layers: &mut L,
-    asked: &Asked,
-    graph: &Graph,
-) -> Result<Single, Status>
-    requires { HasGraph (asked_meant asked.now) graph.now }
-    ensures ok { IfOk result (λ single. L.tells → IsSingleOf (L.files layers.old) (asked_meant asked.now) single.name single.body) }
-    ensures name { IfOk result (λ single. is_pn single.name ≡ true) }
-    ensures err { IfErr result (λ status. L.tells → IsNoSingleOf (L.files layers.old) (asked_meant asked.now) status) }
-    ensures refusal { IfErr result (λ status. is_refusal status ≡ true) }
-    ensures same { L.files layers.new ≡ L.files layers.old }
-    ensures cause { Counts (L.faults layers.old) (L.faults layers.new) (mode_failed result) }
-{
-    match number_of_threads(alloc, asked) {
-        Ok(_) => single_in(alloc, layers, asked, graph),
-        Err(status) => Err(status),
-    }
-}
-
-/// The one task of what is asked for.
-fn single_of<L: Layers>(alloc: Global, layers: &mut L, asked: &Asked) -> Result<Single, Status>
-    ensures ok { IfOk result (λ single. L.tells → IsSingleOf (L.files layers.old) (asked_meant asked.now) single.name single.body) }
-    ensures name { IfOk result (λ single. is_pn single.name ≡ true) }
-    ensures err { IfErr result (λ status. L.tells → IsNoSingleOf (L.files layers.old) (asked_meant asked.now) status) }
-    ensures refusal { IfErr result (λ status. is_refusal status ≡ true) }
-    ensures same { L.files layers.new ≡ L.files layers.old }
-    ensures cause { Counts (L.faults layers.old) (L.faults layers.new) (mode_failed result) }
-{
-    match graph_of(alloc, asked) {
-        Ok(graph) => single_with(alloc, layers, asked, &graph),
-        Err(status) => Err(status),
-    }
-}
-
 /// Finds the one task that words are a run for. `task` is the task of targets that name none, as the option `-c` gives it; where
 /// it isn't given, BB_DEFAULT_TASK of the configuration counts.
 ///
-/// The answer is the PN and the body of `do_build` of a recipe: of the run that the words have (`specs/Runs.antt`, `IsRun`), where
+/// The answer is the PN and the body of `do_build` of a recipe: of the run that the words have (`IsRun` of `run_targets`), where
 /// its graph is of the form that is built so far (`specs/Single.antt`, `IsSingle`).
 ///
-/// - `Metadata` and `Limit`: as `specs/Runs.antt` says (`IsRunRefused`): the configuration, the recipes, the default task, a word
+/// - `Metadata` and `Limit`: as `run_targets` says (`IsRunRefused`): the configuration, the recipes, the default task, a word
 ///   of another configuration, the graph and the number of threads, in this order. `Metadata` of the kind `NotBuilt` comes besides
 ///   where the words have a run of another form, and only there.
 /// - `ReadFault`: only where the layers' count of faults rose in the call.
@@ -144,8 +107,8 @@ pub fn find_single<L: Layers>(
     ensures same { L.files layers.new ≡ L.files layers.old }
     ensures cause { Counts (L.faults layers.old) (L.faults layers.new) (mode_failed result) }
 {
-    match read_asked(alloc, layers, words, task) {
-        Ok(asked) => single_of(alloc, layers, &asked),
+    match find_run(alloc, layers, words, task) {
+        Ok(run) => single_in(alloc, layers, &run.asked, &run.graph),
         Err(status) => Err(status),
     }
 }

@@ -3,18 +3,19 @@ ghost use Rattle.std.specs.Prelude.{◌≡◌, ◌↔◌, ℕ, IsTrue, true, IfO
 ghost use Rattle.outside_traits.specs.Fault.{Counts};
 ghost use Rattle.meta_model.specs.declared.facts.RecipeFacts.{RecipeFacts as Facts};
 ghost use Rattle.load_model.specs.Recipes as meant;
-ghost use Rattle.read_modes.specs.Answered.{mode_failed};
-ghost use Rattle.single_plan.specs.Meaning.{asked_meant};
+ghost use Rattle.project_reading.specs.Answered.{mode_failed};
+ghost use Rattle.run_targets.specs.Meaning.{asked_meant};
 ghost use Rattle.single_plan.specs.Recipe.{task_name};
 ghost use Rattle.single_plan.specs.Single.{HasNoneUnder, IsOnlyRecipe};
-ghost use Rattle.single_plan.specs.Steps.{AreOnly, IsBodyAt, IsBodyOfForm, IsBodyOfRecipe, IsDeviceStatus};
+ghost use Rattle.run_targets.specs.Runs.{IsDeviceStatus};
+ghost use Rattle.single_plan.specs.Steps.{AreOnly, IsBodyAt, IsBodyOfForm, IsBodyOfRecipe};
 
-use crate::asked::Asked;
 use crate::recipe::body_in;
 use meta_model::{Graph, Node, RecipeFacts, Status};
 use outside_traits::{Layers, ReadFault};
-use read_modes::or_status;
+use project_reading::or_status;
 use recipe_set::{has_any, is_pn};
+use run_targets::Asked;
 use std::alloc::Global;
 use tree_model::Text;
 

@@ -5,16 +5,10 @@ ghost use Rattle.meta_model.specs.declared.event.Status.TheVariants.{OutOfMemory
 ghost use Rattle.meta_model.specs.declared.facts.Graph.{Graph as Tasks};
 ghost use Rattle.outside_traits.specs.Store.{IsListing};
 ghost use Rattle.load_model.specs.Loading.{sources_of};
-ghost use Rattle.read_modes.specs.Modes.{not_built};
-ghost use Rattle.single_plan.specs.Asked.{Asked as What};
-ghost use Rattle.single_plan.specs.Runs.{IsRun, IsRunRefused};
+ghost use Rattle.project_reading.specs.Project.{not_built};
+ghost use Rattle.run_targets.specs.Asked.{Asked as What};
+ghost use Rattle.run_targets.specs.Runs.{IsRun, IsRunRefused};
 ghost use Rattle.single_plan.specs.Single.{IsNoSingle, IsSingle, IsUnbuilt};
-
-/// Words that have a run of one project aren't refused: their graph has no refusal, no cycle and no more tasks than a graph may
-/// have.
-pub fn run_law()
-    ensures { (files : List ℕ → Option (List ℕ)) (paths others words : List (List ℕ)) (task : Option (List ℕ)) (what : What) (graph : Tasks) (threads : ℕ) (status : End) → IsListing [] files paths → IsListing [] files others → IsRun (sources_of files) paths words task what graph threads → IsRunRefused (sources_of files) others words task status → ⊥ }
-{}
 
 /// Of one project and the same words there is one single run at most. Where there is one, they have no run of another form, and only
 /// the layers or memory can fail; where there is a run of another form, that is told, unless the layers or memory fail.

@@ -4,8 +4,8 @@ use Rattle.layer_conf.specs.Config.{config_meant}
 use Rattle.recipe_facts.proofs.Binding.{if_err_weaker}
 use Rattle.read_modes.specs.Modes.{environment_of}
 use Rattle.read_modes.specs.Steps.{targets_over}
-use Rattle.read_modes.specs.Answered.{IsRefusedAs}
-use Rattle.read_modes.proofs.Told.{told_same}
+use Rattle.project_reading.specs.Answered.{IsRefusedAs}
+use Rattle.project_reading.proofs.Told.{told_same}
 use Rattle.read_modes.proofs.Reading.{with_targets}
 use Rattle.read_modes.proofs.modes.environment_of.Goals as goal
 

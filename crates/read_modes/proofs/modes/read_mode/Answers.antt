@@ -4,9 +4,10 @@ use Rattle.outside_traits.specs.Store.{IsListing}
 use Rattle.load_model.specs.Loading.{sources_of}
 use Rattle.layer_conf.specs.Config.{config_meant}
 use Rattle.recipe_facts.proofs.Binding.{goes_on, if_err_weaker}
-use Rattle.read_modes.specs.Modes.{read_config, text_of, mode_text}
-use Rattle.read_modes.specs.Answered.{IsRefusedAs}
-use Rattle.read_modes.proofs.Told.{told_later}
+use Rattle.project_reading.specs.Project.{read_config}
+use Rattle.read_modes.specs.Modes.{text_of, mode_text}
+use Rattle.project_reading.specs.Answered.{IsRefusedAs}
+use Rattle.project_reading.proofs.Told.{told_later}
 use Rattle.read_modes.proofs.modes.read_mode.Goals as goal
 
 pub returns-in-Ok-clause-ok : goal.returns-in-Ok-clause-ok

@@ -2,8 +2,8 @@ use Rattle.std.proofs.Common.{◌≡◌, ◌∙◌, ap, Ok, get_or}
 use Rattle.std.proofs.lemmas.Result.{IfOk-weaker}
 use Rattle.recipe_facts.proofs.Binding.{if_err_weaker}
 use Rattle.read_modes.specs.Modes.{recipe_values, values_of_number}
-use Rattle.read_modes.specs.Answered.{IsRefusedAs}
-use Rattle.read_modes.proofs.Told.{told_same}
+use Rattle.project_reading.specs.Answered.{IsRefusedAs}
+use Rattle.project_reading.proofs.Told.{told_same}
 use Rattle.read_modes.proofs.Numbers.{value_is}
 use Rattle.read_modes.proofs.values.values_of_number.Goals as goal
 

@@ -1,5 +1,5 @@
 use Rattle.std.proofs.Common.{subst}
-use Rattle.single_plan.specs.Meaning.{asked_meant}
+use Rattle.run_targets.specs.Meaning.{asked_meant}
 use Rattle.single_plan.specs.Steps.{IsBodyOfForm}
 use Rattle.single_plan.proofs.Told.{form_told, recipe_unformed}
 use Rattle.single_plan.proofs.find.single_from.Goals as goal

@@ -1,4 +1,4 @@
-use Rattle.single_plan.specs.Meaning.{asked_meant}
+use Rattle.run_targets.specs.Meaning.{asked_meant}
 use Rattle.single_plan.proofs.Told.{form_told, no_recipe}
 use Rattle.single_plan.proofs.find.single_in.Goals as goal
 

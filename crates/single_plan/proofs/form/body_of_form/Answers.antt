@@ -1,7 +1,7 @@
 use Rattle.std.proofs.Common.{◌≡◌, ◌∙◌, sym, ap, subst, true, ℕ, List, Option}
 use Rattle.std.proofs.lemmas.Result.{IfOk-weaker}
 use Rattle.load_model.specs.Recipes.{is_pn}
-use Rattle.single_plan.specs.Meaning.{asked_meant}
+use Rattle.run_targets.specs.Meaning.{asked_meant}
 use Rattle.single_plan.specs.Steps.{IsBodyOfRecipe, IsBodyOfForm}
 use Rattle.single_plan.proofs.Formed.{of_form}
 use Rattle.single_plan.proofs.form.body_of_form.Goals as goal

@@ -2,7 +2,7 @@ use Rattle.std.proofs.Common.{◌≡◌, ◌∙◌, sym, ap, subst, false}
 use Rattle.std.specs.List.{list_any}
 use Rattle.std.proofs.lemmas.Result.{IfOk-weaker}
 use Rattle.load_model.specs.Recipes.{belongs}
-use Rattle.single_plan.specs.Meaning.{asked_meant}
+use Rattle.run_targets.specs.Meaning.{asked_meant}
 use Rattle.single_plan.specs.Steps.{IsBodyAt, IsBodyOfRecipe}
 use Rattle.single_plan.proofs.Formed.{formed}
 use Rattle.single_plan.proofs.form.body_of_recipe.Goals as goal

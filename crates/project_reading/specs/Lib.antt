@@ -1,0 +1,4 @@
+pub mod Said
+pub mod Project
+pub mod Faults
+pub mod Answered

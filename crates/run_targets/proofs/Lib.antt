@@ -1,0 +1,4 @@
+pub mod AnyGraph
+pub mod Told
+pub mod OneRun
+pub mod Running

@@ -1,0 +1,17 @@
+use Rattle.std.proofs.Common.{◌≡◌, ◌∙◌, ap, sym, ◌⊎◌, ℕ, Ok}
+use Rattle.meta_model.specs.declared.event.Status.TheVariants.{OutOfMemory}
+use Rattle.meta_model.specs.Threads.{AreThreads}
+use Rattle.recipe_facts.proofs.Binding.{if_err_weaker}
+use Rattle.project_reading.specs.Said.{threads_status}
+use Rattle.run_targets.specs.Meaning.{asked_meant}
+use Rattle.run_targets.specs.Steps.{IsDeviceStatus, HasNoThreads}
+use Rattle.run_targets.proofs.Told.{threads_told}
+use Rattle.run_targets.proofs.graph.number_of_threads.Goals as goal
+
+pub returns-in-Ok-clause-err : goal.returns-in-Ok-clause-err
+returns-in-Ok-clause-err c =
+    let what = asked_meant c.args.asked.now in
+    let text = c.as_str.result.now in
+    if_err_weaker c.threads_in.result (λ status. (status ≡ OutOfMemory) ⊎ (((number : ℕ) → AreThreads text number → ⊥) × (status ≡ threads_status text))) (λ status. IsDeviceStatus status ⊎ HasNoThreads what status)
+    (λ status h. threads_told what text status (c.in-Ok.ensures.ok ∙ ap Ok (sym c.as_str.ensures)) h)
+    c.threads_in.ensures.err

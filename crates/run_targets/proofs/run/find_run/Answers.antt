@@ -1,0 +1,24 @@
+use Rattle.std.proofs.Common.{subst, ℕ, List, [], Option}
+use Rattle.std.specs.Option.{option_copied}
+use Rattle.std.proofs.lemmas.Result.{IfOk-weaker}
+use Rattle.outside_traits.specs.Store.{IsListing}
+use Rattle.load_model.specs.Loading.{sources_of}
+use Rattle.recipe_facts.proofs.Binding.{if_err_weaker}
+use Rattle.run_targets.specs.Meaning.{asked_meant}
+use Rattle.run_targets.specs.Runs.{HasRun, HasNoRun, IsRun, IsNoRun}
+use Rattle.run_targets.proofs.Running.{run_asked, no_run_asked, asking_refused}
+use Rattle.run_targets.proofs.run.find_run.Goals as goal
+
+pub returns-in-Ok-clause-err : goal.returns-in-Ok-clause-err
+returns-in-Ok-clause-err g c =
+    let files = g.L.Layers.files c.args.layers.now in
+    let what = asked_meant c.in-Ok.asked in
+    let words = c.args.words.now in
+    let task = option_copied c.args.task in
+    if_err_weaker c.run_of.result (HasNoRun what)
+    (λ status. g.L.Layers.tells → (paths : List (List ℕ)) → IsListing [] files paths → IsNoRun (sources_of files) paths words task status)
+    (λ status h told paths listing. no_run_asked files paths words task what status (c.in-Ok.ensures.ok told paths listing) h)
+    c.run_of.ensures.err
+
+pub returns-in-Err-clause-err : goal.returns-in-Err-clause-err
+returns-in-Err-clause-err g c = λ told paths listing. asking_refused (g.L.Layers.files c.args.layers.now) paths c.args.words.now (option_copied c.args.task) c.in-Err.status (c.in-Err.ensures.err told paths listing)

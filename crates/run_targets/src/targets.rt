@@ -1,0 +1,101 @@
+// The targets that words name.
+ghost use Rattle.std.specs.Prelude.{◌≡◌, true, false, Ok, IfOk, IfErr};
+ghost use Rattle.meta_model.specs.Text.{begins_with as begins};
+ghost use Rattle.project_reading.specs.Answered.{IsRefusedAs, is_refusal, mode_failed};
+ghost use Rattle.run_targets.specs.Targets as targets;
+ghost use Rattle.run_targets.specs.Asked as asked;
+
+use meta_model::{ListOf, Status, Target};
+use project_reading::{nothing_provides, or_status};
+use std::alloc::Global;
+use tree_model::{Mem, Text};
+
+/// Whether a text begins with the other.
+fn begins_with(front: &str, text: &str) -> bool
+    ensures { result ≡ begins front.now text.now }
+{
+    text.as_bytes().starts_with(front.as_bytes())
+}
+
+/// Whether a word asks for another configuration: it begins with `mc:`, which nothing provides until several are built (own rule).
+pub fn is_elsewhere(word: &str) -> bool
+    ensures { result ≡ targets.is_elsewhere word.now }
+{
+    begins_with("mc:", word)
+}
+
+/// The name of a target: what stands before its first colon, or the whole word.
+pub fn target_name(word: &str) -> &str
+    ensures { result.now ≡ targets.target_name word.now }
+{
+    match word.split_once(':') {
+        Some((name, _)) => name,
+        None => word,
+    }
+}
+
+/// A task's name, with `do_` put in front where it is missing.
+fn task_named(alloc: Global, name: &str) -> Result<Text, Mem>
+    ensures { IfOk result (λ made. made ≡ targets.task_named name.now) }
+{
+    if begins_with("do_", name) {
+        return Text::from_str(alloc, name);
+    }
+    let mut made = Text::from_str(alloc, "do_")?;
+    made.push_str(name)?;
+    Ok(made)
+}
+
+/// The name and the task of a word, which is cut at its first colon.
+fn cut_word<'a>(default: &'a str, word: &'a str) -> (&'a str, &'a str)
+    ensures name { result.0.now ≡ (targets.target_of default.now word.now).name }
+    ensures task { targets.task_named result.1.now ≡ (targets.target_of default.now word.now).task }
+{
+    match word.split_once(':') {
+        Some((name, task)) => (name, task),
+        None => (word, default),
+    }
+}
+
+/// The target of a word NAME or NAME:TASK; without a colon the task is the default one.
+fn target_of(alloc: Global, default: &str, word: &str) -> Result<Target, Mem>
+    ensures { IfOk result (λ made. made ≡ targets.target_of default.now word.now) }
+{
+    let (name, task) = cut_word(default, word);
+    Ok(Target {
+        name: Text::from_str(alloc, name)?,
+        task: task_named(alloc, task)?,
+    })
+}
+
+/// The target of a word. One that begins with `mc:` is refused, which asks for another configuration.
+fn target_in(alloc: Global, default: &str, word: &str) -> Result<Target, Status>
+    ensures ok { IfOk result (λ made. asked.target_in default.now word.now ≡ Ok made) }
+    ensures err { IfErr result (λ status. IsRefusedAs status (asked.target_in default.now word.now)) }
+    ensures refusal { IfErr result (λ status. is_refusal status ≡ true) }
+    ensures no_failure { mode_failed result ≡ false }
+{
+    if is_elsewhere(word) {
+        return Err(nothing_provides(alloc, word));
+    }
+    or_status(target_of(alloc, default, word))
+}
+
+/// The targets of words, in their order.
+pub(crate) fn targets_of(
+    alloc: Global,
+    default: &str,
+    words: &[Text],
+) -> Result<ListOf<Target>, Status>
+    ensures ok { IfOk result (λ made. asked.targets_of default.now words.now ≡ Ok made) }
+    ensures err { IfErr result (λ status. IsRefusedAs status (asked.targets_of default.now words.now)) }
+    ensures refusal { IfErr result (λ status. is_refusal status ≡ true) }
+    ensures no_failure { mode_failed result ≡ false }
+{
+    let mut made = ListOf::new(alloc);
+    for word in words {
+        let target = target_in(alloc, default, word.as_str())?;
+        or_status(made.push(target))?;
+    }
+    Ok(made)
+}
