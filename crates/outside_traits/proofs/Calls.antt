@@ -1,13 +1,16 @@
 -- What each call of a disk does to the images, whatever it answers.
-use Rattle.std.proofs.Common.{◌≡◌, ℕ, List, Option, Result, Ok, Err, refl, sym, subst}
+use Rattle.std.proofs.Common.{◌≡◌, ◌⊎◌, inl, inr, ⊎_elim, ℕ, ◌≤◌, List, ◌∷◌, Option, Result, Ok, Err, None, OnOk, refl, sym, ◌∙◌, ap, subst, arith}
 use Rattle.tree_model.specs.declared.entry.Entry.{Entry}
+use Rattle.outside_traits.specs.declared.call.Call.{Call}
+use Rattle.outside_traits.specs.declared.call.Call.TheVariants.{Looked, Synced, Put, Moved}
 use Rattle.outside_traits.specs.declared.fault.DiskFault.{DiskFault}
 use Rattle.outside_traits.specs.declared.fault.DiskFault.TheVariants.{Failed, Memory}
-use Rattle.outside_traits.specs.Store.{Store, ChangesAt}
-use Rattle.outside_traits.specs.Story.{Story, IsSound, looked, synced, put_at}
-use Rattle.outside_traits.specs.Answers.{Answers, Reads, Lists, Writes, Removes, Syncs}
+use Rattle.outside_traits.specs.Store.{Store, put, ChangesAt, Moves}
+use Rattle.outside_traits.specs.Story.{Story, before, Leaves, LeftSince, moment, IsImage, IsSound, looked, synced, put_at, moved}
+use Rattle.outside_traits.specs.Answers.{Answers, Reads, Lists, Writes, Removes, Renames, Syncs, HalfMoved}
 use Rattle.outside_traits.specs.Passes.{Passes}
-use Rattle.outside_traits.proofs.Puts.{ChangesAt-put}
+use Rattle.outside_traits.proofs.Puts.{put-same, put-other, put-undone, ChangesAt-put, moved-undone, path_cases}
+use Rattle.outside_traits.proofs.Images.{held-image}
 use Rattle.outside_traits.proofs.Runs.{passes_none, passes_then, passes_so}
 
 -- nothing changes
@@ -20,14 +23,56 @@ by_answer (Ok v) ok failed memory a on_ok on_failed on_memory = on_ok v a
 by_answer (Err Failed) ok failed memory a on_ok on_failed on_memory = on_failed a
 by_answer (Err Memory) ok failed memory a on_ok on_failed on_memory = on_memory a
 
+-- one call
+goes_on : (old : Story) (h : Store) (call : Call) (R : Store → Store → Type 0) → before call h ≡ old.held → R old.held h
+    → ((i : Store) → Leaves h (call ∷ old.calls) i → (j : Store) × IsImage old j × R j i)
+    → Passes old (record { held = h; calls = call ∷ old.calls }) R
+goes_on old h call R undone changed now = record {
+  later = omega arith;
+  held = changed;
+  now = now;
+  since = λ t i le left. ⊎_elim (λ here. inr (now i here.1)) (λ past. inl (subst (λ (g : Store). LeftSince g old.calls t i) undone past)) left;
+}
+
 looked_passes : (s : Story) → Passes s (looked s) Same
-looked_passes s = record { held = refl }
+looked_passes s = goes_on s s.held Looked Same refl refl (λ i left. (i, left, refl))
 
 synced_passes : (s : Story) → IsSound s → Passes s (synced s) Same
-synced_passes s sound = record { held = refl }
+synced_passes s sound = goes_on s s.held Synced Same refl refl (λ i left. (s.held, held-image s sound, left))
 
 put_passes : (s : Story) (p : List ℕ) (x : Option Entry) → Passes s (put_at p x s) (ChangesAt p)
-put_passes s p x = record { held = ChangesAt-put s.held p x }
+put_passes s p x = let undone : put (put s.held p x) p (s.held p) ≡ s.held = put-undone s.held p x in
+    goes_on s (put s.held p x) (Put p (s.held p)) (ChangesAt p) undone (ChangesAt-put s.held p x)
+    (λ i left. (left.1.0, subst (λ (g : Store). Leaves g s.calls left.1.0) undone left.1.1, left.1.2))
+
+module _ (s : Story) (p q : List ℕ) (x y : Option Entry) (half : HalfMoved p q s.held x y) where
+  abbrev after : Store
+  after = put (put s.held p x) q y
+
+  at_source : (after p ≡ s.held p) ⊎ (after p ≡ None)
+  at_source = elim (path_cases p q) [
+    | inl same ↦ inl (put-same (put s.held p x) q p y same ∙ ⊎_elim (λ e. e ∙ ap s.held (sym same)) (λ e. e) half.target)
+    | inr ne ↦ ⊎_elim (λ e. inl (put-other (put s.held p x) q p y ne ∙ put-same s.held p p x refl ∙ e))
+        (λ e. inr (put-other (put s.held p x) q p y ne ∙ put-same s.held p p x refl ∙ e)) half.source
+  ]
+
+  at_target : (after q ≡ s.held q) ⊎ (after q ≡ s.held p)
+  at_target = ⊎_elim (λ e. inl (put-same (put s.held p x) q q y refl ∙ e)) (λ e. inr (put-same (put s.held p x) q q y refl ∙ e)) half.target
+
+  held_moves : Moves p q (s.held p) s.held after
+  held_moves = record {
+    others = λ r np nq. put-other (put s.held p x) q r y nq ∙ put-other s.held p r x np;
+    source = at_source;
+    target = at_target;
+  }
+
+  moved_passes : IsSound s → Passes s (moved p q x y s) (Moves p q (s.held p))
+  moved_passes sound = let undone : before (Moved p q (s.held p) (s.held q)) after ≡ s.held = moved-undone s.held p q x y in
+      goes_on s after (Moved p q (s.held p) (s.held q)) (Moves p q (s.held p)) undone held_moves
+      (λ i left. ⊎_elim
+      (λ held. (s.held, held-image s sound, subst (Moves p q (s.held p) s.held) (sym held) held_moves))
+      (λ w. (w.0, subst (λ (g : Store). Leaves g s.calls w.0) undone w.1, w.2))
+      left.1)
 
 pub reads_passes : {p : List ℕ} {a b : Story} {r : Result (Option Entry) DiskFault} → Reads p a b r → Passes a b Same
 reads_passes {p} {a} {b} {r} did =
@@ -49,6 +94,15 @@ removes_passes {p} {a} {b} {T} {r} did =
     let at : (s : Story) → b ≡ s → Passes a s (ChangesAt p) → Passes a b (ChangesAt p) = λ s is run. subst (λ (n : Story). Passes a n (ChangesAt p)) (sym is) run in
     by_answer r _ _ _ did.answers (λ v ok. at _ ok (put_passes a p _)) (λ failed. at _ failed.1 (put_passes a p failed.0)) (λ memory. at _ memory (passes_none a (ChangesAt p) (λ i. record { others = λ q ne. refl })))
 
+pub renames_passes : {p q : List ℕ} {a b : Story} {T : Type 0} {r : Result T DiskFault} → IsSound a → Renames p q a b r → Passes a b (Moves p q (a.held p))
+renames_passes {p} {q} {a} {b} {T} {r} sound did =
+    let R : Store → Store → Type 0 = Moves p q (a.held p) in
+    let at : (s : Story) → b ≡ s → Passes a s R → Passes a b R = λ s is run. subst (λ (n : Story). Passes a n R) (sym is) run in
+    by_answer r _ _ _ did.answers
+    (λ v ok. at _ ok (moved_passes a p q _ _ (record { source = inr refl; target = inr refl }) sound))
+    (λ failed. at _ failed.3 (moved_passes a p q failed.0 failed.1 failed.2 sound))
+    (λ memory. at _ memory (passes_none a R (λ i. record { others = λ s np nq. refl; source = inl refl; target = inl refl })))
+
 pub syncs_passes : {a b : Story} {T : Type 0} {r : Result T DiskFault} → IsSound a → Syncs a b r → Passes a b Same
 syncs_passes {a} {b} {T} {r} sound did =
     let at : (s : Story) → b ≡ s → Passes a s Same → Passes a b Same = λ s is run. subst (λ (n : Story). Passes a n Same) (sym is) run in
@@ -65,5 +119,13 @@ same_then {R = R} same first second = passes_then R first second (λ i j s. subs
 pub same_so : {a b : Story} (R : Store → Store → Type 0) → ((i : Store) → R i i) → Passes a b Same → Passes a b R
 same_so R same run = passes_so R run (λ i j s. subst (R i) (sym s) (same i))
 
+pub Moves-same : (p q : List ℕ) (x : Option Entry) (i : Store) → Moves p q x i i
+Moves-same p q x i = record { others = λ s np nq. refl; source = inl refl; target = inl refl }
+
 pub ChangesAt-same : (p : List ℕ) (i : Store) → ChangesAt p i i
 ChangesAt-same p i = record { others = λ q ne. refl }
+
+-- after a sync each image holds what was held
+pub synced_at : {b c : Story} {T : Type 0} (r : Result T DiskFault) (p : List ℕ) (x : Option Entry) → Syncs b c r → b.held p ≡ x → OnOk r ((i : Store) → IsImage c i → i p ≡ x)
+synced_at {b} {c} (Ok v) p x did is = λ i img. let same : i ≡ b.held = subst (λ (s : Story). IsImage s i) did.answers img in (λ k. same k p) ∙ is
+synced_at (Err e) p x did is = tt

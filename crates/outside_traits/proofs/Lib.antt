@@ -1,6 +1,8 @@
 pub mod Puts
+pub mod Images
 pub mod Runs
 pub mod Calls
+pub mod Sound
 pub mod Held
 pub mod Laid
 pub mod Folders

@@ -1,7 +1,23 @@
 -- What any run of calls did to a disk, whatever the calls answered.
+use Rattle.std.specs.Prelude.{◌≡◌, ◌⊎◌, ◌≤◌, ℕ}
 use Rattle.outside_traits.specs.Store.{Store}
-use Rattle.outside_traits.specs.Story.{Story}
+use Rattle.outside_traits.specs.Story.{Story, moment, IsImage, IsImageSince}
 
--- What is held was changed by R, and by no more. What a crash may leave will be a field of this record.
+-- What is held was changed by R, and by no more. Each image that a crash left since the run began is an image that stood
+-- before it, or one of those changed by R.
 pub record Passes (old new : Story) (R : Store → Store → Type 0) : Type 0 where
+  pub later : moment old ≤ moment new
   pub held : R old.held new.held
+  -- each image now
+  pub now : (image : Store) → IsImage new image → (earlier : Store) × IsImage old earlier × R earlier image
+  -- each image since a moment that isn't after the run's beginning
+  pub since : (t : ℕ) (image : Store) → t ≤ moment old → IsImageSince new t image
+      → IsImageSince old t image ⊎ ((earlier : Store) × IsImage old earlier × R earlier image)
+
+-- each image since the run began is an image of its beginning, changed by R
+abbrev pub EachSince : Story → Story → (Store → Store → Type 0) → Type 0
+EachSince old new R = (image : Store) → IsImageSince new (moment old) image → (earlier : Store) × IsImage old earlier × R earlier image
+
+-- each image now has the property
+abbrev pub EachNow : Story → (Store → Type 0) → Type 0
+EachNow story P = (image : Store) → IsImage story image → P image

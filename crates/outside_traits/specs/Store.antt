@@ -1,5 +1,5 @@
 -- What a device holds, as a function from paths, and how one store differs from another.
-use Rattle.std.specs.Prelude.{◌≡◌, ◌≢◌, ℕ, List, ◌++◌, Option, None, IsSome, Contains, if◌then◌else◌}
+use Rattle.std.specs.Prelude.{◌≡◌, ◌≢◌, ◌⊎◌, ℕ, List, ◌++◌, Option, None, IsSome, Contains, if◌then◌else◌}
 use Rattle.std.specs.Ordering.{nat_cmp}
 use Rattle.std.specs.List.Sorted.{IsStrictlySortedBy}
 use Rattle.std.specs.Cmp.Lexicographic.{slice_cmp}
@@ -28,6 +28,12 @@ put held p x = λ q. if bytes_eq p q then x else held q
 -- the new store differs from the old at the path alone
 pub record ChangesAt (p : List ℕ) (old new : Store) : Type 0 where
   pub others : (q : List ℕ) → q ≢ p → new q ≡ old q
+
+-- the entry x moves: the target holds x or what it held, the source what it held or nothing, and all else stays
+pub record Moves (from to : List ℕ) (x : Option Entry) (old new : Store) : Type 0 where
+  pub others : (q : List ℕ) → q ≢ from → q ≢ to → new q ≡ old q
+  pub source : (new from ≡ old from) ⊎ (new from ≡ None)
+  pub target : (new to ≡ old to) ⊎ (new to ≡ x)
 
 -- a text that begins with the prefix
 abbrev pub BeginsWith : List ℕ → List ℕ → Type 0

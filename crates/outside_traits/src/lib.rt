@@ -9,6 +9,7 @@
 #![tactic(auto)]
 
 mod bench;
+mod call;
 mod disk;
 mod fault;
 mod layers;
@@ -16,6 +17,7 @@ mod sink;
 mod trees;
 
 pub use bench::{Bench, Taken};
+pub use call::Call;
 pub use disk::Disk;
 pub use fault::{BenchFault, DiskFault, ReadFault, SinkFault};
 pub use layers::Layers;
