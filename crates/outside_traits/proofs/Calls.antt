@@ -1,21 +1,17 @@
 -- What each call of a disk does to the images, whatever it answers.
-use Rattle.std.proofs.Common.{◌≡◌, ◌⊎◌, inl, inr, ⊎_elim, ℕ, ◌≤◌, List, ◌∷◌, Option, Result, Ok, Err, None, OnOk, refl, sym, ◌∙◌, ap, subst, arith}
+use Rattle.std.proofs.Common.{◌≡◌, ◌⊎◌, inl, inr, ⊎_elim, ℕ, List, ◌∷◌, Option, Result, Ok, Err, None, OnOk, refl, sym, ◌∙◌, ap, subst, arith}
 use Rattle.tree_model.specs.declared.entry.Entry.{Entry}
 use Rattle.outside_traits.specs.declared.call.Call.{Call}
 use Rattle.outside_traits.specs.declared.call.Call.TheVariants.{Looked, Synced, Put, Moved}
 use Rattle.outside_traits.specs.declared.fault.DiskFault.{DiskFault}
 use Rattle.outside_traits.specs.declared.fault.DiskFault.TheVariants.{Failed, Memory}
 use Rattle.outside_traits.specs.Store.{Store, put, ChangesAt, Moves}
-use Rattle.outside_traits.specs.Story.{Story, before, Leaves, LeftSince, moment, IsImage, IsSound, looked, synced, put_at, moved}
+use Rattle.outside_traits.specs.Story.{Story, before, Leaves, LeftSince, IsImage, IsSound, looked, synced, put_at, moved}
 use Rattle.outside_traits.specs.Answers.{Answers, Reads, Lists, Writes, Removes, Renames, Syncs, HalfMoved}
-use Rattle.outside_traits.specs.Passes.{Passes}
+use Rattle.outside_traits.specs.Passes.{Passes, Same}
 use Rattle.outside_traits.proofs.Puts.{put-same, put-other, put-undone, ChangesAt-put, moved-undone, path_cases}
 use Rattle.outside_traits.proofs.Images.{held-image}
 use Rattle.outside_traits.proofs.Runs.{passes_none, passes_then, passes_so}
-
--- nothing changes
-abbrev pub Same : Store → Store → Type 0
-Same old new = new ≡ old
 
 -- whatever the answer is
 pub by_answer : {T X : Type 0} (r : Result T DiskFault) (ok : T → Type 0) (failed memory : Type 0) → Answers r ok failed memory → ((v : T) → ok v → X) → (failed → X) → (memory → X) → X

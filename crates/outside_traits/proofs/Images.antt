@@ -1,5 +1,5 @@
 -- Images of a story.
-use Rattle.std.proofs.Common.{◌≡◌, inl, inr, ℕ, suc, ◌≤◌, List, [], ◌∷◌, length, refl, sym, subst, arith}
+use Rattle.std.proofs.Common.{inl, inr, ℕ, suc, ◌≤◌, List, [], ◌∷◌, length, refl, sym, subst, arith}
 use Rattle.outside_traits.specs.declared.call.Call.{Call}
 use Rattle.outside_traits.specs.declared.call.Call.TheVariants.{Looked, Synced, Put, Moved}
 use Rattle.outside_traits.specs.Store.{Store}

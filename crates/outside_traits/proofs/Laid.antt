@@ -79,9 +79,9 @@ agree (Some e) p held back = held refl
 agree None None held back = refl
 agree None (Some e) held back = let h : false ≡ true = back refl in absurd (false≢true h)
 
--- where each entry of the tree is held under the folder and no other is, the folder holds the tree
-pub holds_tree : (folder : List ℕ) (tree : List (List ℕ × Entry)) (held : Store) → IsTree tree → HoldsFirst (length tree) folder tree held → IsOpen folder held → HoldsTree folder tree held
-holds_tree folder tree held is_tree first open_at = record { entries = entries; outside = open_at }
+-- where each entry of the tree is held under the folder and no other is, that is what is held there
+pub holds_entries : (folder : List ℕ) (tree : List (List ℕ × Entry)) (held : Store) → IsTree tree → HoldsFirst (length tree) folder tree held → (q : List ℕ) → held (inside folder q) ≡ entry_at tree q
+holds_entries folder tree held is_tree first = entries
   where
     d : List ℕ × Entry
     d = ([], Link [])
@@ -95,3 +95,7 @@ holds_tree folder tree held is_tree first open_at = record { entries = entries; 
     entries q = agree (held (inside folder q)) (entry_at tree q)
         (λ some. let w = first.only q some in found w.0 q w.1 (w.2 d))
         (λ some. let w = found_in tree q some in subst IsSome (sym (found w.0 q w.1 (w.2 d))) some)
+
+-- and then the folder holds the tree
+pub holds_tree : (folder : List ℕ) (tree : List (List ℕ × Entry)) (held : Store) → IsTree tree → HoldsFirst (length tree) folder tree held → IsOpen folder held → HoldsTree folder tree held
+holds_tree folder tree held is_tree first open_at = record { entries = holds_entries folder tree held is_tree first; outside = open_at }

@@ -7,3 +7,4 @@ pub mod Held
 pub mod Laid
 pub mod Folders
 pub mod Steps
+pub mod Readings

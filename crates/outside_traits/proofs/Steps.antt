@@ -72,25 +72,25 @@ clearing_end {folder} {a} {b} n all so_far = record { at = so_far.at; above = ab
         let is : take (length q) folder ≡ q = ap (λ (l : List ℕ). take (length q) l) below.1 ∙ take_at q (47 ∷ below.0) (length q) refl in
         ap b.held (sym is) ∙ so_far.above (length q) (omega arith) at_it
 
--- the first n of the listed paths are removed
+-- the listed paths from the place n on are removed
 pub record Emptying (folder : List ℕ) (paths : List (List ℕ)) (n : ℕ) (a b : Story) : Type 0 where
   pub stays : Stays folder a b
   pub open_at : IsOpen folder b.held
-  pub gone : (k : ℕ) → k < n → b.held (get_or paths k []) ≡ None
+  pub gone : (k : ℕ) → n ≤ k → k < length paths → b.held (get_or paths k []) ≡ None
   pub shrinks : (q : List ℕ) → IsSome (b.held q) → IsSome (a.held q)
 
-pub emptying_start : {folder prefix : List ℕ} {paths : List (List ℕ)} {a b : Story} {r : Result (List (List ℕ)) DiskFault} → IsOpen folder a.held → Lists prefix a b r → Emptying folder paths 0 a b
+pub emptying_start : {folder prefix : List ℕ} {paths : List (List ℕ)} {a b : Story} {r : Result (List (List ℕ)) DiskFault} → IsOpen folder a.held → Lists prefix a b r → Emptying folder paths (length paths) a b
 emptying_start {folder} {prefix} {paths} {a} {b} was did = record {
   stays = stays_lists (stays_none folder a) did;
   open_at = subst (IsOpen folder) (sym (lists_held did)) was;
-  gone = λ k lt. absurd (omega arith);
+  gone = λ k le lt. absurd (omega arith);
   shrinks = λ q some. subst (λ (h : Store). IsSome (h q)) (lists_held did) some;
 }
 
 pub emptying_stays : {folder p : List ℕ} {paths : List (List ℕ)} {n : ℕ} {a b c : Story} {T : Type 0} {r : Result T DiskFault} → IsBelow folder p → Emptying folder paths n a b → Removes p b c r → Stays folder a c × IsOpen folder c.held
 emptying_stays {folder} {p} {paths} {n} {a} {b} {c} below so_far did = (stays_removes (near_under folder p below) so_far.stays did, open_changes folder p b.held c.held below (removes_others did) so_far.open_at)
 
-pub emptying_more : {folder p : List ℕ} {paths : List (List ℕ)} {n : ℕ} {a b c : Story} {T : Type 0} {v : T} → IsBelow folder p → p ≡ get_or paths n [] → Emptying folder paths n a b → Removes p b c (Ok v) → Emptying folder paths (n + 1) a c
+pub emptying_more : {folder p : List ℕ} {paths : List (List ℕ)} {n : ℕ} {a b c : Story} {T : Type 0} {v : T} → IsBelow folder p → p ≡ get_or paths n [] → Emptying folder paths (n + 1) a b → Removes p b c (Ok v) → Emptying folder paths n a c
 emptying_more {folder} {p} {paths} {n} {a} {b} {c} below is so_far did = record {
   stays = (emptying_stays below so_far did).0;
   open_at = (emptying_stays below so_far did).1;
@@ -98,10 +98,10 @@ emptying_more {folder} {p} {paths} {n} {a} {b} {c} below is so_far did = record 
   shrinks = λ q some. so_far.shrinks q (removed_some q did some);
 }
   where
-    gone : (k : ℕ) → k < n + 1 → c.held (get_or paths k []) ≡ None
-    gone k less = elim (cases_eq k n) [
+    gone : (k : ℕ) → n ≤ k → k < length paths → c.held (get_or paths k []) ≡ None
+    gone k from less = elim (cases_eq k n) [
       | inl same ↦ ap (λ (m : ℕ). c.held (get_or paths m [])) same ∙ ap c.held (sym is) ∙ removes_ok did
-      | inr other ↦ removed_none (get_or paths k []) did (so_far.gone k (omega arith))
+      | inr other ↦ removed_none (get_or paths k []) did (so_far.gone k (omega arith) less)
     ]
 
 -- each listed path is under the folder
@@ -111,13 +111,12 @@ listed_below folder {prefix} {paths} k prefix_is listing lt =
     let begins = (listing.are_held q (k, lt, get_or_default paths k q [] lt)).0 in
     (begins.0, begins.1 ∙ ap (λ (l : List ℕ). l ++ begins.0) prefix_is ∙ append_assoc folder (47 ∷ []) begins.0)
 
-pub emptying_end : {folder prefix : List ℕ} {paths : List (List ℕ)} {a b : Story} (n : ℕ) → length paths ≤ n → prefix ≡ inside folder [] → IsListing prefix a.held paths → Emptying folder paths n a b → (q : List ℕ) → b.held (inside folder q) ≡ None
-emptying_end {folder} {prefix} {paths} {a} {b} n all prefix_is listing so_far q =
+pub emptying_end : {folder prefix : List ℕ} {paths : List (List ℕ)} {a b : Story} → prefix ≡ inside folder [] → IsListing prefix a.held paths → Emptying folder paths 0 a b → (q : List ℕ) → b.held (inside folder q) ≡ None
+emptying_end {folder} {prefix} {paths} {a} {b} prefix_is listing so_far q =
     none_unless (b.held (inside folder q)) (λ some.
     let at_k = listing.all (inside folder q) (q, sym (ap (λ (l : List ℕ). l ++ q) prefix_is ∙ append_assoc folder (47 ∷ []) q)) (so_far.shrinks (inside folder q) some) in
     let is : get_or paths at_k.0 [] ≡ inside folder q = get_or_default paths at_k.0 [] (inside folder q) at_k.1 ∙ at_k.2 in
-    let lt : at_k.0 < n = omega (arith, at_k.1) in
-    false≢true (sym (ap is_some (ap b.held (sym is) ∙ so_far.gone at_k.0 lt)) ∙ some))
+    false≢true (sym (ap is_some (ap b.held (sym is) ∙ so_far.gone at_k.0 (omega arith) at_k.1)) ∙ some))
 
 -- the first n entries of the tree are written
 pub record Filling (folder : List ℕ) (tree : List (List ℕ × Entry)) (n : ℕ) (a b : Story) : Type 0 where

@@ -3,6 +3,10 @@ use Rattle.std.specs.Prelude.{◌≡◌, ◌⊎◌, ◌≤◌, ℕ}
 use Rattle.outside_traits.specs.Store.{Store}
 use Rattle.outside_traits.specs.Story.{Story, moment, IsImage, IsImageSince}
 
+-- nothing changes
+abbrev pub Same : Store → Store → Type 0
+Same old new = new ≡ old
+
 -- What is held was changed by R, and by no more. Each image that a crash left since the run began is an image that stood
 -- before it, or one of those changed by R.
 pub record Passes (old new : Story) (R : Store → Store → Type 0) : Type 0 where

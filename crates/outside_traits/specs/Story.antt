@@ -5,7 +5,7 @@
 -- paths alone. After a write or a removal that is any entry or nothing at its path; after a rename the whole old or
 -- whole new entry at the target, and the old entry or nothing at the source; after a sync that answered Ok it is just
 -- what is held. Reads, lists and failed syncs change no image. Each image is something that a disk may hold.
-use Rattle.std.specs.Prelude.{◌≡◌, ◌⊎◌, ◌≤◌, ℕ, zero, suc, List, [], ◌∷◌, length, Option, None, Some, IsSome}
+use Rattle.std.specs.Prelude.{◌≡◌, ◌⊎◌, ◌≤◌, ℕ, zero, suc, List, [], ◌∷◌, length, Option, IsSome}
 use Rattle.tree_model.specs.declared.entry.Entry.{Entry}
 use Rattle.tree_model.specs.Path.{IsClean}
 use Rattle.outside_traits.specs.declared.call.Call.{Call}

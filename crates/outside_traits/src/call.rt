@@ -12,7 +12,10 @@ pub enum Call {
     Synced,
 
     /// A write or a removal at the path, which answered Ok or failed; `was` is what the path held before.
-    Put { path: Text, was: Option<Entry> },
+    Put {
+        path: Text,
+        was: Option<Entry>,
+    },
 
     /// A rename, which answered Ok or failed; `was` is what the source held before, and `replaced` what the target did.
     Moved {

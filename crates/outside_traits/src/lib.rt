@@ -5,7 +5,11 @@
 //! that never falls. A call answers that its device failed only where that count rose in the call, so code that is
 //! generic over the trait can't invent a failure.
 //!
-//! `put_tree` makes a folder of any disk exactly a tree.
+//! What a crash may leave of a disk stands in `specs/Story.antt`, as definitions over the calls that it answered. Each
+//! call over a disk says by a `Passes` what it did to what is held and to all that a crash may leave, whatever it
+//! answered.
+//!
+//! `put_tree` makes a folder of any disk exactly a tree, and `read_tree` reads one.
 #![tactic(auto)]
 
 mod bench;
@@ -13,6 +17,7 @@ mod call;
 mod disk;
 mod fault;
 mod layers;
+mod reading;
 mod sink;
 mod trees;
 
@@ -21,5 +26,6 @@ pub use call::Call;
 pub use disk::Disk;
 pub use fault::{BenchFault, DiskFault, ReadFault, SinkFault};
 pub use layers::Layers;
+pub use reading::read_tree;
 pub use sink::Sink;
 pub use trees::put_tree;

@@ -60,8 +60,10 @@ fn clear_under<D: Disk>(alloc: Global, disk: &mut D, folder: &str) -> Result<(),
 {
     let prefix = joined(alloc, folder, "")?;
     let paths = disk.list(alloc, prefix.as_str())?;
-    for path in paths.as_slice() {
-        disk.remove(path.as_str())?;
+    // From the last on: a disk that keeps its entries in order then moves none of them.
+    let found = paths.as_slice();
+    for k in (0..found.len()).rev() {
+        disk.remove(found[k].as_str())?;
     }
     Ok(())
 }
@@ -90,7 +92,7 @@ fn fill<D: Disk>(
 }
 
 /// The path of a place in a folder.
-fn joined(alloc: Global, folder: &str, path: &str) -> Result<Text, Mem>
+pub(crate) fn joined(alloc: Global, folder: &str, path: &str) -> Result<Text, Mem>
     ensures { IfOk result (λ whole. whole ≡ inside folder.now path.now) }
 {
     let mut whole = Text::from_str(alloc, folder)?;
