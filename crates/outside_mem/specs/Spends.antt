@@ -1,8 +1,11 @@
--- Which call of a failing disk fails: just one, by its number. (Own rule.)
-use Rattle.std.specs.Prelude.{◌≡◌, ◌-◌, ℕ, Bool, nat_eq}
+-- Which calls of a failing disk fail, by their numbers. (Own rule.)
+use Rattle.std.specs.Prelude.{◌≡◌, ◌-◌, ℕ, Bool, Result, IsErrOf}
+use Rattle.outside_traits.specs.declared.fault.DiskFault.{DiskFault}
+use Rattle.outside_traits.specs.declared.fault.DiskFault.TheVariants.{Memory}
+use Rattle.outside_traits.specs.Fault.{disk_failed}
 
--- One call was made. Old and new are the numbers of calls that were left up to the one that fails, with it. It failed
--- just where it was that one.
-pub record Spends (old new : ℕ) (failed : Bool) : Type 0 where
+-- One call was made. Old and new are the numbers of calls that were left. It failed just where it was to fail. A call that is
+-- refused for want of memory has spent its number too.
+pub record Spends (old new : ℕ) (to_fail : Bool) {T : Type 0} (result : Result T DiskFault) : Type 0 where
   pub fewer : new ≡ old - 1
-  pub just_that : failed ≡ nat_eq old 1
+  pub just_that : (IsErrOf result Memory → ⊥) → disk_failed result ≡ to_fail

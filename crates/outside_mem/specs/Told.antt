@@ -1,16 +1,17 @@
 -- What the devices in memory tell, by their fields.
 use Rattle.std.specs.Prelude.{◌+◌, ◌*◌, ◌^◌, ◌||◌, nat_lt, ℕ, Bool, List, Option, length}
 use Rattle.std.specs.BTreeMap.{get_by_text}
-use Rattle.tree_model.specs.Tree.{entry_at}
 use Rattle.outside_traits.specs.Bench.{Entries, Gives, Workplace}
 use Rattle.outside_traits.specs.Story.{Story}
 use Rattle.outside_mem.specs.declared.plan.FaultPlan.{FaultPlan}
 use Rattle.outside_mem.specs.declared.fail_disk.FailDisk.{FailDisk}
+use Rattle.outside_mem.specs.declared.fuse_disk.FuseDisk.{FuseDisk}
 use Rattle.outside_mem.specs.declared.layers.MemLayers.{MemLayers}
 use Rattle.outside_mem.specs.declared.mem_bench.MemBench.{MemBench}
 use Rattle.outside_mem.specs.declared.mem_disk.MemDisk.{MemDisk}
 use Rattle.outside_mem.specs.declared.script_table.ScriptTable.{ScriptTable}
 use Rattle.outside_mem.specs.declared.sink.MemSink.{MemSink}
+use Rattle.outside_mem.specs.Kept.{story_by}
 use Rattle.outside_mem.specs.Plan.{next_fails}
 use Rattle.outside_mem.specs.Scripts.{gives_by}
 
@@ -30,9 +31,9 @@ layers_faults layers = layers.faults
 abbrev pub tree_of : MemDisk → Entries
 tree_of disk = disk.tree
 
--- what is told of a disk. With moments the calls so far come into it.
+-- what is told of a disk
 abbrev pub story_of : MemDisk → Story
-story_of disk = record { held = entry_at (tree_of disk) }
+story_of disk = story_by disk.tree disk.calls.items
 
 -- the disk of which one call fails
 abbrev pub disk_of : FailDisk → MemDisk
@@ -45,6 +46,18 @@ left_of disk = disk.left
 -- how often a failing disk failed
 abbrev pub fail_disk_faults : FailDisk → ℕ
 fail_disk_faults disk = disk.faults
+
+-- the disk of which every call fails from one on
+abbrev pub fused : FuseDisk → MemDisk
+fused disk = disk.disk
+
+-- how many calls are left before that one
+abbrev pub calls_left : FuseDisk → ℕ
+calls_left disk = disk.left
+
+-- how often a disk with a fuse failed
+abbrev pub fuse_disk_faults : FuseDisk → ℕ
+fuse_disk_faults disk = disk.faults
 
 -- what the scripts of a table make of trees
 abbrev pub table_gives : ScriptTable → Gives

@@ -1,7 +1,7 @@
 // A disk in memory of which one call fails.
-ghost use Rattle.std.specs.Prelude.{◌≡◌, ◌≤◌, length};
+ghost use Rattle.std.specs.Prelude.{◌≡◌, ◌≤◌, ◌-◌, length, nat_eq, true, false};
 ghost use Rattle.tree_model.specs.Path.{IsClean};
-ghost use Rattle.outside_traits.specs.Answers.{Lists, Reads, Removes, Syncs, Writes};
+ghost use Rattle.outside_traits.specs.Answers.{IsSettled, Lists, Reads, Removes, Renames, Syncs, Writes};
 ghost use Rattle.outside_traits.specs.Fault.{Counts, disk_failed};
 ghost use Rattle.outside_traits.specs.Store.{IsFree};
 ghost use Rattle.outside_mem.specs.Spends.{Spends};
@@ -12,7 +12,7 @@ use outside_traits::{Disk, DiskFault};
 use std::alloc::Global;
 use tree_model::{Entry, Texts};
 
-/// A disk that fails just one call.
+/// A disk that fails just one call. One that failed has changed nothing, and is a moment as any other.
 #[derive(Drop)]
 pub struct FailDisk {
     disk: MemDisk,
@@ -43,18 +43,27 @@ impl FailDisk {
         self.disk
     }
 
-    /// Counts a call, and a fault where it is the one that fails.
-    fn fails(&mut self) -> bool
+    /// Counts a call, and says whether it is to fail.
+    fn is_to_fail(&mut self) -> bool
         ensures disk { disk_of self.new ≡ disk_of self.old }
-        ensures spends { Spends (left_of self.old) (left_of self.new) result }
-        ensures cause { Counts (fail_disk_faults self.old) (fail_disk_faults self.new) result }
+        ensures faults { fail_disk_faults self.new ≡ fail_disk_faults self.old }
+        ensures left { left_of self.new ≡ left_of self.old - 1 }
+        ensures due { result ≡ nat_eq (left_of self.old) 1 }
     {
         let fails = self.left == 1;
         self.left = self.left.saturating_sub(1);
-        if fails {
-            count_fault(&mut self.faults);
-        }
         fails
+    }
+
+    /// Counts a fault.
+    fn fault(&mut self) -> DiskFault
+        ensures failed { result ≡ DiskFault.Failed }
+        ensures disk { disk_of self.new ≡ disk_of self.old }
+        ensures left { left_of self.new ≡ left_of self.old }
+        ensures cause { Counts (fail_disk_faults self.old) (fail_disk_faults self.new) true }
+    {
+        count_fault(&mut self.faults);
+        DiskFault::Failed
     }
 }
 
@@ -74,10 +83,11 @@ impl Disk for FailDisk {
     fn read(&mut self, alloc: Global, path: &str) -> Result<Option<Entry>, DiskFault>
         ensures told { Reads path.now (story_of (disk_of self.old)) (story_of (disk_of self.new)) result }
         ensures cause { Counts (fail_disk_faults self.old) (fail_disk_faults self.new) (disk_failed result) }
-        ensures spends { Spends (left_of self.old) (left_of self.new) (disk_failed result) }
+        ensures spends { Spends (left_of self.old) (left_of self.new) (nat_eq (left_of self.old) 1) result }
     {
-        if self.fails() {
-            return Err(DiskFault::Failed);
+        if self.is_to_fail() {
+            self.disk.note_look()?;
+            return Err(self.fault());
         }
         self.disk.read(alloc, path)
     }
@@ -88,21 +98,39 @@ impl Disk for FailDisk {
         requires free { IsFree (story_of (disk_of self.old)).held path.now }
         ensures told { Writes path.now entry.now (story_of (disk_of self.old)) (story_of (disk_of self.new)) result }
         ensures cause { Counts (fail_disk_faults self.old) (fail_disk_faults self.new) (disk_failed result) }
-        ensures spends { Spends (left_of self.old) (left_of self.new) (disk_failed result) }
+        ensures spends { Spends (left_of self.old) (left_of self.new) (nat_eq (left_of self.old) 1) result }
     {
-        if self.fails() {
-            return Err(DiskFault::Failed);
+        if self.is_to_fail() {
+            self.disk.note_put(path)?;
+            return Err(self.fault());
         }
         self.disk.write(path, entry)
+    }
+
+    fn rename(&mut self, from: &str, to: &str) -> Result<(), DiskFault>
+        requires settled { IsSettled from.now (story_of (disk_of self.old)) }
+        requires clean { IsClean to.now }
+        requires within_reach { length to.now ≤ 4096 }
+        requires free { IsFree (story_of (disk_of self.old)).held to.now }
+        ensures told { Renames from.now to.now (story_of (disk_of self.old)) (story_of (disk_of self.new)) result }
+        ensures cause { Counts (fail_disk_faults self.old) (fail_disk_faults self.new) (disk_failed result) }
+        ensures spends { Spends (left_of self.old) (left_of self.new) (nat_eq (left_of self.old) 1) result }
+    {
+        if self.is_to_fail() {
+            self.disk.note_move(from, to)?;
+            return Err(self.fault());
+        }
+        self.disk.rename(from, to)
     }
 
     fn remove(&mut self, path: &str) -> Result<(), DiskFault>
         ensures told { Removes path.now (story_of (disk_of self.old)) (story_of (disk_of self.new)) result }
         ensures cause { Counts (fail_disk_faults self.old) (fail_disk_faults self.new) (disk_failed result) }
-        ensures spends { Spends (left_of self.old) (left_of self.new) (disk_failed result) }
+        ensures spends { Spends (left_of self.old) (left_of self.new) (nat_eq (left_of self.old) 1) result }
     {
-        if self.fails() {
-            return Err(DiskFault::Failed);
+        if self.is_to_fail() {
+            self.disk.note_put(path)?;
+            return Err(self.fault());
         }
         self.disk.remove(path)
     }
@@ -110,10 +138,11 @@ impl Disk for FailDisk {
     fn list(&mut self, alloc: Global, prefix: &str) -> Result<Texts, DiskFault>
         ensures told { Lists prefix.now (story_of (disk_of self.old)) (story_of (disk_of self.new)) result }
         ensures cause { Counts (fail_disk_faults self.old) (fail_disk_faults self.new) (disk_failed result) }
-        ensures spends { Spends (left_of self.old) (left_of self.new) (disk_failed result) }
+        ensures spends { Spends (left_of self.old) (left_of self.new) (nat_eq (left_of self.old) 1) result }
     {
-        if self.fails() {
-            return Err(DiskFault::Failed);
+        if self.is_to_fail() {
+            self.disk.note_look()?;
+            return Err(self.fault());
         }
         self.disk.list(alloc, prefix)
     }
@@ -121,11 +150,16 @@ impl Disk for FailDisk {
     fn sync(&mut self) -> Result<(), DiskFault>
         ensures told { Syncs (story_of (disk_of self.old)) (story_of (disk_of self.new)) result }
         ensures cause { Counts (fail_disk_faults self.old) (fail_disk_faults self.new) (disk_failed result) }
-        ensures spends { Spends (left_of self.old) (left_of self.new) (disk_failed result) }
+        ensures spends { Spends (left_of self.old) (left_of self.new) (nat_eq (left_of self.old) 1) result }
     {
-        if self.fails() {
-            return Err(DiskFault::Failed);
+        if self.is_to_fail() {
+            self.disk.note_look()?;
+            return Err(self.fault());
         }
         self.disk.sync()
+    }
+
+    fn moment(&self) -> u64 {
+        self.disk.moment()
     }
 }

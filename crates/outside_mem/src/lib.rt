@@ -5,13 +5,17 @@
 //!
 //! Promised, beside all that the traits say: layers, a `ScriptTable` and the sink fail just the calls whose numbers they
 //! were made with (`Follows`), and the sink those besides that don't fit into its room; a `MemDisk` and a `MemBench` never
-//! fail; a `FailDisk` fails just one call (`Spends`). The sink takes no memory after it was made. (Own rules: no part of the
-//! BitBake User Manual.)
+//! fail; a `FailDisk` fails just one call, and a `FuseDisk` each call from one on (`Spends`). A `MemDisk` keeps each call
+//! that it answered, and `MemDisk::image` makes a fresh disk of what a crash may leave. The sink takes no memory after it was
+//! made. (Own rules: no part of the BitBake User Manual.)
 #![tactic(auto)]
 
 mod fail_disk;
 mod fingerprint;
+mod fuse_disk;
+mod kept;
 mod layers;
+mod leavings;
 mod mem_bench;
 mod mem_disk;
 mod place;
@@ -20,6 +24,7 @@ mod script_table;
 mod sink;
 
 pub use fail_disk::FailDisk;
+pub use fuse_disk::FuseDisk;
 pub use layers::MemLayers;
 pub use mem_bench::MemBench;
 pub use mem_disk::MemDisk;

@@ -29,7 +29,7 @@ since-now s i left = only_now s.held s.calls i left
 pub now-since : (s : Story) (t : ℕ) (i : Store) → t ≤ moment s → IsImage s i → IsImageSince s t i
 now-since s t i le left = counts_now s.held s.calls t i le left
 
-held_left : (h : Store) (calls : List Call) → ((k : ℕ) → IsContent (held_before k h calls)) → Leaves h calls h
+pub held_left : (h : Store) (calls : List Call) → ((k : ℕ) → IsContent (held_before k h calls)) → Leaves h calls h
 held_left h [] content = refl
 held_left h (Looked ∷ calls) content = held_left h calls (λ k. content (suc k))
 held_left h (Synced ∷ calls) content = refl

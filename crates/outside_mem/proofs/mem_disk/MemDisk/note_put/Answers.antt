@@ -1,0 +1,10 @@
+use Rattle.outside_traits.proofs.Sound.{sound_put_own}
+use Rattle.outside_mem.specs.Kept.{story_by}
+use Rattle.outside_mem.proofs.Stories.{sound_either}
+use Rattle.outside_mem.proofs.mem_disk.MemDisk.note_put.Goals as goal
+
+pub invariant_of-self : goal.invariant_of-self
+invariant_of-self c = record {
+  sound = sound_either c.keep_failed_put.result _ _ _ c.keep_failed_put.ensures.ok c.keep_failed_put.ensures.err c.args.self.now.sound
+      (sound_put_own (story_by c.args.self.now.tree c.args.self.now.calls.items) c.args.path.now c.args.self.now.sound);
+}

@@ -1,0 +1,166 @@
+// A disk in memory of which every call fails from one on.
+ghost use Rattle.std.specs.Prelude.{◌≡◌, ◌≤◌, ◌-◌, length, nat_eq, true, false};
+ghost use Rattle.tree_model.specs.Path.{IsClean};
+ghost use Rattle.outside_traits.specs.Answers.{IsSettled, Lists, Reads, Removes, Renames, Syncs, Writes};
+ghost use Rattle.outside_traits.specs.Fault.{Counts, disk_failed};
+ghost use Rattle.outside_traits.specs.Store.{IsFree};
+ghost use Rattle.outside_mem.specs.Spends.{Spends};
+
+use crate::MemDisk;
+use crate::plan::count_fault;
+use outside_traits::{Disk, DiskFault};
+use std::alloc::Global;
+use tree_model::{Entry, Texts};
+
+/// A disk that passes some calls and fails every later one. A call that failed has changed nothing, and is a moment as any
+/// other.
+#[derive(Drop)]
+pub struct FuseDisk {
+    disk: MemDisk,
+    left: u64,
+    faults: u64,
+}
+
+impl FuseDisk {
+    ghost use Rattle.outside_mem.specs.Told.{fused, fuse_disk_faults, calls_left};
+
+    /// The disk, of which that many calls pass and all later ones fail.
+    pub fn new(disk: MemDisk, calls: u64) -> FuseDisk
+        ensures disk { fused result ≡ disk }
+        ensures left { calls_left result ≡ calls }
+        ensures fresh { fuse_disk_faults result ≡ 0 }
+    {
+        FuseDisk {
+            disk,
+            left: calls,
+            faults: 0,
+        }
+    }
+
+    /// The disk as it is now.
+    pub fn into_disk(self) -> MemDisk
+        ensures { result ≡ fused self }
+    {
+        self.disk
+    }
+
+    /// Counts a call, and says whether it is to fail.
+    fn is_to_fail(&mut self) -> bool
+        ensures disk { fused self.new ≡ fused self.old }
+        ensures faults { fuse_disk_faults self.new ≡ fuse_disk_faults self.old }
+        ensures left { calls_left self.new ≡ calls_left self.old - 1 }
+        ensures due { result ≡ nat_eq (calls_left self.old) 0 }
+    {
+        let fails = self.left == 0;
+        self.left = self.left.saturating_sub(1);
+        fails
+    }
+
+    /// Counts a fault.
+    fn fault(&mut self) -> DiskFault
+        ensures failed { result ≡ DiskFault.Failed }
+        ensures disk { fused self.new ≡ fused self.old }
+        ensures left { calls_left self.new ≡ calls_left self.old }
+        ensures cause { Counts (fuse_disk_faults self.old) (fuse_disk_faults self.new) true }
+    {
+        count_fault(&mut self.faults);
+        DiskFault::Failed
+    }
+}
+
+impl Disk for FuseDisk {
+    ghost use Rattle.outside_mem.specs.Told.{fused, fuse_disk_faults, calls_left, story_of};
+
+    ghost tells = { Unit {0} };
+
+    ghost reach = { 4096 };
+
+    ghost faults = { fuse_disk_faults };
+
+    ghost story = { λ d. story_of (fused d) };
+
+    ghost sound = { λ d told. d.disk.sound };
+
+    fn read(&mut self, alloc: Global, path: &str) -> Result<Option<Entry>, DiskFault>
+        ensures told { Reads path.now (story_of (fused self.old)) (story_of (fused self.new)) result }
+        ensures cause { Counts (fuse_disk_faults self.old) (fuse_disk_faults self.new) (disk_failed result) }
+        ensures spends { Spends (calls_left self.old) (calls_left self.new) (nat_eq (calls_left self.old) 0) result }
+    {
+        if self.is_to_fail() {
+            self.disk.note_look()?;
+            return Err(self.fault());
+        }
+        self.disk.read(alloc, path)
+    }
+
+    fn write(&mut self, path: &str, entry: &Entry) -> Result<(), DiskFault>
+        requires clean { IsClean path.now }
+        requires within_reach { length path.now ≤ 4096 }
+        requires free { IsFree (story_of (fused self.old)).held path.now }
+        ensures told { Writes path.now entry.now (story_of (fused self.old)) (story_of (fused self.new)) result }
+        ensures cause { Counts (fuse_disk_faults self.old) (fuse_disk_faults self.new) (disk_failed result) }
+        ensures spends { Spends (calls_left self.old) (calls_left self.new) (nat_eq (calls_left self.old) 0) result }
+    {
+        if self.is_to_fail() {
+            self.disk.note_put(path)?;
+            return Err(self.fault());
+        }
+        self.disk.write(path, entry)
+    }
+
+    fn rename(&mut self, from: &str, to: &str) -> Result<(), DiskFault>
+        requires settled { IsSettled from.now (story_of (fused self.old)) }
+        requires clean { IsClean to.now }
+        requires within_reach { length to.now ≤ 4096 }
+        requires free { IsFree (story_of (fused self.old)).held to.now }
+        ensures told { Renames from.now to.now (story_of (fused self.old)) (story_of (fused self.new)) result }
+        ensures cause { Counts (fuse_disk_faults self.old) (fuse_disk_faults self.new) (disk_failed result) }
+        ensures spends { Spends (calls_left self.old) (calls_left self.new) (nat_eq (calls_left self.old) 0) result }
+    {
+        if self.is_to_fail() {
+            self.disk.note_move(from, to)?;
+            return Err(self.fault());
+        }
+        self.disk.rename(from, to)
+    }
+
+    fn remove(&mut self, path: &str) -> Result<(), DiskFault>
+        ensures told { Removes path.now (story_of (fused self.old)) (story_of (fused self.new)) result }
+        ensures cause { Counts (fuse_disk_faults self.old) (fuse_disk_faults self.new) (disk_failed result) }
+        ensures spends { Spends (calls_left self.old) (calls_left self.new) (nat_eq (calls_left self.old) 0) result }
+    {
+        if self.is_to_fail() {
+            self.disk.note_put(path)?;
+            return Err(self.fault());
+        }
+        self.disk.remove(path)
+    }
+
+    fn list(&mut self, alloc: Global, prefix: &str) -> Result<Texts, DiskFault>
+        ensures told { Lists prefix.now (story_of (fused self.old)) (story_of (fused self.new)) result }
+        ensures cause { Counts (fuse_disk_faults self.old) (fuse_disk_faults self.new) (disk_failed result) }
+        ensures spends { Spends (calls_left self.old) (calls_left self.new) (nat_eq (calls_left self.old) 0) result }
+    {
+        if self.is_to_fail() {
+            self.disk.note_look()?;
+            return Err(self.fault());
+        }
+        self.disk.list(alloc, prefix)
+    }
+
+    fn sync(&mut self) -> Result<(), DiskFault>
+        ensures told { Syncs (story_of (fused self.old)) (story_of (fused self.new)) result }
+        ensures cause { Counts (fuse_disk_faults self.old) (fuse_disk_faults self.new) (disk_failed result) }
+        ensures spends { Spends (calls_left self.old) (calls_left self.new) (nat_eq (calls_left self.old) 0) result }
+    {
+        if self.is_to_fail() {
+            self.disk.note_look()?;
+            return Err(self.fault());
+        }
+        self.disk.sync()
+    }
+
+    fn moment(&self) -> u64 {
+        self.disk.moment()
+    }
+}
