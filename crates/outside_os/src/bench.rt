@@ -1,7 +1,7 @@
 // A folder in which `sh` runs scripts.
 ghost use Rattle.std.specs.Prelude.{[], Ok, None, true};
 
-use crate::faults::{is_memory, one_more};
+use crate::faults::{FirstFault, is_memory, one_more};
 use crate::folder::{
     Item, Part, is_too_long, join, list_items, look, open_up, put_entry, read_entry,
 };
@@ -38,20 +38,28 @@ pub struct ShBench<R> {
     rt: R,
     folder: String,
     faults: u64,
+    first: FirstFault,
 }
 
-impl<R> ShBench<R> {
+impl<R: AllocGlobal> ShBench<R> {
     ghost use Rattle.outside_traits.specs.Fault.{Counts, bench_failed};
 
-    /// Counts the fault where a call of the system failed.
-    fn count<T: Drop>(&mut self, done: io::Result<T>) -> Result<T, BenchFault>
+    /// What is said of the first fault.
+    pub fn first_fault(&self) -> Option<&str> {
+        self.first.as_str()
+    }
+
+    /// Counts the fault where a call of the system failed, for a call of the bench.
+    fn count<T: Drop>(&mut self, call: &str, done: io::Result<T>) -> Result<T, BenchFault>
         ensures { Counts self.old.faults self.new.faults (bench_failed result) }
     {
         match done {
             Ok(value) => Ok(value),
             Err(error) if is_memory(&error) => Err(BenchFault::Memory),
-            Err(_) => {
+            Err(error) => {
                 self.faults = one_more(self.faults);
+                self.first
+                    .keep(self.rt.alloc(), call, self.folder.as_str(), &error);
                 Err(BenchFault::Failed)
             }
         }
@@ -66,6 +74,7 @@ impl<R: Files<File = File> + Env + Processes + AllocGlobal + Clone + Drop> ShBen
             rt,
             folder,
             faults: 0,
+            first: FirstFault::none(),
         })
     }
 
@@ -214,22 +223,22 @@ impl<R: Files<File = File> + Env + Processes + AllocGlobal + Clone + Drop> Bench
 
     fn clear(&mut self, _alloc: Global) -> Result<(), BenchFault> {
         let done = self.try_clear();
-        self.count(done)
+        self.count("clearing", done)
     }
 
     fn put(&mut self, _alloc: Global, path: &str, entry: &Entry) -> Result<(), BenchFault> {
         let done = put_entry(&self.rt, self.folder.as_str(), path, entry);
-        self.count(done)
+        self.count("laying", done)
     }
 
     fn run(&mut self, _alloc: Global, script: &str) -> Result<u32, BenchFault> {
         let done = self.try_run(script);
-        self.count(done)
+        self.count("run", done)
     }
 
     fn take(&mut self, _alloc: Global, max: Size) -> Result<Taken, BenchFault> {
         let taken = self.try_take(&max);
-        match self.count(taken)? {
+        match self.count("taking", taken)? {
             Some(tree) => Ok(Taken::Tree(tree)),
             None => Ok(Taken::TooLarge),
         }

@@ -1,15 +1,16 @@
 // The folder `build`.
-ghost use Rattle.std.specs.Prelude.{None};
+ghost use Rattle.std.specs.Prelude.{[], None};
 
-use crate::faults::{is_memory, one_more};
+use crate::faults::{FirstFault, is_memory, one_more};
 use crate::folder::{
-    Part, is_empty, is_entry, is_reached, join, list_items, look, look_through, no_memory,
-    put_entry, read_entry,
+    Part, is_empty, is_entry, is_reached, join, list_items, look, look_through, move_entry,
+    no_memory, put_entry, read_entry,
 };
+use crate::lock::Locking;
 use outside_traits::{Disk, DiskFault};
 use std::alloc::{AllocError, Global};
 use std::collections::BTreeSet;
-use std::fs::OpenFile;
+use std::fs::{File, OpenFile};
 use std::io::ErrorKind;
 use std::rt::Files;
 use std::{fs, io};
@@ -21,6 +22,11 @@ const ROOT: &str = "build";
 /// The folder in it that the benches have: no part of the disk.
 const BENCHES: &str = "bench";
 
+/// The folder of the benches, and the file in it whose lock a run has, from the current folder.
+const BENCHES_FOLDER: &str = "build/bench";
+
+const LOCK: &str = "build/bench/lock";
+
 /// The folder above the root, where the root's own name stands.
 const HERE: &str = ".";
 
@@ -29,16 +35,26 @@ const HERE: &str = ".";
 /// Nothing stands below a link, so no call reaches through one. A folder without files or links is nothing: where
 /// one stands in the way of an entry it goes, and with the last entry of a folder the folder itself goes. What is
 /// neither file, folder nor link is nothing too. It tells nothing.
+///
+/// The first call takes the lock of a run, on the file `build/bench/lock`, and the object has it as long as it is there.
+/// Where another process has it that call is a fault, as is each later one until the lock is free, and nothing is touched.
 #[derive(Drop)]
 pub struct FolderDisk<R> {
     folder: BuildFolder<R>,
+
+    /// How many calls were answered.
+    calls: u64,
     faults: u64,
+    first: FirstFault,
 }
 
 /// The folder, and what is to be synced of it.
 #[derive(Drop)]
 struct BuildFolder<R> {
     rt: R,
+
+    /// The locked file.
+    lock: Option<File>,
 
     /// The files and folders that were changed since the last sync, by their paths from the current folder.
     changed: BTreeSet<String>,
@@ -47,25 +63,10 @@ struct BuildFolder<R> {
     settled: BTreeSet<String>,
 }
 
-impl<R> FolderDisk<R> {
+impl<R: AllocGlobal> FolderDisk<R> {
+    ghost use Rattle.std.specs.Prelude.{◌≡◌};
     ghost use Rattle.outside_traits.specs.Fault.{Counts, disk_failed};
 
-    /// Counts the fault where a call of the system failed.
-    fn count<T: Drop>(&mut self, done: io::Result<T>) -> Result<T, DiskFault>
-        ensures { Counts self.old.faults self.new.faults (disk_failed result) }
-    {
-        match done {
-            Ok(value) => Ok(value),
-            Err(error) if is_memory(&error) => Err(DiskFault::Memory),
-            Err(_) => {
-                self.faults = one_more(self.faults);
-                Err(DiskFault::Failed)
-            }
-        }
-    }
-}
-
-impl<R: AllocGlobal> FolderDisk<R> {
     /// The folder as it is, without a fault or a change so far.
     pub fn new(rt: R) -> Self {
         let changed = BTreeSet::new(rt.alloc());
@@ -73,15 +74,57 @@ impl<R: AllocGlobal> FolderDisk<R> {
         FolderDisk {
             folder: BuildFolder {
                 rt,
+                lock: None,
                 changed,
                 settled,
             },
+            calls: 0,
             faults: 0,
+            first: FirstFault::none(),
+        }
+    }
+
+    /// What is said of the first fault.
+    pub fn first_fault(&self) -> Option<&str> {
+        self.first.as_str()
+    }
+
+    /// Counts a call at a path of the disk, and the fault where a call of the system failed.
+    fn count<T: Drop>(
+        &mut self,
+        call: &str,
+        path: &str,
+        done: io::Result<T>,
+    ) -> Result<T, DiskFault>
+        ensures { Counts self.old.faults self.new.faults (disk_failed result) }
+    {
+        match done {
+            Ok(value) => {
+                self.calls = self.calls.saturating_add(1);
+                Ok(value)
+            }
+            Err(error) if is_memory(&error) => Err(DiskFault::Memory),
+            Err(error) => {
+                self.calls = self.calls.saturating_add(1);
+                self.faults = one_more(self.faults);
+                self.note(call, path, &error);
+                Err(DiskFault::Failed)
+            }
+        }
+    }
+
+    /// Keeps what is said of a fault.
+    fn note(&mut self, call: &str, path: &str, error: &io::Error)
+        ensures { self.new.faults ≡ self.old.faults }
+    {
+        let alloc = self.folder.rt.alloc();
+        if let Ok(place) = join(alloc, ROOT, path) {
+            self.first.keep(alloc, call, place.as_str(), error);
         }
     }
 }
 
-impl<R: Files + AllocGlobal + Clone + Drop> Disk for FolderDisk<R> {
+impl<R: Files + Locking + AllocGlobal + Clone + Drop> Disk for FolderDisk<R> {
     ghost use Rattle.outside_traits.specs.Story.{Story};
 
     ghost tells = { ⊥ };
@@ -90,37 +133,55 @@ impl<R: Files + AllocGlobal + Clone + Drop> Disk for FolderDisk<R> {
 
     ghost faults = { λ s. s.faults };
 
-    ghost story = { λ _. record { held = λ _. None } };
+    ghost story = { λ _. record { held = λ _. None; calls = [] } };
 
     ghost sound = { λ _ told. absurd told };
 
     fn read(&mut self, _alloc: Global, path: &str) -> Result<Option<Entry>, DiskFault> {
         let found = self.folder.read(path);
-        self.count(found)
+        self.count("read", path, found)
     }
 
     fn write(&mut self, path: &str, entry: &Entry) -> Result<(), DiskFault> {
         let done = self.folder.write(path, entry);
-        self.count(done)
+        self.count("write", path, done)
+    }
+
+    fn rename(&mut self, from: &str, to: &str) -> Result<(), DiskFault> {
+        let done = self.folder.rename(from, to);
+        self.count("rename", from, done)
     }
 
     fn remove(&mut self, path: &str) -> Result<(), DiskFault> {
         let done = self.folder.remove(path);
-        self.count(done)
+        self.count("removal", path, done)
     }
 
     fn list(&mut self, alloc: Global, prefix: &str) -> Result<Texts, DiskFault> {
         let paths = self.folder.list(alloc, prefix);
-        self.count(paths)
+        self.count("listing", prefix, paths)
     }
 
     fn sync(&mut self) -> Result<(), DiskFault> {
         let done = self.folder.sync();
-        self.count(done)
+        self.count("sync", "", done)
+    }
+
+    fn moment(&self) -> u64 {
+        self.calls
     }
 }
 
-impl<R: Files + AllocGlobal + Clone + Drop> BuildFolder<R> {
+impl<R: Files + Locking + AllocGlobal + Clone + Drop> BuildFolder<R> {
+    /// Takes the lock of a run, unless this object has it.
+    fn hold(&mut self) -> io::Result<()> {
+        if self.lock.is_none() {
+            fs::create_dir_all(&self.rt, BENCHES_FOLDER)?;
+            self.lock = Some(self.rt.take_lock(LOCK)?);
+        }
+        Ok(())
+    }
+
     /// Whether an entry can stand at a path: a clean one, outside the benches, that has only folders above it.
     fn is_open(&self, path: &str) -> io::Result<bool> {
         if !is_clean(path) || is_below(BENCHES, path) {
@@ -129,7 +190,8 @@ impl<R: Files + AllocGlobal + Clone + Drop> BuildFolder<R> {
         is_reached(&self.rt, ROOT, path)
     }
 
-    fn read(&self, path: &str) -> io::Result<Option<Entry>> {
+    fn read(&mut self, path: &str) -> io::Result<Option<Entry>> {
+        self.hold()?;
         if !self.is_open(path)? {
             return Ok(None);
         }
@@ -143,6 +205,7 @@ impl<R: Files + AllocGlobal + Clone + Drop> BuildFolder<R> {
     }
 
     fn write(&mut self, path: &str, entry: &Entry) -> io::Result<()> {
+        self.hold()?;
         if is_below(BENCHES, path) {
             return Err(io::Error::from(ErrorKind::InvalidInput));
         }
@@ -154,7 +217,21 @@ impl<R: Files + AllocGlobal + Clone + Drop> BuildFolder<R> {
         put_entry(&self.rt, ROOT, path, entry)
     }
 
+    fn rename(&mut self, from: &str, to: &str) -> io::Result<()> {
+        self.hold()?;
+        if is_below(BENCHES, to) || !self.is_open(from)? {
+            return Err(io::Error::from(ErrorKind::InvalidInput));
+        }
+        let source = join(self.rt.alloc(), ROOT, from)?;
+        let target = join(self.rt.alloc(), ROOT, to)?;
+        self.note_above(source.as_str())?;
+        self.note_above(target.as_str())?;
+        move_entry(&self.rt, ROOT, from, to)?;
+        self.remove_empty_above(source.as_str())
+    }
+
     fn remove(&mut self, path: &str) -> io::Result<()> {
+        self.hold()?;
         if !self.is_open(path)? {
             return Ok(());
         }
@@ -169,7 +246,8 @@ impl<R: Files + AllocGlobal + Clone + Drop> BuildFolder<R> {
         }
     }
 
-    fn list(&self, alloc: Global, prefix: &str) -> io::Result<Texts> {
+    fn list(&mut self, alloc: Global, prefix: &str) -> io::Result<Texts> {
+        self.hold()?;
         let part = Part {
             root: ROOT,
             prefix,
@@ -184,6 +262,7 @@ impl<R: Files + AllocGlobal + Clone + Drop> BuildFolder<R> {
     }
 
     fn sync(&mut self) -> io::Result<()> {
+        self.hold()?;
         for path in &self.changed {
             if sync_place(&self.rt, path.as_str())? {
                 note(&mut self.settled, self.rt.alloc(), path.as_str())?;

@@ -1,7 +1,8 @@
-// Counts of faults, and what an error of the system is for a device.
+// Counts of faults, what an error of the system is for a device, and what a device says of its first fault.
 ghost use Rattle.std.specs.Prelude.{◌≤◌};
 ghost use Rattle.outside_traits.specs.Fault.{Rose};
 
+use std::alloc::{AllocError, Global};
 use std::io;
 use std::io::ErrorKind;
 
@@ -16,4 +17,46 @@ pub fn one_more(count: u64) -> u64
 /// Whether a call of the system failed for want of memory. That is no fault of a device.
 pub fn is_memory(error: &io::Error) -> bool {
     error.kind() == ErrorKind::OutOfMemory
+}
+
+/// What a device says of its first fault: which call it was, at which place, and what the system said. Later faults
+/// often follow from the first, so they are counted alone. Where there is no memory for the sentence there is none.
+#[derive(Drop)]
+pub struct FirstFault {
+    sentence: Option<String>,
+}
+
+impl FirstFault {
+    /// No fault so far.
+    pub fn none() -> Self {
+        FirstFault { sentence: None }
+    }
+
+    /// Keeps the sentence of a fault, if it is the first.
+    pub fn keep(&mut self, alloc: Global, call: &str, place: &str, error: &io::Error) {
+        if self.sentence.is_none() {
+            self.sentence = sentence(alloc, call, place, error).ok();
+        }
+    }
+
+    /// The sentence of the first fault.
+    pub fn as_str(&self) -> Option<&str> {
+        match &self.sentence {
+            Some(sentence) => Some(sentence.as_str()),
+            None => None,
+        }
+    }
+}
+
+/// A call would block only where it asks for the lock of a run.
+fn sentence(
+    alloc: Global,
+    call: &str,
+    place: &str,
+    error: &io::Error,
+) -> Result<String, AllocError> {
+    if error.kind() == ErrorKind::WouldBlock {
+        return format!(in alloc; "{call} of {place}: another run is at work in this folder");
+    }
+    format!(in alloc; "{call} of {place}: {error}")
 }

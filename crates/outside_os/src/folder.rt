@@ -174,15 +174,39 @@ pub fn put_entry<R: Files + AllocGlobal + Clone + Drop>(
     path: &str,
     entry: &Entry,
 ) -> io::Result<()> {
-    fs::create_dir_all(rt, root)?;
-    if let Some((above, _)) = path.rsplit_once('/') {
-        make_folders(rt, root, above)?;
-    }
+    make_above(rt, root, path)?;
     let whole = join(rt.alloc(), root, path)?;
     clear_place(rt, whole.as_str())?;
     match entry {
         Entry::File { exec, bytes } => make_file(rt, whole.as_str(), *exec, bytes.as_slice()),
         Entry::Link { target } => symlink(rt, target.as_str(), whole.as_str()),
+    }
+}
+
+/// Moves a file or a link to another path inside the root, in place of a file or link that stands there, all at once, or
+/// of a folder under which no file or link stands. Makes the folders above it where they are missing.
+pub fn move_entry<R: Files + AllocGlobal + Clone + Drop>(
+    rt: &R,
+    root: &str,
+    from: &str,
+    to: &str,
+) -> io::Result<()> {
+    make_above(rt, root, to)?;
+    let source = join(rt.alloc(), root, from)?;
+    let target = join(rt.alloc(), root, to)?;
+    match look(rt, target.as_str())? {
+        Some(metadata) if metadata.is_dir() => clear_place(rt, target.as_str())?,
+        _ => {}
+    }
+    fs::rename(rt, source.as_str(), target.as_str())
+}
+
+/// Makes the root and the folders above a path inside it.
+fn make_above<R: Files + AllocGlobal>(rt: &R, root: &str, path: &str) -> io::Result<()> {
+    fs::create_dir_all(rt, root)?;
+    match path.rsplit_once('/') {
+        Some((above, _)) => make_folders(rt, root, above),
+        None => Ok(()),
     }
 }
 

@@ -1,7 +1,7 @@
 // The current folder, without `build`.
 ghost use Rattle.std.specs.Prelude.{None};
 
-use crate::faults::{is_memory, one_more};
+use crate::faults::{FirstFault, is_memory, one_more};
 use crate::folder::{Part, is_reached, leads_to_file, list_items, no_memory, read_bytes};
 use outside_traits::{Layers, ReadFault};
 use std::alloc::Global;
@@ -23,19 +23,34 @@ const BUILT: &str = "build";
 pub struct FolderLayers<R> {
     rt: R,
     faults: u64,
+    first: FirstFault,
 }
 
-impl<R> FolderLayers<R> {
+impl<R: AllocGlobal> FolderLayers<R> {
     ghost use Rattle.std.specs.Prelude.{◌≡◌, IfOk, IsErrOf, Ok};
     ghost use Rattle.outside_traits.specs.Fault.{Counts, read_failed};
 
     /// The current folder, without a fault so far.
     pub fn new(rt: R) -> Self {
-        FolderLayers { rt, faults: 0 }
+        FolderLayers {
+            rt,
+            faults: 0,
+            first: FirstFault::none(),
+        }
     }
 
-    /// Counts the fault where a call of the system failed.
-    fn count<T: Drop>(&mut self, done: io::Result<T>) -> Result<T, ReadFault>
+    /// What is said of the first fault.
+    pub fn first_fault(&self) -> Option<&str> {
+        self.first.as_str()
+    }
+
+    /// Counts the fault where a call of the system failed, for a call at a path.
+    fn count<T: Drop>(
+        &mut self,
+        call: &str,
+        path: &str,
+        done: io::Result<T>,
+    ) -> Result<T, ReadFault>
         ensures cause { Counts self.old.faults self.new.faults (read_failed result) }
         ensures value { IfOk result (λ value. done ≡ Ok value) }
         ensures not_long { IsErrOf result ReadFault.TooLong → ⊥ }
@@ -43,8 +58,9 @@ impl<R> FolderLayers<R> {
         match done {
             Ok(value) => Ok(value),
             Err(error) if is_memory(&error) => Err(ReadFault::Memory),
-            Err(_) => {
+            Err(error) => {
                 self.faults = one_more(self.faults);
+                self.first.keep(self.rt.alloc(), call, path, &error);
                 Err(ReadFault::Failed)
             }
         }
@@ -88,11 +104,11 @@ impl<R: Files + AllocGlobal + Clone + Drop> Layers for FolderLayers<R> {
 
     fn read(&mut self, _alloc: Global, path: &str, max: u64) -> Result<Option<Bytes>, ReadFault> {
         let found = self.try_find(path);
-        if !self.count(found)? {
+        if !self.count("read", path, found)? {
             return Ok(None);
         }
         let bytes = read_bytes(&self.rt, path, max);
-        match self.count(bytes)? {
+        match self.count("read", path, bytes)? {
             Some(bytes) => Ok(Some(bytes)),
             None => Err(ReadFault::TooLong),
         }
@@ -100,6 +116,6 @@ impl<R: Files + AllocGlobal + Clone + Drop> Layers for FolderLayers<R> {
 
     fn list(&mut self, alloc: Global, prefix: &str) -> Result<Texts, ReadFault> {
         let paths = self.try_list(alloc, prefix);
-        self.count(paths)
+        self.count("listing", prefix, paths)
     }
 }

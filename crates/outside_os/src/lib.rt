@@ -3,8 +3,8 @@
 //! Their model is that of the devices' traits. A device here tells nothing of what a folder, `sh` or standard output
 //! holds, so no clause speaks of that, and `os_cases` shows it by runs. Promised of each: its calls return, its count of
 //! faults rises where a call answers that the device failed, and in no other call, and it stands still at its last value.
-//! What is decided is decided elsewhere; here are only the calls of the system. (Own rules: no part of the BitBake User
-//! Manual.)
+//! What is decided is decided elsewhere; here are only the calls of the system. Each device keeps a sentence on its first
+//! fault. (Own rules: no part of the BitBake User Manual.)
 #![tactic(auto)]
 
 mod bench;
@@ -12,10 +12,12 @@ mod disk;
 mod faults;
 mod folder;
 mod layers;
+mod lock;
 mod sink;
 
 pub use bench::ShBench;
 pub use disk::FolderDisk;
 pub use faults::is_memory;
 pub use layers::FolderLayers;
+pub use lock::Locking;
 pub use sink::StdSink;
