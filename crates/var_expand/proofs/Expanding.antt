@@ -1,7 +1,8 @@
 -- Laws of answers, and of the steps of an expansion.
-use Rattle.std.proofs.Common.{◌≡◌, refl, sym, ◌∙◌, ap, subst, arith, ℕ, zero, suc, ◌+◌, ◌-◌, ◌<◌, ◌≤◌, nat_le, Bool, true, false, ◌&&◌, ◌||◌, inl, inr, List, [], ◌∷◌, ◌++◌, length, append_assoc, append-nil, length-append, Option, Some, None, Result, Ok, Err, flat_map, codes, bytes_eq, ne_eqb, nat_eq, max, slice_get, get_or, drop, IfOk, IfErr}
+use Rattle.std.proofs.Common.{◌≡◌, refl, sym, ◌∙◌, ap, subst, arith, ℕ, zero, suc, ◌+◌, ◌-◌, ◌<◌, ◌≤◌, nat_le, Bool, true, false, ◌&&◌, ◌||◌, inl, inr, List, [], ◌∷◌, ◌++◌, length, append_assoc, append-nil, length-append, Option, Some, None, Result, Ok, Err, flat_map, codes, bytes_eq, ne_eqb, nat_eq, max, slice_get, get_or, take, drop, IfOk, IfErr, OnOk}
 use Rattle.std.proofs.lemmas.Bool.{le-leb, lt-leb, cases_lt, cases_eq, true≢false}
 use Rattle.std.proofs.lemmas.List.{drop_more}
+use Rattle.std.proofs.Math.Seq.{take-append_seam}
 use Rattle.std.specs.List.{list_all}
 use Rattle.meta_model.specs.declared.value.Resolved.{Resolved}
 use Rattle.meta_model.specs.Refusal.{Refusal, value_cycle, too_deep, too_long, require, ◌>>=◌}
@@ -441,3 +442,18 @@ same_err (Err fault) m n e h = subst (IsFaultOf fault) e h
 
 pub start_parts : (finds : Find) (names : List (List ℕ)) (parts : Parts) → names ≡ [] → expanded_parts (known finds 64 names) (last_name names) parts longest ≡ expanded_parts (value_by finds) [] parts longest
 start_parts finds names parts e = ap (λ n. expanded_parts (known finds 64 n) (last_name n) parts longest) e ∙ ap (λ v. expanded_parts v [] parts longest) (known_start finds)
+
+-- a piece that is put behind what is expanded so far
+pub put_ok : {T : Type 0} (values : Values) (name : List ℕ) (part : Part) (out piece piece' new : List ℕ) (r : Result T ExpandFault) → part_text values name part ≡ Ok piece → piece' ≡ piece
+    → OnOk r (length piece' ≤ longest - length out) → OnOk r (new ≡ out ++ piece') → OnOk r (grown values name part out ≡ Ok new)
+put_ok values name part out piece piece' new (Ok made) e same fits is = grown_ok values name part out piece new e (subst (λ p. length p ≤ longest - length out) same fits) (is ∙ ap (λ p. out ++ p) same)
+put_ok values name part out piece piece' new (Err fault) e same fits is = is
+
+pub put_err : {T : Type 0} (values : Values) (names names' : List (List ℕ)) (part : Part) (out piece piece' : List ℕ) (r : Result T ExpandFault) → part_text values (last_name names) part ≡ Ok piece → names' ≡ names → piece' ≡ piece
+    → IfErr r (λ fault. IsFaultOf fault (fitting names' (longest - length out) (length piece'))) → IfErr r (λ fault. IsFaultOf fault (grown values (last_name names) part out))
+put_err values names names' part out piece piece' (Ok made) e within same h = h
+put_err values names names' part out piece piece' (Err fault) e within same h = grown_long values (last_name names) part out piece fault e (fit_fault fault names names' out out piece piece' within refl same h)
+
+-- names without the one that was put behind them
+pub take_front : {A : Type 0} (names : List A) (name : A) (n : ℕ) → n ≡ length names → take n (names ++ name ∷ []) ≡ names
+take_front names name n e = ap (λ k. take k (names ++ name ∷ [])) e ∙ take-append_seam names (name ∷ [])

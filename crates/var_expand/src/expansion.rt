@@ -1,9 +1,10 @@
 // Expansion of references.
-ghost use Rattle.std.specs.Prelude.{◌≡◌, [], ◌≤◌, ◌-◌, ◌++◌, IfOk, IfErr, OnOk, Ok, codes, length};
-ghost use Rattle.meta_model.specs.Expansion.{longest, expanded_parts, expanded, expanded_value, expand_by, value_by};
+ghost use Rattle.std.specs.Prelude.{◌≡◌, [], ◌∷◌, ◌≤◌, ◌-◌, ◌++◌, IfOk, IfErr, OnOk, MatchOption, None, Ok, codes, length};
+ghost use Rattle.meta_model.specs.Expansion.{Values, deepest, longest, expanded_parts, expanded, expanded_value, expand_by, value_by};
+ghost use Rattle.meta_model.specs.Parts.{depth};
 ghost use Rattle.var_expand.specs.Faults.{IsFaultOf};
 ghost use Rattle.var_expand.specs.Pieces.{parts_in};
-ghost use Rattle.var_expand.specs.Expanding.{fitting, grown, known, last_name, reference_text, removed};
+ghost use Rattle.var_expand.specs.Expanding.{as_found, fitting, grown, known, last_name, reference_text, removed};
 
 use crate::fault::{ExpandFault, ReadFault};
 use crate::lookup::Lookup;
@@ -54,6 +55,17 @@ fn as_reference(alloc: Global, name: &str) -> Result<Text, Mem>
     Ok(made)
 }
 
+/// Puts a piece behind what is expanded so far, where there is room for it.
+fn put_piece(alloc: Global, within: &[Text], out: &mut Text, piece: &str) -> Result<(), ExpandFault>
+    requires { length out.old ≤ longest }
+    ensures fits { OnOk result (length piece.now ≤ longest - length out.old) }
+    ensures ok { OnOk result (out.new ≡ out.old ++ piece.now) }
+    ensures err { IfErr result (λ fault. IsFaultOf fault (fitting within.now (longest - length out.old) (length piece.now))) }
+{
+    fit(alloc, within, LONGEST - out.as_str().len(), piece.len())?;
+    Ok(out.push_str(piece)?)
+}
+
 /// Puts what a part becomes behind what is expanded so far.
 #[cycle(expansion)]
 fn expand_part<L: Lookup>(
@@ -71,24 +83,10 @@ fn expand_part<L: Lookup>(
     ensures same { OnOk result (within.new.items ≡ within.old.items) }
 {
     match part {
-        Part::Plain(text) => {
-            fit(
-                alloc,
-                within.as_slice(),
-                LONGEST - out.as_str().len(),
-                text.as_str().len(),
-            )?;
-            Ok(out.push_str(text.as_str())?)
-        }
+        Part::Plain(text) => put_piece(alloc, within.as_slice(), out, text.as_str()),
         Part::Ref(name) => {
             let piece = expand_reference(alloc, from, within, left, name)?;
-            fit(
-                alloc,
-                within.as_slice(),
-                LONGEST - out.as_str().len(),
-                piece.as_str().len(),
-            )?;
-            Ok(out.push_str(piece.as_str())?)
+            put_piece(alloc, within.as_slice(), out, piece.as_str())
         }
     }
 }
@@ -136,18 +134,17 @@ fn expand_reference<L: Lookup>(
     }
 }
 
-/// The expanded value of a name in the expansion of others.
-#[cycle(expansion)]
-fn value_within<L: Lookup>(
+/// What a name has; where it has something, the name stands behind those in expansion from then on.
+fn enter<L: Lookup>(
     alloc: Global,
     from: &L,
     within: &mut Vec<Text>,
     left: usize,
     name: &str,
-) -> Result<Option<Text>, ExpandFault>
-    ensures ok { IfOk result (λ made. known (L.finds from.now) left within.old.items name.now ≡ Ok made) }
+) -> Result<Option<Resolved>, ExpandFault>
+    ensures ok { IfOk result (λ made. MatchOption made (known (L.finds from.now) left within.old.items name.now ≡ Ok None) (λ found. (1 ≤ left) × (known (L.finds from.now) left within.old.items name.now ≡ as_found (expanded_value (known (L.finds from.now) (left - 1) (within.old.items ++ name.now ∷ [])) (last_name (within.old.items ++ name.now ∷ [])) found)))) }
+    ensures names { IfOk result (λ made. MatchOption made (within.new.items ≡ within.old.items) (λ found. within.new.items ≡ within.old.items ++ name.now ∷ [])) }
     ensures err { IfErr result (λ fault. IsFaultOf fault (known (L.finds from.now) left within.old.items name.now)) }
-    ensures same { OnOk result (within.new.items ≡ within.old.items) }
 {
     if is_among(name, within.as_slice()) {
         return Err(ExpandFault::ValueCycle {
@@ -162,8 +159,27 @@ fn value_within<L: Lookup>(
             name: innermost_name(alloc, within.as_slice())?,
         });
     }
-    let names = within.len();
     within.push(Text::from_str(alloc, name)?)?;
+    Ok(Some(found))
+}
+
+/// The expanded value of a name in the expansion of others.
+#[cycle(expansion)]
+fn value_within<L: Lookup>(
+    alloc: Global,
+    from: &L,
+    within: &mut Vec<Text>,
+    left: usize,
+    name: &str,
+) -> Result<Option<Text>, ExpandFault>
+    ensures ok { IfOk result (λ made. known (L.finds from.now) left within.old.items name.now ≡ Ok made) }
+    ensures err { IfErr result (λ fault. IsFaultOf fault (known (L.finds from.now) left within.old.items name.now)) }
+    ensures same { OnOk result (within.new.items ≡ within.old.items) }
+{
+    let names = within.len();
+    let Some(found) = enter(alloc, from, within, left, name)? else {
+        return Ok(None);
+    };
     let value = expand_value(alloc, from, within, left - 1, found)?;
     within.truncate(names);
     Ok(Some(value))
@@ -237,6 +253,21 @@ fn expand_owned<L: Lookup>(
     Ok(text)
 }
 
+/// The parts of a text, in the expansion of these names.
+fn read_within(alloc: Global, within: &[Text], text: &str) -> Result<Parts, ExpandFault>
+    ensures ok { IfOk result (λ made. (values : Values) → expanded values (last_name within.now) text.now ≡ expanded_parts values (last_name within.now) (parts_in made) longest) }
+    ensures shallow { IfOk result (λ made. depth (parts_in made) ≤ deepest) }
+    ensures err { IfErr result (λ fault. (values : Values) → IsFaultOf fault (expanded values (last_name within.now) text.now)) }
+{
+    match read(alloc, text) {
+        Ok(parts) => Ok(parts),
+        Err(ReadFault::TooDeep) => Err(ExpandFault::TooDeep {
+            name: innermost_name(alloc, within)?,
+        }),
+        Err(ReadFault::Memory) => Err(ExpandFault::Memory),
+    }
+}
+
 /// A text expanded.
 #[cycle(expansion)]
 fn expand_text<L: Lookup>(
@@ -250,13 +281,8 @@ fn expand_text<L: Lookup>(
     ensures err { IfErr result (λ fault. IsFaultOf fault (expanded (known (L.finds from.now) left within.old.items) (last_name within.old.items) text.now)) }
     ensures same { OnOk result (within.new.items ≡ within.old.items) }
 {
-    match read(alloc, text) {
-        Ok(parts) => expand_parts(alloc, from, within, left, &parts),
-        Err(ReadFault::TooDeep) => Err(ExpandFault::TooDeep {
-            name: innermost_name(alloc, within.as_slice())?,
-        }),
-        Err(ReadFault::Memory) => Err(ExpandFault::Memory),
-    }
+    let parts = read_within(alloc, within.as_slice(), text)?;
+    expand_parts(alloc, from, within, left, &parts)
 }
 
 /// The parts of a name expanded, in the expansion of no other.

@@ -1,13 +1,12 @@
-use Rattle.std.proofs.Common.{rules, ◌≡◌, ◌∙◌, ap, sym, subst, ◌≤◌, ◌+◌, ◌-◌, ◌++◌, ◌∷◌, [], length, drop, suc, false, Ok, Err, Some, codes}
+use Rattle.std.proofs.Common.{arith, rules, ◌≡◌, ◌∙◌, ap, sym, subst, ◌≤◌, ◌+◌, ◌-◌, ◌++◌, ◌∷◌, [], length, take, drop, suc, false, Ok, Some, codes}
 use Rattle.std.proofs.lemmas.Result.{err_from_is_err_and}
-use Rattle.meta_model.specs.Refusal.{value_cycle, too_deep, ◌>>=◌}
-use Rattle.meta_model.specs.Text.{holds, is_in}
+use Rattle.meta_model.specs.Text.{holds}
 use Rattle.meta_model.specs.Parts.{end, depth}
-use Rattle.meta_model.specs.Expansion.{longest, expanded_parts, expanded_value}
+use Rattle.meta_model.specs.Expansion.{longest, expanded_parts, expanded, expanded_value}
 use Rattle.var_expand.specs.Faults.{IsFaultOf}
 use Rattle.var_expand.specs.Pieces.{part_before, parts_in, parts_in_list}
-use Rattle.var_expand.specs.Expanding.{known, last_name, grown}
-use Rattle.var_expand.proofs.Expanding.{plain_ok, plain_long, fit_fault, fit_whole, fit_room, no_items, ref_depth, ref_is, grown_fault, grown_long, grown_ok, value_alone, part_depth, cut_part, positive, fault_on, fault_same, finish, finish_fault, finish_goes_on, known_cycle, known_none, known_unfound, known_deep, known_found}
+use Rattle.var_expand.specs.Expanding.{as_found, known, last_name, part_text, grown}
+use Rattle.var_expand.proofs.Expanding.{plain_ok, plain_long, fit_whole, no_items, ref_depth, ref_is, grown_fault, value_alone, part_depth, cut_part, fault_on, fault_same, finish, finish_fault, finish_goes_on, put_ok, put_err, take_front, same_ok, same_err}
 use Rattle.var_expand.proofs.expansion.+expansion.Goals as goal
 
 pub expand_owned-returns-in_err-fit-clause-err : goal.expand_owned-returns-in_err-fit-clause-err
@@ -33,28 +32,9 @@ pub expand_part-returns-in_err-piece-in-Ref-clause-err : goal.expand_part-return
 expand_part-returns-in_err-piece-in-Ref-clause-err g t c =
     let names = c.args.within.now.items in
     let values = known (g.L.Lookup.finds c.args.from.now) c.args.left names in
-    let p = err_from_is_err_and c.from_residual-in_err-piece-in-Ref.result c.from_residual-in_err-piece-in-Ref.ensures.1 in
+    let p = err_from_is_err_and c.from_residual.result c.from_residual.ensures.1 in
     rw (p.1, p.2) (grown_fault values (last_name names) c.args.part.now c.args.out.now c.in_err-piece-in-Ref.field-0.0
     (subst (IsFaultOf c.in_err-piece-in-Ref.field-0.0) (sym (ref_is values (last_name names) c.args.part.now c.in-Ref.name c.in-Ref.is)) c.in_err-piece-in-Ref.ensures.err))
-
-pub expand_part-returns-in_err-fit-in-Ref-clause-err : goal.expand_part-returns-in_err-fit-in-Ref-clause-err
-expand_part-returns-in_err-fit-in-Ref-clause-err g t c =
-    let names = c.args.within.now.items in
-    let values = known (g.L.Lookup.finds c.args.from.now) c.args.left names in
-    let p = err_from_is_err_and c.from_residual-in_err-fit-in-Ref.result c.from_residual-in_err-fit-in-Ref.ensures.1 in
-    rw (p.1, p.2) (grown_long values (last_name names) c.args.part.now c.args.out.now c.in_ok-piece-in-Ref.piece c.in_err-fit-in-Ref.field-0.0
-    (ref_is values (last_name names) c.args.part.now c.in-Ref.name c.in-Ref.is ∙ c.in_ok-piece-in-Ref.ensures.ok)
-    (fit_fault c.in_err-fit-in-Ref.field-0.0 names c.as_slice-in-Ref.result.now c.args.out.now c.as_str-in-Ref.result.now c.in_ok-piece-in-Ref.piece c.as_str-in-Ref-2.result.now
-    (c.as_slice-in-Ref.ensures.value ∙ c.in_ok-piece-in-Ref.ensures.same) c.as_str-in-Ref.ensures c.as_str-in-Ref-2.ensures c.in_err-fit-in-Ref.ensures.err))
-
-pub expand_part-returns-in_ok-push_str-in-Ref-clause-ok : goal.expand_part-returns-in_ok-push_str-in-Ref-clause-ok
-expand_part-returns-in_ok-push_str-in-Ref-clause-ok g t c =
-    let names = c.args.within.now.items in
-    let values = known (g.L.Lookup.finds c.args.from.now) c.args.left names in
-    grown_ok values (last_name names) c.args.part.now c.args.out.now c.in_ok-piece-in-Ref.piece c.push_str-in-Ref.new.self
-    (ref_is values (last_name names) c.args.part.now c.in-Ref.name c.in-Ref.is ∙ c.in_ok-piece-in-Ref.ensures.ok)
-    (fit_room c.args.out.now c.as_str-in-Ref.result.now c.in_ok-piece-in-Ref.piece c.as_str-in-Ref-2.result.now c.as_str-in-Ref.ensures c.as_str-in-Ref-2.ensures c.in_ok-fit-in-Ref.ensures.ok)
-    (c.in_ok-push_str-in-Ref.ensures.ok ∙ ap (λ p. c.args.out.now ++ p) c.as_str-in-Ref-3.ensures)
 
 pub expand_parts-expand_part-requires : goal.expand_parts-expand_part-requires
 expand_parts-expand_part-requires g t c κs within =
@@ -96,29 +76,20 @@ expand_value-returns-then-is_empty-clause-ok g t c =
     value_alone (known (g.L.Lookup.finds c.args.from.now) c.args.left names) (last_name names) c.args.found c.in_ok-value.value c.in_ok-value.ensures.ok
     (no_items c.args.found.removes (sym c.is_empty.ensures ∙ c.if-is_empty.true))
 
-pub value_within-returns-then-is_among-clause-err : goal.value_within-returns-then-is_among-clause-err
-value_within-returns-then-is_among-clause-err g t c =
-    let met = ap (is_in c.args.name.now) (sym c.as_slice.ensures.value) ∙ sym c.is_among.ensures ∙ c.if-is_among.true in
-    known_cycle (g.L.Lookup.finds c.args.from.now) c.args.left c.args.within.now.items c.args.name.now met ∙ ap (λ n. Err (value_cycle n)) (sym c.in_ok-from_str.ensures)
+pub expand_part-returns-in-Plain-clause-ok : goal.expand_part-returns-in-Plain-clause-ok
+expand_part-returns-in-Plain-clause-ok g t c =
+    let names = c.args.within.now.items in
+    let values = known (g.L.Lookup.finds c.args.from.now) c.args.left names in
+    put_ok values (last_name names) c.args.part.now c.args.out.now c.in-Plain.text c.as_str.result.now c.put_piece.new.out c.put_piece.result (ap (part_text values (last_name names)) c.in-Plain.is) c.as_str.ensures c.put_piece.ensures.fits c.put_piece.ensures.ok
+
+pub expand_part-returns-in-Plain-clause-err : goal.expand_part-returns-in-Plain-clause-err
+expand_part-returns-in-Plain-clause-err g t c =
+    let names = c.args.within.now.items in
+    let values = known (g.L.Lookup.finds c.args.from.now) c.args.left names in
+    put_err values names c.as_slice.result.now c.args.part.now c.args.out.now c.in-Plain.text c.as_str.result.now c.put_piece.result (ap (part_text values (last_name names)) c.in-Plain.is) c.as_slice.ensures.value c.as_str.ensures c.put_piece.ensures.err
 
 pub value_within-returns-in_default-clause-ok : goal.value_within-returns-in_default-clause-ok
-value_within-returns-in_default-clause-ok g t c =
-    let fresh = ap (is_in c.args.name.now) (sym c.as_slice.ensures.value) ∙ sym c.is_among.ensures ∙ c.if-is_among.false in
-    known_none (g.L.Lookup.finds c.args.from.now) c.args.left c.args.within.now.items c.args.name.now fresh (c.in_ok-found.ensures.ok ∙ ap Ok c.in_default.is)
-
-pub value_within-returns-in_err-found-clause-err : goal.value_within-returns-in_err-found-clause-err
-value_within-returns-in_err-found-clause-err g t c =
-    let fresh = ap (is_in c.args.name.now) (sym c.as_slice.ensures.value) ∙ sym c.is_among.ensures ∙ c.if-is_among.false in
-    let p = err_from_is_err_and c.from_residual-in_err-found.result c.from_residual-in_err-found.ensures.1 in
-    rw (p.1, p.2) (known_unfound (g.L.Lookup.finds c.args.from.now) c.args.left c.args.within.now.items c.args.name.now c.in_err-found.field-0.0 fresh c.in_err-found.ensures.err)
-
-pub value_within-returns-then-left-eq0-clause-err : goal.value_within-returns-then-left-eq0-clause-err
-value_within-returns-then-left-eq0-clause-err g t c =
-    let finds = g.L.Lookup.finds c.args.from.now in
-    let fresh = ap (is_in c.args.name.now) (sym c.as_slice.ensures.value) ∙ sym c.is_among.ensures ∙ c.if-is_among.false in
-    ap (λ n. known finds n c.args.within.now.items c.args.name.now) c.if-left-eq0.true
-    ∙ known_deep finds c.args.within.now.items c.args.name.now c.in-Some.found fresh (c.in_ok-found.ensures.ok ∙ ap Ok c.in-Some.is)
-    ∙ ap (λ n. Err (too_deep n)) (sym (c.in_ok-innermost_name.ensures ∙ ap last_name c.as_slice-then-left-eq0.ensures.value))
+value_within-returns-in_default-clause-ok g t c = rw c.in_default.is at c.in_ok-found.ensures.ok
 
 pub value_within-returns-in_err-value-clause-err : goal.value_within-returns-in_err-value-clause-err
 value_within-returns-in_err-value-clause-err g t c =
@@ -126,20 +97,50 @@ value_within-returns-in_err-value-clause-err g t c =
     let names = c.args.within.now.items in
     let longer = names ++ c.args.name.now ∷ [] in
     let fault = c.in_err-value.field-0.0 in
-    let fresh = ap (is_in c.args.name.now) (sym c.as_slice.ensures.value) ∙ sym c.is_among.ensures ∙ c.if-is_among.false in
-    let pushed = c.in_ok-push.ensures.items ∙ ap (λ n. names ++ n ∷ []) c.in_ok-from_str-2.ensures in
+    let found = rw c.in-Some.is at c.in_ok-found.ensures.ok in
+    let entered = rw c.in-Some.is at c.in_ok-found.ensures.names in
     let p = err_from_is_err_and c.from_residual-in_err-value.result c.from_residual-in_err-value.ensures.1 in
-    rw (p.1, p.2) (fault_same fault (known finds c.args.left names c.args.name.now) (expanded_value (known finds (c.args.left - 1) longer) (last_name longer) c.in-Some.found >>= (λ text. Ok (Some text)))
-    (known_found finds c.args.left names c.args.name.now c.in-Some.found fresh (c.in_ok-found.ensures.ok ∙ ap Ok c.in-Some.is) (positive c.args.left c.if-left-eq0.false))
+    rw (p.1, p.2) (fault_same fault (known finds c.args.left names c.args.name.now) (as_found (expanded_value (known finds (c.args.left - 1) longer) (last_name longer) c.in-Some.found)) found.1
     (fault_on fault (expanded_value (known finds (c.args.left - 1) longer) (last_name longer) c.in-Some.found) (λ text. Ok (Some text))
-    (subst (λ w. IsFaultOf fault (expanded_value (known finds (c.args.left - 1) w) (last_name w) c.in-Some.found)) pushed c.in_err-value.ensures.err)))
+    (subst (λ w. IsFaultOf fault (expanded_value (known finds (c.args.left - 1) w) (last_name w) c.in-Some.found)) entered c.in_err-value.ensures.err)))
 
 pub value_within-returns-clause-ok : goal.value_within-returns-clause-ok
 value_within-returns-clause-ok g t c =
     let finds = g.L.Lookup.finds c.args.from.now in
+    let found = rw c.in-Some.is at c.in_ok-found.ensures.ok in
+    let entered = rw c.in-Some.is at c.in_ok-found.ensures.names in
+    found.1 ∙ ap as_found (subst (λ w. expanded_value (known finds (c.args.left - 1) w) (last_name w) c.in-Some.found ≡ Ok c.in_ok-value.value) entered c.in_ok-value.ensures.ok)
+
+pub value_within-returns-clause-same : goal.value_within-returns-clause-same
+value_within-returns-clause-same g t c =
+    let entered = rw c.in-Some.is at c.in_ok-found.ensures.names in
+    let so_long : c.len-names.result ≡ length c.args.within.now.items = omega (arith, c.len-names.ensures, c.args.within.now.ok.0) in
+    c.truncate.ensures.items ∙ ap (take c.len-names.result) (c.in_ok-value.ensures.same ∙ entered) ∙ take_front c.args.within.now.items c.args.name.now c.len-names.result so_long
+
+pub expand_text-returns-clause-ok : goal.expand_text-returns-clause-ok
+expand_text-returns-clause-ok g t c =
     let names = c.args.within.now.items in
-    let fresh = ap (is_in c.args.name.now) (sym c.as_slice.ensures.value) ∙ sym c.is_among.ensures ∙ c.if-is_among.false in
-    let pushed = c.in_ok-push.ensures.items ∙ ap (λ n. names ++ n ∷ []) c.in_ok-from_str-2.ensures in
-    known_found finds c.args.left names c.args.name.now c.in-Some.found fresh (c.in_ok-found.ensures.ok ∙ ap Ok c.in-Some.is) (positive c.args.left c.if-left-eq0.false)
-    ∙ ap (λ m. m >>= (λ text. Ok (Some text)))
-    (subst (λ w. expanded_value (known finds (c.args.left - 1) w) (last_name w) c.in-Some.found ≡ Ok c.in_ok-value.value) pushed c.in_ok-value.ensures.ok)
+    let values = known (g.L.Lookup.finds c.args.from.now) c.args.left names in
+    let is = subst (λ w. expanded values (last_name w) c.args.text.now ≡ expanded_parts values (last_name w) (parts_in c.in_ok-parts.parts) longest) c.as_slice.ensures.value (c.in_ok-parts.ensures.ok values) in
+    same_ok c.expand_parts.result (expanded_parts values (last_name names) (parts_in c.in_ok-parts.parts) longest) (expanded values (last_name names) c.args.text.now) (sym is) c.expand_parts.ensures.ok
+
+pub expand_text-returns-clause-err : goal.expand_text-returns-clause-err
+expand_text-returns-clause-err g t c =
+    let names = c.args.within.now.items in
+    let values = known (g.L.Lookup.finds c.args.from.now) c.args.left names in
+    let is = subst (λ w. expanded values (last_name w) c.args.text.now ≡ expanded_parts values (last_name w) (parts_in c.in_ok-parts.parts) longest) c.as_slice.ensures.value (c.in_ok-parts.ensures.ok values) in
+    same_err c.expand_parts.result (expanded_parts values (last_name names) (parts_in c.in_ok-parts.parts) longest) (expanded values (last_name names) c.args.text.now) (sym is) c.expand_parts.ensures.err
+
+pub expand_part-returns-in_ok-piece-in-Ref-clause-ok : goal.expand_part-returns-in_ok-piece-in-Ref-clause-ok
+expand_part-returns-in_ok-piece-in-Ref-clause-ok g t c =
+    let names = c.args.within.now.items in
+    let values = known (g.L.Lookup.finds c.args.from.now) c.args.left names in
+    put_ok values (last_name names) c.args.part.now c.args.out.now c.in_ok-piece-in-Ref.piece c.as_str-in-Ref.result.now c.put_piece-in-Ref.new.out c.put_piece-in-Ref.result
+    (ref_is values (last_name names) c.args.part.now c.in-Ref.name c.in-Ref.is ∙ c.in_ok-piece-in-Ref.ensures.ok) c.as_str-in-Ref.ensures c.put_piece-in-Ref.ensures.fits c.put_piece-in-Ref.ensures.ok
+
+pub expand_part-returns-in_ok-piece-in-Ref-clause-err : goal.expand_part-returns-in_ok-piece-in-Ref-clause-err
+expand_part-returns-in_ok-piece-in-Ref-clause-err g t c =
+    let names = c.args.within.now.items in
+    let values = known (g.L.Lookup.finds c.args.from.now) c.args.left names in
+    put_err values names c.as_slice-in-Ref.result.now c.args.part.now c.args.out.now c.in_ok-piece-in-Ref.piece c.as_str-in-Ref.result.now c.put_piece-in-Ref.result
+    (ref_is values (last_name names) c.args.part.now c.in-Ref.name c.in-Ref.is ∙ c.in_ok-piece-in-Ref.ensures.ok) (c.as_slice-in-Ref.ensures.value ∙ c.in_ok-piece-in-Ref.ensures.same) c.as_str-in-Ref.ensures c.put_piece-in-Ref.ensures.err
