@@ -2,3 +2,4 @@ pub mod Walking
 pub mod Deepest
 pub mod Finding
 pub mod Searching
+pub mod Maps

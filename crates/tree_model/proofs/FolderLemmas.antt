@@ -21,7 +21,7 @@ use borrow.Author.Count.{below_more}
 use Rattle.tree_model.specs.declared.entry.Entry.{Entry}
 use Rattle.tree_model.specs.Path.{IsClean, IsPart, IsBelow, inside, parts_of}
 use Rattle.tree_model.specs.Tree.{Precedes, IsTree, entry_at}
-use Rattle.tree_model.specs.Folder.{placed, renamed, IsPick, rest_of, entry_behind, entries_below}
+use Rattle.tree_model.specs.Folder.{IsFirstUnclean, placed, renamed, IsPick, rest_of, entry_behind, entries_below}
 use Rattle.tree_model.proofs.TreeLemmas.{at_cons_same, at_cons_other}
 use Rattle.tree_model.proofs.EditLemmas.{all_pairs_head, all_pairs_tail, tree_same}
 
@@ -83,6 +83,16 @@ all_inside xs made i folder le so_far clean =
           let P : List ℕ → Type 0 = λ p. IsClean p in
           subst P (sym (ap (λ l. (get_or l k d).0) whole ∙ ap (λ x. x.0) (get_or-map (λ e. (inside folder e.0, e.1)) xs k d d in'))) (clean k d (omega arith)),
     )
+
+-- the first path that isn't clean under the folder's name
+pub first_unclean : (xs : List (List ℕ × Entry)) (i : ℕ) (e : List ℕ × Entry) (folder text path made : List ℕ) → i < length xs → e ≡ get_or xs i e → text ≡ e.0 → path ≡ inside folder text → made ≡ path → (IsClean made → ⊥) → ((k : ℕ) (d : List ℕ × Entry) → k < i → IsClean (inside folder (get_or xs k d).0)) → IsFirstUnclean (inside folder) xs path
+first_unclean xs i e folder text path made lt is same_text same_path same_made unclean before = record {
+  place = i;
+  within = lt;
+  is = λ d. same_path ∙ ap (inside folder) (same_text ∙ ap (λ x. x.0) (get_or_read xs i e lt is d));
+  unclean = λ h. let P : List ℕ → Type 0 = λ p. IsClean p in unclean (subst P (sym same_made) h);
+  before = before;
+}
 
 -- what `strip_prefix` answers
 pub stripped : (prefix path : List ℕ) (r : Option (Bor (List ℕ))) → MatchOption r (FindsTextPrefix prefix path None) (λ x. StripsPrefix (FindsTextPrefix prefix) path x.now) → option_copied r ≡ rest_of prefix path

@@ -1,6 +1,6 @@
 use Rattle.std.proofs.Common.{◌≡◌, ◌∙◌, sym, subst, ℕ, ◌+◌, List, Some, slice_get, take, get_or}
 use Rattle.std.specs.List.{AllZip}
-use Rattle.std.proofs.lemmas.List.{get_or_default}
+use Rattle.std.proofs.lemmas.List.{get_or_default, take_all}
 use Rattle.graph_walk.proofs.Finding.{found_more, places_more}
 use Rattle.graph_walk.proofs.frontier.Frontier.add_all.Goals as goal
 
@@ -16,3 +16,8 @@ loop-node-preserved c =
       count = c.in_ok-place.ensures.count ∙ c.loop-node.invariant.count;
       room = c.in_ok-place.ensures.room ∙ c.loop-node.invariant.room;
     }
+
+pub returns : goal.returns
+returns c =
+    let all : take c.loop-node.node-index c.args.nodes.now ≡ c.args.nodes.now = take_all c.loop-node.node-index c.args.nodes.now c.loop-node-test.false in
+    rw all at c.loop-node.invariant
