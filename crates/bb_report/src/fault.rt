@@ -1,5 +1,5 @@
 // The last line of a run that has no end.
-ghost use Rattle.std.specs.Prelude.{◌≡◌, ◌++◌, IfOk, OnOk};
+ghost use Rattle.std.specs.Prelude.{◌≡◌, ◌++◌, IfOk, OnOk, codes};
 ghost use Rattle.bb_report.specs.Texts as texts;
 
 use itoa::Buffer;
@@ -38,6 +38,23 @@ fn push_detail(made: &mut Text, detail: &[Text]) -> Result<(), Mem>
     Ok(())
 }
 
+/// Puts the line of a fault of metadata at the end.
+fn push_metadata(
+    made: &mut Text,
+    file: &str,
+    line: u32,
+    kind: &str,
+    detail: &[Text],
+) -> Result<(), Mem>
+    ensures { OnOk result (made.new ≡ made.old ++ texts.metadata_line file.now line kind.now detail.now) }
+{
+    made.push_str("fault 3 ")?;
+    push_place(made, file, line)?;
+    made.push_str(kind)?;
+    push_detail(made, detail)?;
+    made.push_str("\n")
+}
+
 /// The line of a fault of metadata.
 fn metadata_line(
     alloc: Global,
@@ -48,10 +65,17 @@ fn metadata_line(
 ) -> Result<Text, Mem>
     ensures { IfOk result (λ made. made ≡ texts.metadata_line file.now line kind.now detail.now) }
 {
-    let mut made = Text::from_str(alloc, "fault 3 ")?;
-    push_place(&mut made, file, line)?;
-    made.push_str(kind)?;
-    push_detail(&mut made, detail)?;
+    let mut made = Text::new(alloc);
+    push_metadata(&mut made, file, line, kind, detail)?;
+    Ok(made)
+}
+
+/// A text between a front and the end of its line.
+fn line_of(alloc: Global, front: &str, rest: &str) -> Result<Text, Mem>
+    ensures { IfOk result (λ made. made ≡ front.now ++ (rest.now ++ codes "\n")) }
+{
+    let mut made = Text::from_str(alloc, front)?;
+    made.push_str(rest)?;
     made.push_str("\n")?;
     Ok(made)
 }
@@ -60,10 +84,8 @@ fn metadata_line(
 fn collision_line(alloc: Global, name: &Hash) -> Result<Text, Mem>
     ensures { IfOk result (λ made. made ≡ texts.collision_line name.now) }
 {
-    let mut made = Text::from_str(alloc, "fault 8 collision ")?;
-    made.push_str(name.text(alloc)?.as_str())?;
-    made.push_str("\n")?;
-    Ok(made)
+    let digits = name.text(alloc)?;
+    line_of(alloc, "fault 8 collision ", digits.as_str())
 }
 
 /// The line of a task that gave another output than before.
@@ -82,10 +104,7 @@ fn unsteady_line(alloc: Global, pn: &str, task: &str) -> Result<Text, Mem>
 fn limit_line(alloc: Global, kind: &str) -> Result<Text, Mem>
     ensures { IfOk result (λ made. made ≡ texts.limit_line kind.now) }
 {
-    let mut made = Text::from_str(alloc, "fault 10 ")?;
-    made.push_str(kind)?;
-    made.push_str("\n")?;
-    Ok(made)
+    line_of(alloc, "fault 10 ", kind)
 }
 
 /// The last line of a status that isn't `Ok` or `TaskFailed`; that of `WriteFault` is empty (own rule).
