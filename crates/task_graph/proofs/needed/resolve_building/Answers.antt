@@ -1,3 +1,4 @@
+use Rattle.std.proofs.lemmas.List.{take_all}
 use Rattle.std.proofs.Common.{◌∙◌, sym, ap, not}
 use Rattle.std.specs.Result.{result_ok}
 use Rattle.meta_model.specs.Text.{is_in}
@@ -15,3 +16,6 @@ loop-name-preserved c =
       | else-not-is_assumed w ↦ filter_dropped (provider c.args.facts.now) (λ n. not (is_in n c.args.facts.now.assumed)) c.as_slice-name-items.result.now c.loop-name.name-index c.name-item.result c.loop-name.made c.if-not-is_assumed.made
           c.loop-name-test.true c.name-item.is (ap not (sym told ∙ w.if-not-is_assumed.false)) c.loop-name.invariant w.made-is
     ]
+
+pub returns : goal.returns
+returns c = rw (take_all _ _ c.loop-name-test.false, c.as_slice-name-items.ensures) at c.loop-name.invariant

@@ -1,3 +1,4 @@
+use Rattle.std.proofs.lemmas.List.{take_all}
 use Rattle.std.proofs.Common.{◌∙◌, sym, ap}
 use Rattle.meta_model.specs.declared.facts.Package.{Package}
 use Rattle.meta_model.specs.Providers.{runtime_provider}
@@ -13,3 +14,6 @@ loop-package-preserved c =
       found = c.in_ok-resolve_names.ensures.found ∙ rw (c.loop-package.invariant.found, c.as_slice.ensures) (sym (ap (resolved provide) step ∙ resolved_append provide _ c.package-item.result.rdepends));
       lacks = c.in_ok-resolve_names.ensures.lacks ∙ rw (c.loop-package.invariant.lacks, c.as_slice.ensures) (sym (ap (lacks_provider provide) step ∙ lacks_append provide _ c.package-item.result.rdepends));
     }
+
+pub returns : goal.returns
+returns c = rw (take_all _ _ c.loop-package-test.false, c.as_slice-package-items.ensures) at c.loop-package.invariant
