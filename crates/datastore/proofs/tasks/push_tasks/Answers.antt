@@ -1,3 +1,4 @@
+use Rattle.std.proofs.lemmas.List.{take_all}
 use Rattle.std.proofs.Common.{◌∙◌, ap, ◌++◌, ◌∷◌, [], map, take, append_assoc}
 use Rattle.datastore.specs.Orders.{with_order}
 use Rattle.datastore.proofs.Orders.{map_turn}
@@ -12,3 +13,6 @@ loop-task-preserved c = λ list orders set.
     c.in_ok-push_task.ensures list orders set ∙ ap (λ m. m ++ with_order list x ∷ []) (c.loop-task.invariant list orders set)
     ∙ append_assoc before (map (with_order list) (take i xs)) (with_order list x ∷ [])
     ∙ ap (λ m. before ++ m) (map_turn (with_order list) xs i x c.task-item.is c.loop-task-test.true)
+
+pub returns : goal.returns
+returns c = rw (take_all _ _ c.loop-task-test.false) at c.loop-task.invariant
