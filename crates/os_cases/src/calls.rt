@@ -5,11 +5,13 @@
 //   layers read MAX PATH            disk read PATH             bench K put KIND PATH TEXT
 //                                   disk write KIND PATH TEXT  bench K run SCRIPT
 //   sink TEXT                       disk remove PATH           bench K take ENTRIES LARGEST BYTES
-//                                   disk sync
+//                                   disk rename FROM TO
+//   other CALL                      disk sync
+//                                   disk moment
 //
-// KIND is `file`, `program` or `link`. `disk sync` answers what was synced, each file and folder by its path.
+// `other` makes a call of the disk on another object over the same folder, and says what that says of its first fault. KIND is `file`, `program` or `link`. `disk sync` answers what was synced, each file and folder by its path.
 use crate::answers::{entry_of, of_a_line, of_paths, of_tree, of_word, on_a_line};
-use crate::disk_calls::disk_answer;
+use crate::disk_calls::{disk_answer, other_answer};
 use crate::rooms::{no_call, shell};
 use crate::watch::Watch;
 use outside_os::{FolderDisk, FolderLayers, ShBench, StdSink};
@@ -38,6 +40,10 @@ pub fn answer(
         }
         "layers" => layers_answer(rt, call),
         "disk" => disk_answer(rt.alloc(), disk, synced, call),
+        "other" => {
+            let watch = Watch::new(rt.clone()?, synced);
+            other_answer(rt.alloc(), watch, synced, call)
+        }
         "bench" => numbered_answer(rt, call),
         "sink" => sink_answer(rt, call),
         _ => Err(no_call()),

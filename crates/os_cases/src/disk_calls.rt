@@ -22,6 +22,8 @@ pub fn disk_answer(
         "read" => read_answer(alloc, disk.read(alloc, rest)),
         "write" => write_answer(alloc, disk, rest),
         "remove" => disk_word(alloc, disk.remove(rest)),
+        "rename" => rename_answer(alloc, disk, rest),
+        "moment" => Ok(format!(in alloc; "{}", disk.moment())?),
         "sync" => match disk.sync() {
             Ok(()) => taken(alloc, synced),
             Err(fault) => disk_word(alloc, Err(fault)),
@@ -71,4 +73,30 @@ fn write_answer(alloc: Global, disk: &mut FolderDisk<Watch<'_>>, rest: &str) -> 
         Ok(_) => Err(no_call()),
         Err(_) => disk_word(alloc, Err(DiskFault::Memory)),
     }
+}
+
+fn rename_answer(
+    alloc: Global,
+    disk: &mut FolderDisk<Watch<'_>>,
+    rest: &str,
+) -> io::Result<String> {
+    let (from, to) = rest.split_once(' ').unwrap_or((rest, ""));
+    if is_clean(to) {
+        disk_word(alloc, disk.rename(from, to))
+    } else {
+        Err(no_call())
+    }
+}
+
+/// What another disk over the same folder answers, and what it says of its first fault.
+pub fn other_answer(
+    alloc: Global,
+    rt: Watch<'_>,
+    synced: &RefCell<String>,
+    call: &str,
+) -> io::Result<String> {
+    let mut disk = FolderDisk::new(rt);
+    let said = disk_answer(alloc, &mut disk, synced, call)?;
+    let fault = disk.first_fault().unwrap_or("no fault");
+    Ok(format!(in alloc; "{said}: {fault}")?)
 }

@@ -1,4 +1,5 @@
 // The system's files, where each sync of a file or folder is written down.
+use outside_os::Locking;
 use std::alloc::{Allocator, Global};
 use std::cell::RefCell;
 use std::fs::{File, Metadata, OpenFile, OpenOptions, Permissions};
@@ -154,5 +155,11 @@ impl<'a> Write for WatchedFile<'a> {
 impl<'a> Seek for WatchedFile<'a> {
     fn seek(&mut self, to: SeekFrom) -> io::Result<u64> {
         self.file.seek(to)
+    }
+}
+
+impl<'a> Locking for Watch<'a> {
+    fn take_lock(&self, path: &str) -> io::Result<File> {
+        self.rt.take_lock(path)
     }
 }
