@@ -1,0 +1,3 @@
+pub mod Aside
+pub mod Digits
+pub mod Folders
