@@ -9,10 +9,13 @@
 //   other CALL                      disk sync
 //                                   disk moment
 //
+//   stamp stage FOLDER DIGEST       stamp put FOLDER           stamp current FOLDER       stamp invalidate FOLDER
+//
 // `other` makes a call of the disk on another object over the same folder, and says what that says of its first fault. KIND is `file`, `program` or `link`. `disk sync` answers what was synced, each file and folder by its path.
 use crate::answers::{entry_of, of_a_line, of_paths, of_tree, of_word, on_a_line};
 use crate::disk_calls::{disk_answer, other_answer};
 use crate::rooms::{no_call, shell};
+use crate::stamp_calls::stamp_answer;
 use crate::watch::Watch;
 use outside_os::{FolderDisk, FolderLayers, ShBench, StdSink};
 use outside_traits::{Bench, BenchFault, Layers, ReadFault, Sink, Taken};
@@ -40,6 +43,7 @@ pub fn answer(
         }
         "layers" => layers_answer(rt, call),
         "disk" => disk_answer(rt.alloc(), disk, synced, call),
+        "stamp" => stamp_answer(rt.alloc(), disk, call),
         "other" => {
             let watch = Watch::new(rt.clone()?, synced);
             other_answer(rt.alloc(), watch, synced, call)

@@ -40,7 +40,8 @@ fn taken(alloc: Global, synced: &RefCell<String>) -> io::Result<String> {
     }
 }
 
-fn disk_word(alloc: Global, done: Result<(), DiskFault>) -> io::Result<String> {
+/// What a call without a value answered.
+pub fn disk_word(alloc: Global, done: Result<(), DiskFault>) -> io::Result<String> {
     let word = match done {
         Ok(()) => "ok",
         Err(DiskFault::Failed) => "failed",

@@ -11,6 +11,7 @@ mod answers;
 mod calls;
 mod disk_calls;
 mod rooms;
+mod stamp_calls;
 mod watch;
 
 use calls::answer;
