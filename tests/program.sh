@@ -55,11 +55,12 @@ holds() {
     fi
 }
 
-# Runs a command, with its status in `status` and its text in the file `text`. What it writes to standard error is
-# text too: the program has none.
+# Runs a command, with its status in `status`, its text in the file `text`, and what it writes to standard error in the
+# file `said`. The program writes the devices' sentences there; anything else is text too.
 runs() {
-    "$@" >"$room/text" 2>&1 </dev/null
+    "$@" >"$room/text" 2>"$room/said" </dev/null
     status=$?
+    grep -v '^bitbake: [a-z]*: ' "$room/said" >>"$room/text"
 }
 
 plan='plan 1 tasks, 4 threads
@@ -357,9 +358,44 @@ project disk
 recipe hello 'echo hello > hello.txt'
 echo file >build
 runs "$bitbake" hello
-wants "a file where the disk and the benches should be" 5 "$plan
-broke hello:do_build bench
-fault 5 bench"
+wants "a file where the disk and the benches should be" 4 "$plan
+broke hello:do_build fault
+fault 4 disk"
+holds "it says why" grep -q '^bitbake: disk: sync of build: ' "$room/said"
+
+project turns
+recipe hello 'echo >started; sleep 3; echo hello > hello.txt'
+"$program" hello >"$room/first" 2>&1 </dev/null &
+first=$!
+for _ in 1 2 3 4 5 6 7 8 9 10; do
+    test -e build/bench/16/work/started && break
+    sleep 0.2
+done
+runs "$program" hello
+wants "a run beside another" 4 "$plan
+broke hello:do_build fault
+fault 4 disk"
+holds "it says that another is at work" grep -qx 'bitbake: disk: sync of build: another run is at work in this folder' "$room/said"
+wait "$first"
+holds "the other ends well" test $? -eq 0 -a "$(cat build/work/hello/do_build/hello.txt)" = hello
+runs "$program" hello
+wants "a run behind it" 0 "$done_text"
+holds "without a fault nothing is said" test ! -s "$room/said"
+
+project full
+recipe hello 'head -c 200000 /dev/zero > hello.txt'
+mkdir build
+if mount -t tmpfs -o size=64k none build 2>/dev/null; then
+    mkdir -p "$room/benches" build/bench && mount --bind "$room/benches" build/bench
+    runs "$program" hello
+    wants "a full disk" 4 "$plan
+broke hello:do_build fault
+fault 4 disk"
+    holds "it says that it is full" grep -qx 'bitbake: disk: write of build/work/hello/do_build/hello.txt: No space left on device (os error 28)' "$room/said"
+    umount build/bench build
+else
+    echo "skipped a full disk: this user may not mount one"
+fi
 
 project shell
 recipe hello 'echo hello > hello.txt'
@@ -489,6 +525,21 @@ if [ "$(id -u)" -ne 0 ] || command -v setpriv >/dev/null 2>&1; then
 b'
 else
     echo "skipped folders and files that are shut: this is root, and there is no setpriv"
+fi
+
+project shut
+recipe hello 'echo hello > hello.txt'
+mkdir build && chmod 555 build
+if [ "$(id -u)" -ne 0 ]; then
+    runs "$bitbake" hello
+elif command -v setpriv >/dev/null 2>&1; then
+    runs setpriv --reuid=65534 --regid=65534 --clear-groups "$room/program" hello
+fi
+if [ "$(id -u)" -ne 0 ] || command -v setpriv >/dev/null 2>&1; then
+    wants "a disk that may not be written" 4 "$plan
+broke hello:do_build fault
+fault 4 disk"
+    holds "it says so" grep -qx 'bitbake: disk: sync of build: Permission denied (os error 13)' "$room/said"
 fi
 
 # The case files, by this program over real folders.

@@ -43,7 +43,20 @@ fn run(rt: &HostRuntime) -> io::Result<u8> {
     let disk = FolderDisk::new(rt.clone()?);
     let sink = StdSink::new(rt.clone()?);
     let finish = bitbake(rt.alloc(), &words, layers, disk, benches, sink);
+    tell(rt, "layers", finish.layers.first_fault());
+    tell(rt, "disk", finish.disk.first_fault());
+    for bench in &finish.benches {
+        tell(rt, "bench", bench.first_fault());
+    }
+    tell(rt, "output", finish.sink.first_fault());
     Ok(finish.status.code())
+}
+
+/// Says on standard error what a device says of its first fault. Where that can't be written the status says it alone.
+fn tell(rt: &HostRuntime, device: &str, fault: Option<&str>) {
+    if let Some(sentence) = fault {
+        let _ = eprintln!(rt; "bitbake: {device}: {sentence}");
+    }
 }
 
 /// The words after the program's name.

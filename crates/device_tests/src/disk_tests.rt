@@ -2,12 +2,12 @@
 ghost use Rattle.std.specs.Prelude.{◌≡◌, ◌≤◌, All, IfOk, IsTrue};
 ghost use Rattle.tree_model.specs.Path.{IsClean, inside};
 
-use crate::samples::tree_files;
-use outside_mem::{FailDisk, MemDisk};
-use outside_traits::{Disk, DiskFault, put_tree};
+use crate::samples::{named, tree_files};
+use outside_mem::{FailDisk, FuseDisk, MemDisk};
+use outside_traits::{Disk, DiskFault, put_tree, read_tree};
 use std::alloc::Global;
 use std::test::Fail;
-use tree_model::{Mem, Text, Tree, TreeFault, is_clean};
+use tree_model::{Mem, Size, Text, Tree, TreeFault, is_clean};
 
 /// A disk with an old output and one of another task.
 fn sample(alloc: Global) -> Result<MemDisk, TreeFault> {
@@ -82,6 +82,62 @@ fn disk_tells(rt: HostRuntime) -> Result<(), Fail> {
     let found = publish(alloc, &mut disk, "work/hello", &tree)?;
     assert_eq!(rt; found.as_str(), PUBLISHED);
     assert_eq!(rt; disk.held().len(), 3);
+    assert_eq!(rt; disk.moment(), 11);
+    Ok(())
+}
+
+/// The limit of a tree that is read, but for its number of entries.
+fn limit(entries: u64) -> Size {
+    Size {
+        entries,
+        largest: 5,
+        bytes: 10,
+    }
+}
+
+#[test]
+fn folder_is_read(rt: HostRuntime) -> Result<(), Fail> {
+    let alloc = rt.alloc();
+    let mut disk = MemDisk::new(alloc, tree_files(alloc, "a/c/d", "a/b")?)?;
+    match read_tree(alloc, &mut disk, "a", limit(2))? {
+        Some(tree) => assert_eq!(rt; named(alloc, &tree)?.as_str(), "b=text\n c/d=text\n "),
+        None => assert!(rt; false),
+    }
+    assert!(rt; read_tree(alloc, &mut disk, "a", limit(1))?.is_none());
+    Ok(())
+}
+
+/// What a crash leaves of a tree that isn't synced yet, and of one that is. (The two paths of the tree, the old one, and
+/// the folder's own with the one above it are touched.)
+#[test]
+fn images_of_a_disk(rt: HostRuntime) -> Result<(), Fail> {
+    let alloc = rt.alloc();
+    let tree = tree(alloc)?;
+    let mut disk = sample(alloc)?;
+    assert!(rt; fits(alloc, "work/hello", &tree)?);
+    put_tree(alloc, &mut disk, "work/hello", &tree)?;
+    for (pick, left) in [(0, 3), (1, 1), (2, 3), (1 << 8, 2)] {
+        assert_eq!(rt; disk.image(pick)?.held().len(), left);
+    }
+    disk.sync()?;
+    assert_eq!(rt; disk.image(1)?.held().len(), 3);
+    Ok(())
+}
+
+/// A run makes 11 calls. One with fewer fails, and so does the next; each image of what it left is a disk again.
+#[test]
+fn fuse_disk_fails(rt: HostRuntime) -> Result<(), Fail> {
+    let alloc = rt.alloc();
+    let tree = tree(alloc)?;
+    assert!(rt; fits(alloc, "work/hello", &tree)?);
+    for calls in 0..=11 {
+        let mut disk = FuseDisk::new(sample(alloc)?, calls);
+        assert_eq!(rt; publish(alloc, &mut disk, "work/hello", &tree).is_err(), calls < 11);
+        assert!(rt; publish(alloc, &mut disk, "work/hello", &tree).is_err());
+        let mut left = disk.into_disk().image(1)?;
+        let found = publish(alloc, &mut left, "work/hello", &tree)?;
+        assert_eq!(rt; found.as_str(), PUBLISHED);
+    }
     Ok(())
 }
 

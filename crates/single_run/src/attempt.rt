@@ -122,8 +122,31 @@ pub fn try_unless<D: Disk, B: Bench>(
     try_task(alloc, recipe, disk, bench)
 }
 
-/// Runs the task's script and puts what it gives into the task's work folder.
+/// Calls the disk, and then tries the task. A disk that another run works with fails at its first call, so that no bench
+/// is touched then.
 fn try_task<D: Disk, B: Bench>(
+    alloc: Global,
+    recipe: &Recipe,
+    disk: &mut D,
+    bench: &mut B,
+) -> Attempt
+    requires reach { 3900 ≤ D.reach }
+    requires name { is_pn recipe.now.name ≡ true }
+    ensures did { B.tells → DidAttempt D.tells (clean_task (B.gives bench.old) recipe.now.body) (work_folder recipe.now.name) (D.story disk.new).held result }
+    ensures ran { B.tells → RanFor (B.place bench.old).runs (B.place bench.new).runs recipe.now.body (closing_of result) }
+    ensures tried { result ≡ Attempt.Write → ⊥ }
+    ensures disk_cause { Counts (D.faults disk.old) (D.faults disk.new) (is_disk result) }
+    ensures bench_cause { Counts (B.faults bench.old) (B.faults bench.new) (is_bench result) }
+{
+    match disk.sync() {
+        Ok(()) => run_and_put(alloc, recipe, disk, bench),
+        Err(DiskFault::Failed) => Attempt::Disk,
+        Err(DiskFault::Memory) => Attempt::Memory,
+    }
+}
+
+/// Runs the task's script and puts what it gives into the task's work folder.
+fn run_and_put<D: Disk, B: Bench>(
     alloc: Global,
     recipe: &Recipe,
     disk: &mut D,
