@@ -132,7 +132,10 @@ fn fuse_disk_fails(rt: HostRuntime) -> Result<(), Fail> {
     assert!(rt; fits(alloc, "work/hello", &tree)?);
     for calls in 0..=11 {
         let mut disk = FuseDisk::new(sample(alloc)?, calls);
-        assert_eq!(rt; publish(alloc, &mut disk, "work/hello", &tree).is_err(), calls < 11);
+        assert_eq!(rt;
+            publish(alloc, &mut disk, "work/hello", &tree).is_err(),
+            calls < 11
+        );
         assert!(rt; publish(alloc, &mut disk, "work/hello", &tree).is_err());
         let mut left = disk.into_disk().image(1)?;
         let found = publish(alloc, &mut left, "work/hello", &tree)?;
