@@ -4,13 +4,14 @@
 Usage: bench/gate_minutes.py [--log FILE] [--into FILE] [--anew] [CRATE ..]
   --log FILE     where what `rt ci` prints is written (gate.log in the folder for temporary files)
   --into FILE    puts the table between the two marks of this file, as docs/GATE.md has them, in place of printing it
-  --anew         proves everything, also what an earlier run on this machine proved
-  CRATE ..       these crates and those below them alone, as `rt ci CRATE ..` does
+  --anew         proves everything, also what an earlier run on this machine proved (a kit whose `rt ci` keeps nothing always does)
+  CRATE ..       these crates and those below them alone, as `rt ci CRATE ..` does where the kit has that
 
 The gate prints no times, so this looks ten times a second at the processor time of each process that `rt ci` has started, and
 counts it for a crate by the words the process was started with: its proof, its tests, the check that its must-fail edits begin
-with, each edit, and the rest (compiling, linking, tests and programs that run, and `rt` itself). What a process used in its last
-tenth of a second is lost for the crate, and stands in the sum alone, which the system counts.
+with, each edit, and the rest (compiling, linking, tests and programs that run, and `rt` itself). Where the kit has no check of
+its own before the edits, the first edit is tried from nothing, and counts as that check, as does the closing one. What a process
+used in its last tenth of a second is lost for the crate, and stands in the sum alone, which the system counts.
 """
 import argparse
 import collections
@@ -50,8 +51,8 @@ def kind_of(words):
     if found:
         return crate, "seed" if found[1] == "seed" else f"edit {found[1]}"
     if "/rt-edit-" in words[0]:
-        # (an edit that is tried alone, from nothing)
-        return crate, "edit 0"
+        # (which edit it is, the order of the checks says)
+        return crate, "edit"
     if "--test" in words:
         return crate, "tests"
     return crate, "proof" if words[2:3] in (["build"], ["check"]) else "rest"
@@ -69,10 +70,19 @@ def watch(words, log):
                 used[number, start] = seconds, kind if kind[0] else used.get((number, start), (0, kind))[1]
             time.sleep(0.1)
     sums = collections.defaultdict(float)
-    for seconds, kind in used.values():
-        sums[kind] += seconds
+    for (_, start), (seconds, kind) in used.items():
+        sums[numbered(kind, int(start), used)] += seconds
     whole = resource.getrusage(resource.RUSAGE_CHILDREN)
     return ran.returncode, sums, whole.ru_utime + whole.ru_stime
+
+
+def numbered(kind, start, used):
+    """The kind of a check whose place among the crate's checks of edits says which it is: the first is made from nothing, the last of more is the closing one."""
+    crate, what = kind
+    if what != "edit":
+        return kind
+    place = sum(1 for (_, other), (_, its) in used.items() if its == kind and int(other) < start)
+    return crate, f"edit {place}" if 0 < place < len(edits_of(crate)) else "seed"
 
 
 def lines_of(crate, *patterns):
@@ -127,7 +137,9 @@ def main():
     given = given.parse_args()
     began = time.time()
     commit = subprocess.run(["git", "rev-parse", "--short", "HEAD"], capture_output=True, text=True).stdout.strip()
-    status, sums, whole = watch(["rt", "ci", *["--anew"] * given.anew, *given.crates], given.log)
+    told = subprocess.run(["rt", "help"], stdout=subprocess.PIPE, stderr=subprocess.STDOUT, text=True).stdout
+    keeps = "--anew" in told
+    status, sums, whole = watch(["rt", "ci", *["--anew"] * (given.anew and keeps), *given.crates], given.log)
     last = open(given.log, errors="replace").read().rstrip("\n").rpartition("\n")[2]
     head = f"Commit {commit}, {os.cpu_count()} processors, {(time.time() - began) / 60:.0f} minutes by the clock: `{last}`."
     text = "\n".join([head, "", *table(sums, whole)]) + "\n"

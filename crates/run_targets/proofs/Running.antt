@@ -1,5 +1,5 @@
 -- A run of what is asked for, as one of the words.
-use Rattle.std.proofs.Common.{◌≡◌, subst, sym, ◌∙◌, ap, ℕ, List, ◌⊎◌, inl, inr, Option, Ok}
+use Rattle.std.proofs.Common.{◌≡◌, subst, sym, ℕ, List, ◌⊎◌, inl, inr, Option, Result, Ok, Err, IfOk}
 use Rattle.meta_model.specs.declared.event.Status.{Status}
 use Rattle.meta_model.specs.declared.event.Status.TheVariants.{OutOfMemory}
 use Rattle.meta_model.specs.declared.facts.Graph.{Graph}
@@ -39,3 +39,8 @@ pub asking_refused : (files : List ℕ → Option (List ℕ)) (paths words : Lis
 asking_refused files paths words task status (inl out) = inl (inl out)
 asking_refused files paths words task status (inr (inl read)) = inl (inr read)
 asking_refused files paths words task status (inr (inr e)) = inr (asking e)
+
+-- two things that hold of an answer give a third
+pub ok_and_ok : {X Y : Type 0} (r : Result X Y) (P Q R : X → Type 0) → ((x : X) → P x → Q x → R x) → IfOk r P → IfOk r Q → IfOk r R
+ok_and_ok (Ok x) P Q R f p q = f x p q
+ok_and_ok (Err e) P Q R f p q = tt

@@ -6,8 +6,7 @@ ghost use Rattle.project_reading.specs.Answered.{is_refusal, mode_failed};
 ghost use Rattle.project_reading.specs.Said.{threads_status};
 ghost use Rattle.run_targets.specs.Refused.{IsGraphStatus};
 ghost use Rattle.run_targets.specs.Meaning.{asked_meant};
-ghost use Rattle.run_targets.specs.Runs.{HasGraph, HasThreads};
-ghost use Rattle.run_targets.specs.Steps.{HasNoThreads, IsDeviceStatus};
+ghost use Rattle.run_targets.specs.Runs.{HasGraph, HasNoThreads, HasThreads, IsDeviceStatus};
 
 use crate::asked::{Asked, config_text};
 use meta_model::{Graph, Status};

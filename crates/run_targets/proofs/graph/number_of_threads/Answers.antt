@@ -4,7 +4,7 @@ use Rattle.meta_model.specs.Threads.{AreThreads}
 use Rattle.recipe_facts.proofs.Binding.{if_err_weaker}
 use Rattle.project_reading.specs.Said.{threads_status}
 use Rattle.run_targets.specs.Meaning.{asked_meant}
-use Rattle.run_targets.specs.Steps.{IsDeviceStatus, HasNoThreads}
+use Rattle.run_targets.specs.Runs.{IsDeviceStatus, HasNoThreads}
 use Rattle.run_targets.proofs.Told.{threads_told}
 use Rattle.run_targets.proofs.graph.number_of_threads.Goals as goal
 

@@ -1,13 +1,23 @@
-use Rattle.std.proofs.Common.{subst, ℕ, List, [], Option}
+use Rattle.std.proofs.Common.{◌≡◌, ℕ, List, []}
 use Rattle.std.specs.Option.{option_copied}
-use Rattle.std.proofs.lemmas.Result.{IfOk-weaker}
 use Rattle.outside_traits.specs.Store.{IsListing}
 use Rattle.load_model.specs.Loading.{sources_of}
 use Rattle.recipe_facts.proofs.Binding.{if_err_weaker}
 use Rattle.run_targets.specs.Meaning.{asked_meant}
 use Rattle.run_targets.specs.Runs.{HasRun, HasNoRun, IsRun, IsNoRun}
-use Rattle.run_targets.proofs.Running.{run_asked, no_run_asked, asking_refused}
+use Rattle.run_targets.proofs.Running.{run_asked, ok_and_ok, no_run_asked, asking_refused}
 use Rattle.run_targets.proofs.run.find_run.Goals as goal
+
+pub returns-in-Ok-clause-ok : goal.returns-in-Ok-clause-ok
+returns-in-Ok-clause-ok g c =
+    let files = g.L.Layers.files c.args.layers.now in
+    let what = asked_meant c.in-Ok.asked in
+    let words = c.args.words.now in
+    let task = option_copied c.args.task in
+    ok_and_ok c.run_of.result (λ run. asked_meant run.asked ≡ what) (λ run. HasRun what run.graph run.threads)
+    (λ run. g.L.Layers.tells → (paths : List (List ℕ)) → IsListing [] files paths → IsRun (sources_of files) paths words task (asked_meant run.asked) run.graph run.threads)
+    (λ run same has told paths listing. run_asked files paths words task what (asked_meant run.asked) run.graph run.threads (c.in-Ok.ensures.ok told paths listing) same has)
+    c.run_of.ensures.asked c.run_of.ensures.ok
 
 pub returns-in-Ok-clause-err : goal.returns-in-Ok-clause-err
 returns-in-Ok-clause-err g c =
