@@ -108,7 +108,7 @@ pub fn find_single<L: Layers>(
     ensures cause { Counts (L.faults layers.old) (L.faults layers.new) (mode_failed result) }
 {
     match find_run(alloc, layers, words, task) {
-        Ok(run) => single_in(alloc, layers, &run.asked, &run.graph),
+        Ok(found) => single_in(alloc, layers, &found.asked, &found.graph),
         Err(status) => Err(status),
     }
 }

@@ -14,13 +14,13 @@ pub returns-in-Ok-clause-ok : goal.returns-in-Ok-clause-ok
 returns-in-Ok-clause-ok g c =
     let files = g.L.Layers.files c.args.layers.now in
     let later = g.L.Layers.files c.find_run.new.layers in
-    let what = asked_meant c.in-Ok.run.asked in
-    let graph = c.in-Ok.run.graph in
+    let what = asked_meant c.in-Ok.found.asked in
+    let graph = c.in-Ok.found.graph in
     let words = c.args.words.now in
     let task = option_copied c.args.task in
     IfOk-weaker c.single_in.result (λ single. g.L.Layers.tells → IsBuilt later what graph single.name single.body)
     (λ single. g.L.Layers.tells → (paths : List (List ℕ)) → IsListing [] files paths → IsSingle files paths words task single.name single.body)
-    (λ single h told paths listing. single_found files paths words task what graph c.in-Ok.run.threads single.name single.body (c.in-Ok.ensures.ok told paths listing)
+    (λ single h told paths listing. single_found files paths words task what graph c.in-Ok.found.threads single.name single.body (c.in-Ok.ensures.ok told paths listing)
     (subst (λ (f : List ℕ → Option (List ℕ)). IsBuilt f what graph single.name single.body) c.in-Ok.ensures.same (h told)))
     c.single_in.ensures.ok
 
@@ -28,13 +28,13 @@ pub returns-in-Ok-clause-err : goal.returns-in-Ok-clause-err
 returns-in-Ok-clause-err g c =
     let files = g.L.Layers.files c.args.layers.now in
     let later = g.L.Layers.files c.find_run.new.layers in
-    let what = asked_meant c.in-Ok.run.asked in
-    let graph = c.in-Ok.run.graph in
+    let what = asked_meant c.in-Ok.found.asked in
+    let graph = c.in-Ok.found.graph in
     let words = c.args.words.now in
     let task = option_copied c.args.task in
     if_err_weaker c.single_in.result (λ status. g.L.Layers.tells → IsDeviceStatus status ⊎ IsNoForm later what graph status)
     (λ status. g.L.Layers.tells → (paths : List (List ℕ)) → IsListing [] files paths → IsNoSingle files paths words task status)
-    (λ status h told paths listing. other_found files paths words task what graph c.in-Ok.run.threads status (c.in-Ok.ensures.ok told paths listing)
+    (λ status h told paths listing. other_found files paths words task what graph c.in-Ok.found.threads status (c.in-Ok.ensures.ok told paths listing)
     (subst (λ (f : List ℕ → Option (List ℕ)). IsDeviceStatus status ⊎ IsNoForm f what graph status) c.in-Ok.ensures.same (h told)))
     c.single_in.ensures.err
 
