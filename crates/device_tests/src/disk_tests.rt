@@ -116,7 +116,7 @@ fn images_of_a_disk(rt: HostRuntime) -> Result<(), Fail> {
     let mut disk = sample(alloc)?;
     assert!(rt; fits(alloc, "work/hello", &tree)?);
     put_tree(alloc, &mut disk, "work/hello", &tree)?;
-    for (pick, left) in [(0, 3), (1, 1), (2, 3), (1 << 8, 2)] {
+    for (pick, left) in [(0, 3), (1, 1), (2, 3), (1 << 8, 3)] {
         assert_eq!(rt; disk.image(pick)?.held().len(), left);
     }
     disk.sync()?;

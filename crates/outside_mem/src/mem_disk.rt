@@ -53,8 +53,8 @@ impl MemDisk {
 
     /// A fresh disk that holds what a crash now may leave. The number picks one of all that may be left: with 0 the
     /// paths that were written since the last sync or rename are as they are held, with 1 they are gone, and with 2
-    /// their files are cut in the middle. Of a greater number two bits after another pick that for each such path: 1
-    /// and 2 as above, 0 and 3 leave it as it is held.
+    /// their files are cut in the middle. Of a greater number the two bits from the path's number on pick that for each
+    /// such path: 1 and 2 as above, 0 and 3 leave it as it is held.
     pub fn image(&self, pick: u64) -> Result<MemDisk, Mem>
         ensures image { IfOk result (λ disk. IsImage (story_of self.now) (story_of disk).held) }
         ensures fresh { IfOk result (λ disk. IsFresh (story_of disk)) }
