@@ -46,12 +46,27 @@ value_forms_of s = first_there (assignment false s
     ∷ flag_unset s
     ∷ [])
 
+-- the first of these that fits, of those behind an assignment
+abbrev pub later_value_forms_of : List ℕ → Option Fit
+later_value_forms_of s = first_there (flag_assignment s
+    ∷ with_name (codes "export") Export s
+    ∷ with_name (codes "unset") Unset s
+    ∷ flag_unset s
+    ∷ [])
+
 -- the first form that fits, of those with a text or words behind a word of the language
 abbrev pub directive_forms_of : List ℕ → Option Fit
 directive_forms_of s = first_there (with_text (codes "include") Include s
     ∷ with_text (codes "require") Require s
     ∷ with_text (codes "inherit") Inherit s
     ∷ with_words (codes "EXPORT_FUNCTIONS") (λ ws. Some (ExportFunctions ws)) s
+    ∷ with_words (codes "addtask") task_parts s
+    ∷ with_words (codes "deltask") task_names s
+    ∷ [])
+
+-- the first of these that fits, of those with words
+abbrev pub word_forms_of : List ℕ → Option Fit
+word_forms_of s = first_there (with_words (codes "EXPORT_FUNCTIONS") (λ ws. Some (ExportFunctions ws)) s
     ∷ with_words (codes "addtask") task_parts s
     ∷ with_words (codes "deltask") task_names s
     ∷ [])
