@@ -58,47 +58,92 @@ fn parts_of(alloc: Global, word: &str) -> Result<(Text, Text), Mem> {
     }
 }
 
+/// A task of no name, which needs nothing.
+pub fn empty_task(alloc: Global) -> TaskFacts {
+    TaskFacts {
+        task: Text::new(alloc),
+        after: Texts::new(alloc),
+        depends: ListOf::new(alloc),
+        deptask: Texts::new(alloc),
+        rdeptask: Texts::new(alloc),
+        recrdeptask: Texts::new(alloc),
+    }
+}
+
+fn fill_task(alloc: Global, task: &mut TaskFacts, line: &str) -> Result<(), Mem> {
+    task.task = name_behind(alloc, line, "task")?;
+    task.after = behind(alloc, line, "after")?;
+    task.depends = task_words(alloc, line)?;
+    task.deptask = behind(alloc, line, "deptask")?;
+    task.rdeptask = behind(alloc, line, "rdeptask")?;
+    task.recrdeptask = behind(alloc, line, "recrdeptask")?;
+    Ok(())
+}
+
 /// A task, from `task NAME after .. depends NAME:TASK .. deptask .. rdeptask .. recrdeptask ..`.
 fn read_task(alloc: Global, line: &str) -> Result<TaskFacts, Mem> {
-    Ok(TaskFacts {
-        task: name_behind(alloc, line, "task")?,
-        after: behind(alloc, line, "after")?,
-        depends: task_words(alloc, line)?,
-        deptask: behind(alloc, line, "deptask")?,
-        rdeptask: behind(alloc, line, "rdeptask")?,
-        recrdeptask: behind(alloc, line, "recrdeptask")?,
-    })
+    let mut task = empty_task(alloc);
+    fill_task(alloc, &mut task, line)?;
+    Ok(task)
 }
 
 /// The one package of a recipe, of its own name.
-fn packages_of(alloc: Global, line: &str) -> Result<ListOf<Package>, Mem> {
-    let mut packages = ListOf::new(alloc);
-    packages.push(Package {
+fn package_of(alloc: Global, line: &str) -> Result<Package, Mem> {
+    Ok(Package {
         name: name_behind(alloc, line, "recipe")?,
         rdepends: behind(alloc, line, "rdepends")?,
         rprovides: Texts::new(alloc),
-    })?;
-    Ok(packages)
+    })
 }
 
-/// A recipe, from `recipe PN provides .. depends .. rdepends ..`.
-fn read_recipe(alloc: Global, line: &str) -> Result<RecipeFacts, Mem> {
-    Ok(RecipeFacts {
-        file: Text::from_str(alloc, "recipes/x.bb")?,
-        pn: name_behind(alloc, line, "recipe")?,
-        pv: Text::from_str(alloc, "1.0")?,
-        pr: Text::from_str(alloc, "r0")?,
-        provides: behind(alloc, line, "provides")?,
-        depends: behind(alloc, line, "depends")?,
-        packages: packages_of(alloc, line)?,
-        tasks: ListOf::new(alloc),
-    })
+/// A recipe of no name, with these tasks.
+fn empty_recipe(alloc: Global, tasks: ListOf<TaskFacts>) -> RecipeFacts {
+    RecipeFacts {
+        file: Text::new(alloc),
+        pn: Text::new(alloc),
+        pv: Text::new(alloc),
+        pr: Text::new(alloc),
+        provides: Texts::new(alloc),
+        depends: Texts::new(alloc),
+        packages: ListOf::new(alloc),
+        tasks,
+    }
+}
+
+fn fill_recipe(alloc: Global, recipe: &mut RecipeFacts, line: &str) -> Result<(), Mem> {
+    recipe.file = Text::from_str(alloc, "recipes/x.bb")?;
+    recipe.pn = name_behind(alloc, line, "recipe")?;
+    recipe.pv = Text::from_str(alloc, "1.0")?;
+    recipe.pr = Text::from_str(alloc, "r0")?;
+    recipe.provides = behind(alloc, line, "provides")?;
+    recipe.depends = behind(alloc, line, "depends")?;
+    recipe.packages.push(package_of(alloc, line)?)
+}
+
+/// A recipe with these tasks, from `recipe PN provides .. depends .. rdepends ..`.
+pub fn read_recipe(
+    alloc: Global,
+    line: &str,
+    tasks: ListOf<TaskFacts>,
+) -> Result<RecipeFacts, Mem> {
+    let mut recipe = empty_recipe(alloc, tasks);
+    fill_recipe(alloc, &mut recipe, line)?;
+    Ok(recipe)
+}
+
+/// The facts of some recipes.
+pub fn facts_of(alloc: Global, recipes: Vec<RecipeFacts>) -> FactSet {
+    FactSet {
+        recipes: ListOf::from_vec(recipes),
+        preferred: ListOf::new(alloc),
+        assumed: Texts::new(alloc),
+    }
 }
 
 /// Puts a line's recipe behind the others, or its task into the last one.
 fn put_line(alloc: Global, recipes: &mut Vec<RecipeFacts>, line: &str) -> Result<(), Mem> {
     if line.starts_with("recipe") {
-        Ok(recipes.push(read_recipe(alloc, line)?)?)
+        Ok(recipes.push(read_recipe(alloc, line, ListOf::new(alloc))?)?)
     } else {
         match recipes.last_mut() {
             Some(recipe) => recipe.tasks.push(read_task(alloc, line)?),
@@ -113,11 +158,7 @@ pub fn facts(alloc: Global, text: &str) -> Result<FactSet, Mem> {
     for line in text.split('\n') {
         put_line(alloc, &mut recipes, line)?;
     }
-    Ok(FactSet {
-        recipes: ListOf::from_vec(recipes),
-        preferred: ListOf::new(alloc),
-        assumed: Texts::new(alloc),
-    })
+    Ok(facts_of(alloc, recipes))
 }
 
 /// Targets, from words NAME:TASK.

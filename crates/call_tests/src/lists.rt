@@ -1,19 +1,33 @@
 // Lists of the plain values.
 use meta_model::ListOf;
+use std::alloc::Global;
 use tree_model::{Mem, Text};
+
+/// The numbers 7 and 9.
+fn numbers(alloc: Global) -> Result<ListOf<u32>, Mem> {
+    let mut numbers = ListOf::new(alloc);
+    numbers.push(7)?;
+    numbers.push(9)?;
+    Ok(numbers)
+}
+
+/// One pair of texts.
+fn pairs(alloc: Global) -> Result<ListOf<(Text, Text)>, Mem> {
+    let mut pairs = ListOf::new(alloc);
+    pairs.push((Text::from_str(alloc, "func")?, Text::from_str(alloc, "1")?))?;
+    Ok(pairs)
+}
 
 #[test]
 fn lists_hold_what_is_put_there(rt: HostRuntime) -> Result<(), Mem> {
     let alloc = rt.alloc();
-    let mut numbers: ListOf<u32> = ListOf::new(alloc);
-    assert!(rt; numbers.is_empty());
-    numbers.push(7)?;
-    numbers.push(9)?;
-    assert_eq!(rt; numbers.len(), 2);
-    assert_eq!(rt; numbers.as_slice()[1], 9);
+    let none: ListOf<u32> = ListOf::new(alloc);
+    assert!(rt; none.is_empty());
 
-    let mut pairs: ListOf<(Text, Text)> = ListOf::new(alloc);
-    pairs.push((Text::from_str(alloc, "func")?, Text::from_str(alloc, "1")?))?;
+    let numbers = numbers(alloc)?;
+    assert_eq!(rt; numbers.as_slice(), [7, 9].as_slice());
+
+    let pairs = pairs(alloc)?;
     assert!(rt; !pairs.is_empty());
     assert_eq!(rt; pairs.as_slice()[0].0.as_str(), "func");
     assert_eq!(rt; pairs.as_slice()[0].1.as_str(), "1");

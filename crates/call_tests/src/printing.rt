@@ -4,7 +4,16 @@ use meta_model::{Kind, Op, Statement};
 use std::alloc::Global;
 use std::process::Abort;
 use std::test::Fail;
-use tree_model::{Text, Texts};
+use tree_model::{Mem, Text, Texts};
+
+/// A file, and its statements as they are written.
+type Row = (&'static [u8], &'static [u8]);
+
+/// Puts a statement at the end, as it is written.
+fn put_written(alloc: Global, all: &mut Vec<u8>, statement: &Statement) -> Result<(), Fail> {
+    let text = print(alloc, statement)?;
+    Ok(all.extend_from_slice(text.as_str().as_bytes())?)
+}
 
 /// The statements of a class of these bytes, each as it is written.
 fn written_again(rt: &impl Abort, alloc: Global, bytes: &[u8]) -> Result<Vec<u8>, Fail> {
@@ -12,16 +21,30 @@ fn written_again(rt: &impl Abort, alloc: Global, bytes: &[u8]) -> Result<Vec<u8>
     let list = parse(alloc, Kind::Class, bytes)?;
     let mut all = Vec::new(alloc);
     for (_, statement) in list.as_slice() {
-        let text = print(alloc, statement)?;
-        all.extend_from_slice(text.as_str().as_bytes())?;
+        put_written(alloc, &mut all, statement)?;
     }
     Ok(all)
+}
+
+/// Asserts that the statements of a class of these bytes are written so.
+fn expect_written(rt: &impl Abort, alloc: Global, bytes: &[u8], want: &[u8]) -> Result<(), Fail> {
+    let again = written_again(rt, alloc, bytes)?;
+    assert_eq!(rt; again.as_slice(), want);
+    Ok(())
+}
+
+/// The same of each row.
+fn expect_rows(rt: &impl Abort, alloc: Global, rows: &[Row]) -> Result<(), Fail> {
+    for (bytes, want) in rows {
+        expect_written(rt, alloc, bytes, want)?;
+    }
+    Ok(())
 }
 
 /// Each statement is written as its line stands here.
 #[test]
 fn statements_of_the_worked_rows(rt: HostRuntime) -> Result<(), Fail> {
-    let files: [&[u8]; 10] = [
+    let files: &[&'static [u8]] = &[
         b"A = \"1\"\nA:append = \"2\"\nA:append = \"3\"\nA += \"4\"\nA .= \"5\"\n",
         b"W ??= \"x\"\nA := \"${W}\"\nW ??= \"y\"\nB := \"${W}\"\nC = \"${W}\"\nW ?= \"i\"\nW += \"y\"\nW:append = \"y\"\n",
         b"T = \"123\"\nA := \"test ${T}\"\nT = \"456\"\nB := \"${T} ${C}\"\nC = \"cval\"\nC := \"${C}append\"\n",
@@ -34,8 +57,7 @@ fn statements_of_the_worked_rows(rt: HostRuntime) -> Result<(), Fail> {
         b"do_gen() {\n    echo 1 > n.txt\n    # note\n}\ndo_build() {\n    cat n.txt > m.txt\n}\naddtask do_gen\naddtask do_build after do_gen\n",
     ];
     for bytes in files {
-        let again = written_again(&rt, rt.alloc(), bytes)?;
-        assert_eq!(rt; again.as_slice(), bytes);
+        expect_written(&rt, rt.alloc(), bytes, bytes)?;
     }
     Ok(())
 }
@@ -43,7 +65,7 @@ fn statements_of_the_worked_rows(rt: HostRuntime) -> Result<(), Fail> {
 /// Quotes, and names with their operators.
 #[test]
 fn quotes_and_names(rt: HostRuntime) -> Result<(), Fail> {
-    let rows: [(&[u8], &[u8]); 13] = [
+    let rows: &[Row] = &[
         (b"  A=\"x\"", b"A = \"x\"\n"),
         (b"A = 'x'", b"A = \"x\"\n"),
         // exactly one double quote stands in the text
@@ -64,17 +86,13 @@ fn quotes_and_names(rt: HostRuntime) -> Result<(), Fail> {
             b"export A\nunset A\nunset A[f]\n",
         ),
     ];
-    for (bytes, expected) in rows {
-        let again = written_again(&rt, rt.alloc(), bytes)?;
-        assert_eq!(rt; again.as_slice(), expected);
-    }
-    Ok(())
+    expect_rows(&rt, rt.alloc(), rows)
 }
 
 /// Ends that would be dropped, or would join the line with the next.
 #[test]
 fn ends_of_lines(rt: HostRuntime) -> Result<(), Fail> {
-    let rows: [(&[u8], &[u8]); 5] = [
+    let rows: &[Row] = &[
         // ends that would be dropped, or would join the line with the next
         (b"include a \\\n\n", b"include a \\\n\n"),
         (b"include a\r\\\n\n", b"include a\r\\\n\n"),
@@ -82,17 +100,13 @@ fn ends_of_lines(rt: HostRuntime) -> Result<(), Fail> {
         (b"require a \\\\\n\n", b"require a \\\\\n\n"),
         (b"EXPORT_FUNCTIONS a\\\\\n\n", b"EXPORT_FUNCTIONS a\\\\\n\n"),
     ];
-    for (bytes, expected) in rows {
-        let again = written_again(&rt, rt.alloc(), bytes)?;
-        assert_eq!(rt; again.as_slice(), expected);
-    }
-    Ok(())
+    expect_rows(&rt, rt.alloc(), rows)
 }
 
 /// Words that would open a body or make an assignment, and bodies.
 #[test]
 fn words_and_bodies(rt: HostRuntime) -> Result<(), Fail> {
-    let rows: [(&[u8], &[u8]); 4] = [
+    let rows: &[Row] = &[
         // words that would open a body, or make an assignment
         (
             b"EXPORT_FUNCTIONS a() { \\\n\n",
@@ -111,11 +125,7 @@ fn words_and_bodies(rt: HostRuntime) -> Result<(), Fail> {
             b"fakeroot() {\n  a \\\n }\n\n}\n",
         ),
     ];
-    for (bytes, expected) in rows {
-        let again = written_again(&rt, rt.alloc(), bytes)?;
-        assert_eq!(rt; again.as_slice(), expected);
-    }
-    Ok(())
+    expect_rows(&rt, rt.alloc(), rows)
 }
 
 /// Whether a statement is refused, since no text gives it.
@@ -123,25 +133,41 @@ fn is_refused(alloc: Global, statement: &Statement) -> bool {
     matches!(print(alloc, statement), Err(PrintFault::NoText))
 }
 
-/// A text, of which memory is ample.
-fn text(alloc: Global, bytes: &str) -> Result<Text, Fail> {
-    Ok(Text::from_str(alloc, bytes)?)
+/// Asserts that it is.
+fn expect_refused(rt: &impl Abort, alloc: Global, statement: &Statement) {
+    assert!(rt; is_refused(alloc, statement));
 }
 
 /// An assignment with `=`.
-fn assignment(alloc: Global, name: &str, value: &str) -> Result<Statement, Fail> {
+fn assignment(alloc: Global, name: &str, value: &str) -> Result<Statement, Mem> {
     Ok(Statement::Assign {
         export: false,
-        name: text(alloc, name)?,
+        name: Text::from_str(alloc, name)?,
         op: Op::Set,
-        text: text(alloc, value)?,
+        text: Text::from_str(alloc, value)?,
+    })
+}
+
+/// A function.
+fn function(alloc: Global, name: &str, body: &str) -> Result<Statement, Mem> {
+    Ok(Statement::Function {
+        name: Text::from_str(alloc, name)?,
+        body: Text::from_str(alloc, body)?,
+    })
+}
+
+/// An include of a path.
+fn include(alloc: Global, path: &str) -> Result<Statement, Mem> {
+    Ok(Statement::Include {
+        path: Text::from_str(alloc, path)?,
     })
 }
 
 /// Assignments that no text gives.
 #[test]
 fn assignments_without_a_text(rt: HostRuntime) -> Result<(), Fail> {
-    let rows: [(&str, &str); 8] = [
+    let alloc = rt.alloc();
+    let rows: &[(&'static str, &'static str)] = &[
         ("", "x"),
         ("A B", "x"),
         ("A\n", "x"),
@@ -152,22 +178,18 @@ fn assignments_without_a_text(rt: HostRuntime) -> Result<(), Fail> {
         ("A=", "x"),
     ];
     for (name, value) in rows {
-        assert!(rt; is_refused(rt.alloc(), &assignment(rt.alloc(), name, value)?));
+        expect_refused(&rt, alloc, &assignment(alloc, name, value)?);
     }
-    assert!(rt;
-        !is_refused(
-            rt.alloc(),
-            &assignment(rt.alloc(), "A", "two \"\" and one '")?
-        )
-    );
+    let written = assignment(alloc, "A", "two \"\" and one '")?;
+    assert!(rt; !is_refused(alloc, &written));
     Ok(())
 }
 
-/// Other statements that no text gives.
+/// Functions, paths and a deletion that no text gives.
 #[test]
 fn statements_without_a_text(rt: HostRuntime) -> Result<(), Fail> {
     let alloc = rt.alloc();
-    let rows: [(&str, &str); 6] = [
+    let rows: &[(&'static str, &'static str)] = &[
         ("do_x", "echo"),
         ("do_x", "echo \n"),
         ("do_x", "}\n"),
@@ -176,22 +198,13 @@ fn statements_without_a_text(rt: HostRuntime) -> Result<(), Fail> {
         ("FILESDIR", "echo\n"),
     ];
     for (name, body) in rows {
-        let function = Statement::Function {
-            name: text(alloc, name)?,
-            body: text(alloc, body)?,
-        };
-        assert!(rt; is_refused(alloc, &function));
+        expect_refused(&rt, alloc, &function(alloc, name, body)?);
     }
-    let paths: [&str; 5] = ["", " a", "a\nb", "= \"x\"", "x() {"];
+    let paths: &[&'static str] = &["", " a", "a\nb", "= \"x\"", "x() {"];
     for path in paths {
-        let include = Statement::Include {
-            path: text(alloc, path)?,
-        };
-        assert!(rt; is_refused(alloc, &include));
+        expect_refused(&rt, alloc, &include(alloc, path)?);
     }
-    let deletion = Statement::DelTask {
-        names: Texts::new(alloc),
-    };
-    assert!(rt; is_refused(alloc, &deletion));
+    let names = Texts::new(alloc);
+    expect_refused(&rt, alloc, &Statement::DelTask { names });
     Ok(())
 }
