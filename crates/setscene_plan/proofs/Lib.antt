@@ -1,0 +1,10 @@
+pub mod Sweeping
+pub mod Lasting
+pub mod Learning
+pub mod Naming
+pub mod Renaming
+pub mod Keys
+pub mod Working
+pub mod StepLemmas
+pub mod Updating
+pub mod Settling

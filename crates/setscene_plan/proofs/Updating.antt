@@ -1,0 +1,215 @@
+-- What is kept of a plan's tasks, brought up to date.
+use Rattle.std.proofs.Common.{◌≡◌, ◌≢◌, ◌∙◌, sym, ap, subst, refl, ℕ, ◌+◌, ◌<◌, ◌≤◌, arith, Bool, true, List, [], length, get_or, All, Contains, Option, Some, None, slice_get, ◌⊎◌, inl, inr}
+use Rattle.std.proofs.lemmas.Bool.{cases_eq, cases_lt}
+use Rattle.std.proofs.lemmas.List.Elements.{Contains-get_or}
+use Rattle.std.proofs.lemmas.Option.{same_Some, slice_get-get_or, slice_get_within}
+use Rattle.tree_model.specs.declared.hash.Hash.{Hash}
+use Rattle.meta_model.specs.declared.event.Avail.{Avail}
+use Rattle.meta_model.specs.declared.event.Avail.TheVariants.{Missing}
+use Rattle.meta_model.specs.declared.plan.Plan.{Plan}
+use Rattle.meta_model.specs.declared.plan.PlanTask.{PlanTask}
+use Rattle.meta_model.proofs.Bools.{either_way}
+use Rattle.run_core.specs.Above.{IsAbove}
+use Rattle.run_core.specs.Need.{AreOrdered, IsIn, IsNeed, deps_in, deps_of}
+use Rattle.store_model.specs.Rows.{hash_eq, row_at}
+use Rattle.store_model.specs.Spelling.{name_of}
+use Rattle.store_model.proofs.Listing.{hash_itself, hash_same}
+use Rattle.sig_gen.specs.Signing.{signature_by}
+use Rattle.setscene_plan.specs.declared.replan.Replan.{Replan}
+use Rattle.setscene_plan.specs.View.{IsKnown, IsTold, View, told_by, told_for}
+use Rattle.setscene_plan.specs.Names.{AreNamed, IsClearAt, IsHashed, IsNamed, names_over}
+use Rattle.setscene_plan.specs.Asked.{AreNeeds, Knows, SameAt, members_beyond, members_of_either}
+use Rattle.setscene_plan.specs.Reworks.{Ascend, HaveOneName, IsFound, IsRightAt, IsTouched, IsUntouched, IsWorkable, IsWorked}
+use Rattle.setscene_plan.specs.Replans.{AreReworked, AsksNeeds, IsAskable, IsCurrent, IsMadeFor, IsSettled, ReworksNames, avail_in, names_in, need_in, unihashes_in}
+use Rattle.setscene_plan.proofs.Naming.{names_are_over, signature_local}
+use Rattle.setscene_plan.proofs.Working.{alone, right_past}
+
+-- ---- whether two tasks have one name
+
+one_hash : (a b : Hash) → (a ≡ b) ⊎ (a ≡ b → ⊥)
+one_hash a b = elim (either_way (hash_eq a b)) [
+  | inl t ↦ inl (hash_same a b t)
+  | inr f ↦ inr (λ e. let t = hash_itself a b e in cc)
+]
+
+one_option : (a b : Option Hash) → (a ≡ b) ⊎ (a ≡ b → ⊥)
+one_option None None = inl refl
+one_option None (Some y) = inr (λ e. cc)
+one_option (Some x) None = inr (λ e. cc)
+one_option (Some x) (Some y) = elim (one_hash x y) [ inl e ↦ inl (ap Some e) | inr ne ↦ inr (λ e. ne (same_Some x y e)) ]
+
+one_name : (names : List Hash) (t u : ℕ) → HaveOneName names t u ⊎ (HaveOneName names t u → ⊥)
+one_name names t u = one_option (slice_get names t) (slice_get names u)
+
+-- ---- from scratch
+
+pub names_current : (view : View) (replan : Replan) → AreOrdered view.plan.tasks → IsCurrent view replan → names_in replan ≡ names_over view.rows view.plan.tasks
+names_current view replan ordered is = names_are_over view.rows view.plan.tasks (names_in replan) (unihashes_in replan) ordered (record { long = is.made.long; wide = is.made.wide; named = is.made.named; hashed = is.hashed })
+
+-- ---- a task was settled
+
+-- what isn't to be worked out anew is right
+pub settled_workable : (view : View) (task : ℕ) (replan : Replan) (dirty : List ℕ) → IsSettled view task replan → ((t : ℕ) → Contains dirty t → t < length (names_in replan)) → ((t : ℕ) → t < length (names_in replan) → HaveOneName (names_in replan) t task → Contains dirty t) → IsWorkable view.rows view.plan.tasks replan.names dirty
+settled_workable view task replan dirty is within whole = record {
+  long = is.made.long;
+  wide = is.made.wide;
+  within = λ t h. omega (arith, within t h, is.made.long);
+  right = λ t. elim (cases_lt t (length (names_in replan))) [
+    | inr past ↦ inr (right_past view.rows view.plan.tasks replan.names t is.made.long (omega (arith, past, is.made.long)))
+    | inl inside ↦ elim (one_name (names_in replan) t task) [
+      | inl one ↦ inl (whole t inside one)
+      | inr apart ↦ inr (record { named = is.made.named t; hashed = is.hashed t apart; clear = is.clear t (λ ne. apart) })
+    ]
+  ];
+  found = is.made.found;
+}
+
+-- where names differ and the unihash is the one that is kept, nothing changes
+pub kept_current : (view : View) (task : ℕ) (replan : Replan) → task < length view.plan.tasks → IsSettled view task replan → replan.names.distinct ≡ true → IsHashed view.rows (names_in replan) (unihashes_in replan) task → IsCurrent view replan
+kept_current view task replan lt is distinct hashed = record {
+  made = is.made;
+  hashed = λ t. elim (one_name (names_in replan) t task) [
+    | inl one ↦ subst (IsHashed view.rows (names_in replan) (unihashes_in replan)) (sym (same t one)) hashed
+    | inr apart ↦ is.hashed t apart
+  ];
+  clear = λ t. is.clear t (λ ne one. ne (same t one));
+  needs = is.needs;
+}
+  where
+    zeros : Hash
+    zeros = record { bytes = [] }
+
+    name : Hash
+    name = get_or (names_in replan) task zeros
+
+    at : slice_get (names_in replan) task ≡ Some name
+    at = slice_get-get_or (names_in replan) task zeros (omega (arith, lt, is.made.long))
+
+    same : (t : ℕ) → HaveOneName (names_in replan) t task → t ≡ task
+    same t one = alone replan.names task t name distinct at (is.made.found task) (is.made.found t) one
+
+-- ---- what is known stays known where no unihash changed
+
+pub known_on : (view : View) (us vs : List Hash) (t : ℕ) (kept : Option Avail) → IsUntouched view.plan.tasks us vs t → IsKnown view us t kept → IsKnown view vs t kept
+known_on view us vs t kept free is = record {
+  told = by (slice_get view.plan.tasks t) refl;
+  stored = λ task at there. subst (λ (g : _). row_at view.rows (name_of g) ≢ None) (sym (one task at)) (is.stored task at there);
+}
+  where
+    one : (task : PlanTask) → slice_get view.plan.tasks t ≡ Some task → signature_by view.plan.tasks vs task ≡ signature_by view.plan.tasks us task
+    one task at = signature_local view.plan.tasks vs us task (subst (λ ds. All (λ d. slice_get vs d ≡ slice_get us d) ds) (ap deps_in at) free)
+
+    by : (o : Option PlanTask) → slice_get view.plan.tasks t ≡ o → IsTold (told_by view vs t) kept
+    by None e = subst (λ p. IsTold (told_for view vs t p) kept) (sym e) tt
+    by (Some task) e = subst (λ p. IsTold (told_for view vs t p) kept) (sym e) (subst (λ g. IsTold (view.told t g) kept) (sym (one task e)) (subst (λ p. IsTold (told_for view us t p) kept) e is.told))
+
+pub askable : (view : View) (task : ℕ) (old new : Replan) → IsSettled view task old → ReworksNames view task old new → IsAskable view new
+askable view task old new is r = record {
+  wide = r.wide;
+  need = subst (λ n. IsNeed view.plan n.avail.items n.need.items) (sym r.needs) is.needs.least;
+  long = ap (λ n. length n.avail.items) r.needs ∙ is.needs.long;
+  within = r.within;
+  others = λ t member. elim (r.whole t) [
+    | inl changed ↦ inl changed
+    | inr free ↦ inr (subst (λ n. IsKnown view (unihashes_in new) t (slice_get n.avail.items t)) (sym r.needs) (known_on view (unihashes_in old) (unihashes_in new) t (slice_get (avail_in old) t) free (is.needs.known t (subst (λ n. IsIn n.need.items t) r.needs member))))
+  ];
+}
+
+pub asked_current : (view : View) (task : ℕ) (old mid new : Replan) → IsSettled view task old → ReworksNames view task old mid → AsksNeeds view mid new → IsCurrent view new
+asked_current view task old mid new is r a = record {
+  made = record {
+    long = ap (λ n. length n.names.items) a.names ∙ r.long;
+    wide = ap (λ n. length n.unihashes.items) a.names ∙ r.wide;
+    named = λ t. subst (λ n. IsNamed view.plan.tasks n.names.items n.unihashes.items t) (sym a.names) (r.right t).named;
+    above = subst (λ v. IsAbove view.plan.tasks v.items) (sym (a.above ∙ r.above)) is.made.above;
+    found = λ t. subst (λ n. IsFound n t) (sym a.names) (r.found t);
+  };
+  hashed = λ t. subst (λ n. IsHashed view.rows n.names.items n.unihashes.items t) (sym a.names) (r.right t).hashed;
+  clear = λ t. subst (λ n. IsClearAt view.rows view.plan.tasks n.unihashes.items t) (sym a.names) (r.right t).clear;
+  needs = a.needs;
+}
+
+pub asked_reworked : (view : View) (task : ℕ) (old mid new : Replan) → ReworksNames view task old mid → AsksNeeds view mid new → AreReworked view.plan.tasks task old new
+asked_reworked view task old mid new r a = record {
+  once = subst (λ v. Ascend v.items) (sym a.changed) r.reworked.once;
+  each = λ t h. subst (λ n. HaveOneName (names_in old) t task ⊎ IsTouched view.plan.tasks (unihashes_in old) n.unihashes.items t) (sym a.names) (r.reworked.each t (subst (λ v. Contains v.items t) a.changed h));
+}
+
+pub asked_told : (view : View) (task : ℕ) (old mid new : Replan) → ReworksNames view task old mid → AsksNeeds view mid new → (t : ℕ) → Contains new.told.items t ⊎ SameAt (need_in old) (need_in new) (avail_in old) (avail_in new) t
+asked_told view task old mid new r a t = subst (λ n. Contains new.told.items t ⊎ SameAt n.need.items (need_in new) n.avail.items (avail_in new) t) r.needs (a.told t)
+
+pub asked_bound : (view : View) (task : ℕ) (old mid new : Replan) (before then : ℕ) → ReworksNames view task old mid → AsksNeeds view mid new →
+    then ≤ before + (members_beyond (need_in new) (need_in mid) + members_of_either (need_in mid) (need_in new) mid.changed.items) → then ≤ before + (members_beyond (need_in new) (need_in old) + members_of_either (need_in old) (need_in new) new.changed.items)
+asked_bound view task old mid new before then r a le =
+    let by_needs = subst (λ n. then ≤ before + (members_beyond (need_in new) n.need.items + members_of_either n.need.items (need_in new) mid.changed.items)) r.needs le in
+    subst (λ v. then ≤ before + (members_beyond (need_in new) (need_in old) + members_of_either (need_in old) (need_in new) v.items)) (sym a.changed) by_needs
+
+-- ---- a value that is made
+
+pub new_current : (view : View) (plan : Plan) (replan : Replan) → view.plan ≡ plan → length (names_in replan) ≡ length plan.tasks → length (unihashes_in replan) ≡ length plan.tasks → ((t : ℕ) → IsRightAt view.rows plan.tasks replan.names t) → ((t : ℕ) → IsFound replan.names t) →
+    IsAbove plan.tasks replan.above.items → AreNeeds view (unihashes_in replan) (need_in replan) (avail_in replan) → IsCurrent view replan
+new_current view plan replan is long wide right found above needs = record {
+  made = record {
+    long = long ∙ ap (λ (p : Plan). length p.tasks) (sym is);
+    wide = wide ∙ ap (λ (p : Plan). length p.tasks) (sym is);
+    named = λ t. subst (λ (p : Plan). IsNamed p.tasks (names_in replan) (unihashes_in replan) t) (sym is) (right t).named;
+    above = subst (λ (p : Plan). IsAbove p.tasks replan.above.items) (sym is) above;
+    found = found;
+  };
+  hashed = λ t. (right t).hashed;
+  clear = λ t. subst (λ (p : Plan). IsClearAt view.rows p.tasks (unihashes_in replan) t) (sym is) (right t).clear;
+  needs = needs;
+}
+
+-- ---- values that differ in what was worked out last alone
+
+pub settled_alike : (view : View) (task : ℕ) (old new : Replan) → new.names ≡ old.names → new.above ≡ old.above → new.needs ≡ old.needs → IsSettled view task old → IsSettled view task new
+settled_alike view task old new names above needs is = record {
+  made = record {
+    long = ap (λ n. length n.names.items) names ∙ is.made.long;
+    wide = ap (λ n. length n.unihashes.items) names ∙ is.made.wide;
+    named = λ t. subst (λ n. IsNamed view.plan.tasks n.names.items n.unihashes.items t) (sym names) (is.made.named t);
+    above = subst (λ v. IsAbove view.plan.tasks v.items) (sym above) is.made.above;
+    found = λ t. subst (λ n. IsFound n t) (sym names) (is.made.found t);
+  };
+  hashed = λ t apart. subst (λ n. IsHashed view.rows n.names.items n.unihashes.items t) (sym names) (is.hashed t (subst (λ n. HaveOneName n.names.items t task → ⊥) names apart));
+  clear = λ t apart. subst (λ n. IsClearAt view.rows view.plan.tasks n.unihashes.items t) (sym names) (is.clear t (subst (λ n. t ≢ task → HaveOneName n.names.items t task → ⊥) names apart));
+  needs = needs_alike;
+}
+  where
+    by_needs : AreNeeds view (unihashes_in old) (need_in new) (avail_in new)
+    by_needs = subst (λ n. AreNeeds view (unihashes_in old) n.need.items n.avail.items) (sym needs) is.needs
+
+    needs_alike : AreNeeds view (unihashes_in new) (need_in new) (avail_in new)
+    needs_alike = subst (λ n. AreNeeds view n.unihashes.items (need_in new) (avail_in new)) (sym names) by_needs
+
+pub reworked_alike : (tasks : List PlanTask) (task : ℕ) (old cleared new : Replan) → cleared.names ≡ old.names → AreReworked tasks task cleared new → AreReworked tasks task old new
+reworked_alike tasks task old cleared new names is = record {
+  once = is.once;
+  each = λ t h. subst (λ n. HaveOneName n.names.items t task ⊎ IsTouched tasks n.unihashes.items (unihashes_in new) t) names (is.each t h);
+}
+
+pub none_reworked : (tasks : List PlanTask) (task : ℕ) (old new : Replan) → new.changed.items ≡ [] → AreReworked tasks task old new
+none_reworked tasks task old new none = record {
+  once = subst Ascend (sym none) tt;
+  each = λ t h. let g = subst (λ xs. Contains xs t) none h in absurd (omega (arith, g.1));
+}
+
+-- what the work on names did
+pub reworks_names : (view : View) (task : ℕ) (old new : Replan) (dirty : List ℕ) → IsWorked view.rows view.plan.tasks old.names new.names dirty new.changed.items → ((t : ℕ) → Contains dirty t → HaveOneName (names_in old) t task) → new.above ≡ old.above → new.needs ≡ old.needs → ReworksNames view task old new
+reworks_names view task old new dirty w only above needs = record {
+  long = w.long;
+  wide = w.wide;
+  right = w.right;
+  found = w.found;
+  within = w.within;
+  whole = w.whole;
+  reworked = record { once = w.once; each = λ t h. elim (w.each t h) [ inl s ↦ inl (only t s) | inr u ↦ inr u ] };
+  above = above;
+  needs = needs;
+}
+
+-- the names that are kept are those from scratch
+pub names_scratch : (view : View) (plan : Plan) (replan : Replan) → view.plan ≡ plan → AreOrdered plan.tasks → IsCurrent view replan → names_in replan ≡ names_over view.rows plan.tasks
+names_scratch view plan replan is ordered current =
+    subst (λ (p : Plan). names_in replan ≡ names_over view.rows p.tasks) is (names_current view replan (subst (λ (p : Plan). AreOrdered p.tasks) (sym is) ordered) current)

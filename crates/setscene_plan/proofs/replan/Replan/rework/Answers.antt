@@ -1,0 +1,20 @@
+use Rattle.std.proofs.Common.{sym, subst, refl}
+use Rattle.meta_model.specs.declared.plan.Plan.{Plan}
+use Rattle.setscene_plan.specs.declared.replan.Replan.{Replan}
+use Rattle.setscene_plan.specs.Reworks.{IsWorkable, IsWorked}
+use Rattle.setscene_plan.proofs.Updating.{reworks_names, settled_workable}
+use Rattle.setscene_plan.proofs.replan.Replan.rework.Goals as goal
+
+pub rework-requires-clause-workable : goal.rework-requires-clause-workable
+rework-requires-clause-workable g c =
+    let view = g.P.Probe.view c.args.probe.now in
+    subst (λ (p : Plan). IsWorkable view.rows p.tasks c.args.self.now.names c.in_ok-dirty.dirty.keys) c.requires.plan
+    (settled_workable view c.args.task c.args.self.now c.in_ok-dirty.dirty.keys c.requires.settled c.in_ok-dirty.ensures.within c.in_ok-dirty.ensures.whole)
+
+pub returns-clause-reworks : goal.returns-clause-reworks
+returns-clause-reworks g c =
+    let view = g.P.Probe.view c.args.probe.now in
+    let new : Replan = record { names = c.rework.new.self; above = c.args.self.now.above; needs = c.args.self.now.needs; changed = c.rework.new.changed; told = c.args.self.now.told } in
+    reworks_names view c.args.task c.args.self.now new c.in_ok-dirty.dirty.keys
+    (subst (λ (p : Plan). IsWorked view.rows p.tasks c.args.self.now.names c.rework.new.self c.in_ok-dirty.dirty.keys c.rework.new.changed.items) (sym c.requires.plan) c.in_ok-rework.ensures.worked)
+    c.in_ok-dirty.ensures.only refl refl

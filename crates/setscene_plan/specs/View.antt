@@ -1,0 +1,68 @@
+-- What a probe stands for, and what is known of the outputs of a plan's tasks.
+use Rattle.std.specs.Prelude.{◌≡◌, ◌≢◌, ◌<◌, ◌≤◌, ℕ, Bool, true, false, List, Option, Some, None, Result, Ok, Err, length}
+use Rattle.std.specs.Bool.{OnTrue, OnFalse}
+use Rattle.std.specs.List.{slice_get}
+use Rattle.tree_model.specs.declared.hash.Hash.{Hash}
+use Rattle.meta_model.specs.declared.event.Avail.{Avail}
+use Rattle.meta_model.specs.declared.event.Avail.TheVariants.{Missing}
+use Rattle.meta_model.specs.declared.plan.Plan.{Plan}
+use Rattle.meta_model.specs.declared.plan.PlanTask.{PlanTask}
+use Rattle.store_model.specs.declared.signature.EquivRow.{EquivRow}
+use Rattle.store_model.specs.declared.signature.SigRecord.{SigRecord}
+use Rattle.store_model.specs.Rows.{row_at}
+use Rattle.store_model.specs.Spelling.{name_of}
+use Rattle.sig_gen.specs.Signing.{signature_by}
+use Rattle.setscene_plan.specs.declared.probe.ProbeFault.{ProbeFault}
+use Rattle.setscene_plan.specs.declared.probe.ProbeFault.TheVariants as faults
+
+-- What a probe stands for: a plan, the rows of an index, and, where it tells, what it answers for each task and signature.
+pub record View : Type 0 where
+  pub plan : Plan
+  pub rows : List EquivRow
+  pub told : ℕ → SigRecord → Option Avail
+
+-- the signature is one of the task of this number, by some unihashes
+pub record IsSignedBy (tasks : List PlanTask) (n : ℕ) (sig : SigRecord) : Type 0 where
+  pub unihashes : List Hash
+  pub long : length unihashes ≡ length tasks
+  pub is : (task : PlanTask) → slice_get tasks n ≡ Some task → sig ≡ signature_by tasks unihashes task
+
+-- no row of this name has other bytes as its signature
+abbrev pub IsClear : List EquivRow → Hash → List ℕ → Type 0
+IsClear rows name bytes = (row : EquivRow) → row_at rows name ≡ Some row → row.sig ≡ bytes
+
+-- the row of this name has other bytes as its signature
+pub record HasOther (rows : List EquivRow) (name : Hash) (bytes : List ℕ) : Type 0 where
+  pub row : EquivRow
+  pub is_row : row_at rows name ≡ Some row
+  pub differs : row.sig ≢ bytes
+
+-- what was kept is what is told, if it is
+abbrev pub IsTold : Option Avail → Option Avail → Type 0
+IsTold None kept = Unit {0}
+IsTold (Some there) kept = kept ≡ Some there
+
+abbrev pub told_for : View → List Hash → ℕ → Option PlanTask → Option Avail
+told_for view unihashes t None = None
+told_for view unihashes t (Some task) = view.told t (signature_by view.plan.tasks unihashes task)
+
+-- what is told of a task's output, for its signature by these unihashes
+abbrev pub told_by : View → List Hash → ℕ → Option Avail
+told_by view unihashes t = told_for view unihashes t (slice_get view.plan.tasks t)
+
+-- What is kept of a task's output is what the probe answers for its signature; and unless it is missing, a row has its name.
+pub record IsKnown (view : View) (unihashes : List Hash) (t : ℕ) (kept : Option Avail) : Type 0 where
+  pub told : IsTold (told_by view unihashes t) kept
+  pub stored : (task : PlanTask) → slice_get view.plan.tasks t ≡ Some task → kept ≢ Some Missing → row_at view.rows (name_of (signature_by view.plan.tasks unihashes task)) ≢ None
+
+-- whether the answer is that the probe failed
+abbrev pub probe_failed : {T : Type 0} → Result T ProbeFault → Bool
+probe_failed (Ok x) = false
+probe_failed (Err faults.Store) = true
+probe_failed (Err faults.Memory) = false
+
+-- What a call does to a count of faults: it rises where the call answers that the probe failed, and else it stays.
+pub record Counts (before now : ℕ) (failed : Bool) : Type 0 where
+  pub later : before ≤ now
+  pub rose : OnTrue failed (before < now)
+  pub stayed : OnFalse failed (now ≡ before)

@@ -1,0 +1,75 @@
+// The names of a plan's tasks.
+ghost use Rattle.std.specs.Prelude.{◌≡◌, ◌<◌, ◌≤◌, IfOk, IfSome, length, slice_get};
+ghost use Rattle.run_core.specs.Need.{AreOrdered};
+ghost use Rattle.store_model.specs.Rows.{uni};
+ghost use Rattle.store_model.specs.Spelling.{name_of, signature_bytes};
+ghost use Rattle.sig_gen.specs.Signing.{signature_by};
+ghost use Rattle.setscene_plan.specs.Names.{names_over};
+
+use crate::probe::Probe;
+use meta_model::Plan;
+use sig_gen::{encode, sig_of};
+use std::alloc::Global;
+use tree_model::{Bytes, Hash, Mem};
+
+/// The name of a signature, and its bytes.
+#[derive(Drop)]
+pub(crate) struct Signed {
+    pub(crate) name: Hash,
+    pub(crate) bytes: Bytes,
+}
+
+/// The unihash of a name: that of its row, and the name itself where there is none.
+pub(crate) fn unihash_of<P: Probe>(probe: &P, name: &Hash) -> Hash
+    ensures { result ≡ uni (P.view probe.now).rows name.now }
+{
+    match probe.unihash(name) {
+        Some(unihash) => unihash,
+        None => *name,
+    }
+}
+
+/// The name of a task's signature, by these unihashes, and its bytes.
+#[tactic(auto, unfolding(store_model::specs::Spelling::name_of))]
+pub(crate) fn sign(alloc: Global, plan: &Plan, task: u32, unihashes: &[Hash]) -> Result<Signed, Mem>
+    requires task { task < length plan.now.tasks }
+    requires unihashes { length unihashes.now ≡ length plan.now.tasks }
+    ensures name { IfOk result (λ made. IfSome (slice_get plan.now.tasks task) (λ own. made.name ≡ name_of (signature_by plan.now.tasks unihashes.now own))) }
+    ensures bytes { IfOk result (λ made. IfSome (slice_get plan.now.tasks task) (λ own. made.bytes ≡ signature_bytes (signature_by plan.now.tasks unihashes.now own))) }
+{
+    let sig = sig_of(alloc, plan, task, unihashes)?;
+    let bytes = encode(alloc, &sig)?;
+    Ok(Signed {
+        name: Hash::of(bytes.as_slice()),
+        bytes,
+    })
+}
+
+/// So many digests of zeros.
+pub(crate) fn no_hashes(alloc: Global, count: usize) -> Result<Vec<Hash>, Mem>
+    ensures { IfOk result (λ made. length made.items ≡ count) }
+{
+    let mut made = Vec::with_capacity(alloc, count)?;
+    for _ in 0..count {
+        made.push(Hash { bytes: [0; 32] })?;
+    }
+    Ok(made)
+}
+
+/// The names of a plan's tasks over the rows of the probe: each is the digest of the task's signature.
+pub fn hashes<P: Probe>(alloc: Global, plan: &Plan, probe: &P) -> Result<Vec<Hash>, Mem>
+    requires plan { (P.view probe.now).plan ≡ plan.now }
+    requires few { length plan.now.tasks ≤ 65536 }
+    requires ordered { AreOrdered plan.now.tasks }
+    ensures { IfOk result (λ names. names.items ≡ names_over (P.view probe.now).rows plan.now.tasks) }
+{
+    let count = plan.tasks.len();
+    let mut names = no_hashes(alloc, count)?;
+    let mut unihashes = no_hashes(alloc, count)?;
+    for place in 0..count {
+        let made = sign(alloc, plan, place as u32, unihashes.as_slice())?;
+        names[place] = made.name;
+        unihashes[place] = unihash_of(probe, &made.name);
+    }
+    Ok(names)
+}
