@@ -1,0 +1,4 @@
+pub mod Rows
+pub mod BoardSteps
+pub mod Orders
+pub mod Recorded
