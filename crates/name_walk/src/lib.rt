@@ -49,8 +49,8 @@ pub trait Leading {
     ghost others: { (s : Self) (name : List ℕ) → IsReady s → is_in name (leaders s) ≡ false → led s name ≡ [] };
 }
 
-/// The place of a name among names in byte order, or where it would stand.
-fn place_of(names: &[Text], name: &str) -> Result<usize, usize>
+/// The place of a name among names in byte order, or else the place where it would stand.
+pub fn place_of(names: &[Text], name: &str) -> Result<usize, usize>
     ensures range { IsSearchInRange result (length names.now) }
     ensures place { IsBinarySearchResult (λ y. slice_cmp nat_cmp y name.now) names.now result }
 {
