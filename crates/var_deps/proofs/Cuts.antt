@@ -1,0 +1,70 @@
+-- Where a text is cut at its first byte that is in no run.
+use Rattle.std.proofs.Common.{◌≡◌, refl, sym, ◌∙◌, ap, arith, ℕ, zero, suc, ◌+◌, ◌<◌, ◌≤◌, Bool, true, false, cond, not, List, [], ◌∷◌, ◌++◌, length, take, drop, get_or, Some, None, position, le_trans, append_assoc, add-one}
+use Rattle.std.specs.List.{slice_split, position_or_len}
+use Rattle.std.proofs.lemmas.List.Quantifiers.{position-Some}
+use Rattle.std.proofs.lemmas.List.Sums.{prefix_len_passes}
+use Rattle.std.proofs.lemmas.Bool.{ltb-false}
+use Rattle.meta_model.specs.Text.{is_empty, non_empty}
+use Rattle.task_model.specs.Leads.{runs}
+use Rattle.var_deps.specs.Runs.{separates, IsRun}
+
+split_at : (bs : List ℕ) (i : ℕ) → i < length bs → separates (get_or bs i 0) ≡ true → ((k : ℕ) → k < i → separates (get_or bs k 0) ≡ false)
+    → slice_split separates bs ≡ take i bs ∷ slice_split separates (drop (suc i) bs)
+split_at [] i lt at before = absurd (omega arith)
+split_at (b ∷ bs) zero lt at before = rw at refl
+split_at (b ∷ bs) (suc i) lt at before = rw (before 0 (omega arith), split_at bs i (omega arith) at (λ k h. before (suc k) (omega arith))) refl
+
+runs_at : (bs : List ℕ) (i : ℕ) → position separates bs ≡ Some i → runs bs ≡ non_empty (take i bs ∷ []) ++ runs (drop (suc i) bs)
+runs_at bs i e =
+    let h = position-Some separates bs i 0 e in
+    ap non_empty (split_at bs i h.0 h.1 h.2) ∙ first (is_empty (take i bs)) (take i bs) (runs (drop (suc i) bs))
+  where
+    first : (b : Bool) (piece : List ℕ) (rest : List (List ℕ)) → cond (not b) (piece ∷ rest) rest ≡ cond (not b) (piece ∷ []) [] ++ rest
+    first true piece rest = refl
+    first false piece rest = refl
+
+none_of_cond : (b : Bool) (n : ℕ) → cond b (Some n) None ≡ None → b ≡ false
+none_of_cond true n e = cc
+none_of_cond false n e = refl
+
+false_of_not : (b : Bool) → not b ≡ true → b ≡ false
+false_of_not true e = sym e
+false_of_not false e = refl
+
+none_before : (bs : List ℕ) → position separates bs ≡ None → (k : ℕ) → k < length bs → separates (get_or bs k 0) ≡ false
+none_before bs e k lt = let h = ltb-false (position_or_len separates bs) (length bs) (none_of_cond _ _ e) in
+    false_of_not (separates (get_or bs k 0)) (prefix_len_passes (λ x. not (separates x)) bs k 0 (le_trans lt h))
+
+split_none : (bs : List ℕ) → ((k : ℕ) → k < length bs → separates (get_or bs k 0) ≡ false) → slice_split separates bs ≡ bs ∷ []
+split_none [] h = refl
+split_none (b ∷ bs) h = rw (h 0 (omega arith), split_none bs (λ k lt. h (suc k) (omega arith))) refl
+
+-- the last run
+pub runs_last : (bs : List ℕ) → position separates bs ≡ None → runs bs ≡ non_empty (bs ∷ [])
+runs_last bs e = ap non_empty (split_none bs (none_before bs e))
+
+-- one run more
+pub runs_step : (rest piece after : List ℕ) (list made : List (List ℕ)) (i : ℕ) → Some i ≡ position separates rest → piece ≡ take i rest → made ≡ list ++ non_empty (piece ∷ []) → after ≡ drop (i + 1) rest
+    → made ++ runs after ≡ list ++ runs rest
+runs_step rest piece after list made i e p n a =
+    ap (λ l. l ++ runs after) (n ∙ ap (λ q. list ++ non_empty (q ∷ [])) p)
+    ∙ append_assoc list (non_empty (take i rest ∷ [])) (runs after)
+    ∙ ap (λ q. list ++ (non_empty (take i rest ∷ []) ++ runs q)) (a ∙ ap (λ j. drop j rest) (add-one i))
+    ∙ ap (λ l. list ++ l) (sym (runs_at rest i (sym e)))
+
+-- what stands before the first such byte is a run
+
+run_all : (bs : List ℕ) → ((k : ℕ) → k < length bs → separates (get_or bs k 0) ≡ false) → IsRun bs
+run_all [] h = refl
+run_all (b ∷ bs) h = rw (h 0 (omega arith)) (run_all bs (λ k lt. h (suc k) (omega arith)))
+
+run_before : (bs : List ℕ) (i : ℕ) → i ≤ length bs → ((k : ℕ) → k < i → separates (get_or bs k 0) ≡ false) → IsRun (take i bs)
+run_before bs zero lt h = refl
+run_before [] (suc i) lt h = refl
+run_before (b ∷ bs) (suc i) lt h = rw (h 0 (omega arith)) (run_before bs i (omega arith) (λ k below. h (suc k) (omega arith)))
+
+pub run_first : (bs : List ℕ) (i : ℕ) → position separates bs ≡ Some i → IsRun (take i bs)
+run_first bs i e = let h = position-Some separates bs i 0 e in run_before bs i (omega (arith, h.0)) h.2
+
+pub run_last : (bs : List ℕ) → position separates bs ≡ None → IsRun bs
+run_last bs e = run_all bs (none_before bs e)

@@ -1,0 +1,10 @@
+pub mod Passing
+pub mod Behind
+pub mod Tables
+pub mod Loops
+pub mod Cuts
+pub mod Knowing
+pub mod Tabling
+pub mod Faults
+pub mod Stores
+pub mod Lines

@@ -1,0 +1,333 @@
+// What the names of a store lead to, and the walk along them.
+ghost use Rattle.std.specs.Prelude.{◌≡◌, ◌++◌, ◌∷◌, [], true, false, List, ℕ, Some, IfOk, IfErr, OnOk, OnErr, Ok, is_some, bytes_eq, Result};
+ghost use Rattle.std.specs.BTreeMap.{get_by_text};
+ghost use Rattle.std.specs.Map.{update};
+ghost use Rattle.meta_model.specs.Refusal.{Refusal};
+ghost use Rattle.meta_model.specs.Active.{find_in};
+ghost use Rattle.meta_model.specs.declared.value.Resolved.{Resolved as Has};
+ghost use Rattle.task_model.specs.Views.{is_bare};
+ghost use Rattle.var_expand.specs.Faults.{IsFaultOf};
+ghost use Rattle.task_model.specs.Keys.{Told, key_over, line_of, lines_of, names_led};
+ghost use Rattle.task_model.specs.Leads.{starting};
+ghost use Rattle.var_deps.specs.Known.{IsKnown, IsLine, read_led, read_line};
+ghost use Rattle.var_deps.specs.Reading.{view_by};
+ghost use Rattle.var_deps.specs.Led.{led_of};
+ghost use Rattle.var_deps.specs.Kept.{IsReady, IsRight, IsSame, StaysSo, key_behind, one_line, shared_view, task_view};
+
+use crate::led::{Led, all_of, push_all, without, words_of_flag};
+use crate::line::{Known, Line, know};
+use crate::seen::Seen;
+use meta_model::{Key, KeyLine, ListOf, Resolved};
+use name_walk::{Leading, reach};
+use std::alloc::Global;
+use std::collections::BTreeMap;
+use tree_model::{Mem, Text, Texts};
+use var_expand::ExpandFault;
+
+/// What is known of the names of a store that aren't the task.
+#[derive(Drop)]
+pub(crate) struct Shared<'a> {
+    pub(crate) seen: Seen<'a>,
+    pub(crate) ignored: Texts,
+    pub(crate) exported: Texts,
+    pub(crate) known: BTreeMap<String, Known>,
+}
+
+/// What is known for one task.
+#[derive(Drop)]
+pub(crate) struct Table<'a> {
+    pub(crate) shared: Shared<'a>,
+    pub(crate) task: Text,
+    pub(crate) sstate: bool,
+    pub(crate) own: Known,
+}
+
+/// Puts a value at a name. Where memory is wanting, all is found as before.
+fn put_value<V: Drop>(
+    map: &mut BTreeMap<String, V>,
+    alloc: Global,
+    name: &str,
+    value: V,
+) -> Result<(), Mem>
+    ensures ok { OnOk result ((q : List ℕ) → get_by_text map.new q ≡ update bytes_eq (get_by_text map.old) name.now (Some value) q) }
+    ensures err { OnErr result ((q : List ℕ) → get_by_text map.new q ≡ get_by_text map.old q) }
+{
+    let key = String::from_str(alloc, name)?;
+    map.insert(key, value)?;
+    Ok(())
+}
+
+impl Shared<'_> {
+    /// Finds out about a name, and keeps it.
+    fn learn(&mut self, alloc: Global, name: &str) -> Result<(), Mem>
+        requires { IsRight self.old }
+        ensures right { IsRight self.new }
+        ensures same { IsSame self.old self.new }
+        ensures known { OnOk result (is_some (get_by_text self.new.known name.now) ≡ true) }
+    {
+        let known = know(alloc, &self.seen, self.ignored.as_slice(), None, name)?;
+        put_value(&mut self.known, alloc, name, known)
+    }
+
+    /// Finds out about a name, where it isn't known yet.
+    fn fill(&mut self, alloc: Global, name: &str) -> Result<(), Mem>
+        requires { IsRight self.old }
+        ensures right { IsRight self.new }
+        ensures same { IsSame self.old self.new }
+        ensures known { OnOk result (is_some (get_by_text self.new.known name.now) ≡ true) }
+    {
+        match self.known.get(name) {
+            Some(_) => Ok(()),
+            None => self.learn(alloc, name),
+        }
+    }
+
+    /// Sees the store as it is, or as a task does, from now on. What is kept for another sight is forgotten.
+    fn look_as(&mut self, alloc: Global, task: Option<Text>)
+        requires { IsRight self.old }
+        ensures right { IsRight self.new }
+        ensures task { self.new.seen.task ≡ task }
+        ensures store { self.new.seen.store.now ≡ self.old.seen.store.now }
+        ensures ignored { self.new.ignored ≡ self.old.ignored }
+    {
+        if task.is_some() || self.seen.task.is_some() {
+            self.known = BTreeMap::new(alloc);
+            self.seen.task = task;
+        }
+    }
+
+    /// What is known of a task.
+    fn know_task(&self, alloc: Global, task: &str, sstate: bool) -> Result<Known, Mem>
+        ensures { IfOk result (λ made. IsKnown (view_by self.now.seen.store.now self.now.seen.task self.now.ignored sstate task.now) true task.now made) }
+    {
+        know(
+            alloc,
+            &self.seen,
+            self.ignored.as_slice(),
+            Some(sstate),
+            task,
+        )
+    }
+
+    /// Puts what a name leads to at the end.
+    fn lead(&mut self, alloc: Global, name: &str, list: &mut Vec<Text>) -> Result<(), Mem>
+        requires { IsRight self.old }
+        ensures right { IsRight self.new }
+        ensures same { IsSame self.old self.new }
+        ensures led { OnOk result (list.new.items ≡ list.old.items ++ names_led (read_led (shared_view self.old) false name.now)) }
+    {
+        self.fill(alloc, name)?;
+        match self.known.get(name) {
+            Some(known) => push_all(list, known.led.as_slice()),
+            None => Ok(()),
+        }
+    }
+}
+
+impl Shared<'_> {
+    /// Puts the line of a name at the end of a key, or tells why there is none.
+    fn push_name(&mut self, alloc: Global, key: &mut Key, name: &Text) -> Result<(), ExpandFault>
+        requires { IsRight self.old }
+        ensures right { IsRight self.new }
+        ensures same { IsSame self.old self.new }
+        ensures ok { OnOk result (key_behind key.old (one_line (read_line (shared_view self.old) false name.now)) ≡ Ok key.new) }
+        ensures err { IfErr result (λ fault. IsFaultOf fault (read_line (shared_view self.old) false name.now)) }
+    {
+        self.fill(alloc, name.as_str())?;
+        match self.known.get(name.as_str()) {
+            Some(known) => push_line(alloc, key, name, &known.line),
+            None => Ok(()),
+        }
+    }
+}
+
+impl Leading for Table<'_> {
+    ghost use Rattle.task_model.specs.Keys as keys;
+    ghost use Rattle.var_deps.specs.Kept as kept;
+    ghost use Rattle.var_deps.specs.Leaders as named;
+
+    ghost led = { λ t. keys.led_to (kept.task_view t) };
+
+    ghost leaders = { λ t. keys.leaders (kept.task_view t) };
+
+    ghost IsReady = { kept.IsReady };
+
+    ghost Stays = { kept.StaysSo };
+
+    ghost stays_itself = { named.stays_itself };
+
+    ghost stays_on = { named.stays_on };
+
+    ghost others = { named.no_others };
+
+    fn lead(&mut self, alloc: Global, name: &str, list: &mut Vec<Text>) -> Result<(), Mem> {
+        if name == self.task.as_str() {
+            return push_all(list, self.own.led.as_slice());
+        }
+        self.shared.lead(alloc, name, list)
+    }
+}
+
+/// The same fault again, or want of memory.
+fn again(fault: &ExpandFault) -> Result<ExpandFault, Mem>
+    ensures { IfOk result (λ made. made ≡ fault.now) }
+{
+    Ok(match fault {
+        ExpandFault::ValueCycle { name } => ExpandFault::ValueCycle { name: name.copy()? },
+        ExpandFault::TooDeep { name } => ExpandFault::TooDeep { name: name.copy()? },
+        ExpandFault::TooLong { name } => ExpandFault::TooLong { name: name.copy()? },
+        ExpandFault::Unstable { before, last } => ExpandFault::Unstable {
+            before: before.copy()?,
+            last: last.copy()?,
+        },
+        ExpandFault::Memory => ExpandFault::Memory,
+    })
+}
+
+/// The same flags again.
+fn copy_flags(alloc: Global, flags: &[(Text, Text)]) -> Result<ListOf<(Text, Text)>, Mem>
+    ensures { IfOk result (λ made. made ≡ flags.now) }
+{
+    let mut made = ListOf::new(alloc);
+    for (flag, text) in flags {
+        made.push((flag.copy()?, text.copy()?))?;
+    }
+    Ok(made)
+}
+
+/// The same resolved value again.
+pub fn copy_resolved(alloc: Global, found: &Resolved) -> Result<Resolved, Mem>
+    ensures { IfOk result (λ made. made ≡ found.now) }
+{
+    Ok(Resolved {
+        text: found.text.copy()?,
+        removes: found.removes.copy()?,
+        flags: copy_flags(alloc, found.flags.as_slice())?,
+    })
+}
+
+/// The same value again, where there is one.
+fn copy_value(alloc: Global, value: &Option<Resolved>) -> Result<Option<Resolved>, Mem>
+    ensures { IfOk result (λ made. made ≡ value.now) }
+{
+    match value {
+        Some(found) => Ok(Some(copy_resolved(alloc, found)?)),
+        None => Ok(None),
+    }
+}
+
+/// Puts the line of a name at the end of a key, or tells why there is none.
+fn push_line(alloc: Global, key: &mut Key, name: &Text, line: &Line) -> Result<(), ExpandFault>
+    ensures ok { (meant : Result Told Refusal) → IsLine line.now name.now meant → OnOk result (key_behind key.old (one_line meant) ≡ Ok key.new) }
+    ensures err { (meant : Result Told Refusal) → IsLine line.now name.now meant → IfErr result (λ fault. IsFaultOf fault meant) }
+{
+    match line {
+        Line::Told { value, left_out } => {
+            let value = copy_value(alloc, value)?;
+            key.lines.push(KeyLine {
+                name: name.copy()?,
+                value,
+            })?;
+            key.excluded = key.excluded || *left_out;
+            Ok(())
+        }
+        Line::Refused(fault) => Err(again(fault)?),
+    }
+}
+
+impl Table<'_> {
+    /// Puts the line of a name at the end of a key, or tells why there is none.
+    fn push_name(&mut self, alloc: Global, key: &mut Key, name: &Text) -> Result<(), ExpandFault>
+        requires { IsReady self.old }
+        ensures ready { IsReady self.new }
+        ensures stays { StaysSo self.old self.new }
+        ensures ok { OnOk result (key_behind key.old (one_line (line_of (task_view self.old) name.now)) ≡ Ok key.new) }
+        ensures err { IfErr result (λ fault. IsFaultOf fault (line_of (task_view self.old) name.now)) }
+    {
+        if name.as_str() == self.task.as_str() {
+            return push_line(alloc, key, name, &self.own.line);
+        }
+        self.shared.push_name(alloc, key, name)
+    }
+
+    /// The lines of names, in their order.
+    fn lines(&mut self, alloc: Global, names: &[Text], left_out: bool) -> Result<Key, ExpandFault>
+        requires { IsReady self.old }
+        ensures ready { IsReady self.new }
+        ensures stays { StaysSo self.old self.new }
+        ensures ok { IfOk result (λ made. key_behind (record { lines = []; excluded = left_out }) (lines_of (task_view self.old) names.now) ≡ Ok made) }
+        ensures err { IfErr result (λ fault. IsFaultOf fault (lines_of (task_view self.old) names.now)) }
+    {
+        let mut key = Key {
+            lines: ListOf::new(alloc),
+            excluded: left_out,
+        };
+        for name in names {
+            self.push_name(alloc, &mut key, name)?;
+        }
+        Ok(key)
+    }
+
+    /// Turns to a task; bare is one whose own name counts as absent, `sstate` says whether it is one of the shared state.
+    pub(crate) fn turn_to(
+        &mut self,
+        alloc: Global,
+        task: &str,
+        bare: bool,
+        sstate: bool,
+    ) -> Result<(), Mem>
+        requires right { IsRight self.old.shared }
+        requires seen { bare ≡ false → (found : Has) → find_in self.old.shared.seen.store.now task.now ≡ Ok (Some found) → is_bare found ≡ false }
+        ensures right { IsRight self.new.shared }
+        ensures ready { OnOk result (IsReady self.new) }
+        ensures task { OnOk result (self.new.task ≡ task.now) }
+        ensures sstate { OnOk result (self.new.sstate ≡ sstate) }
+        ensures store { self.new.shared.seen.store.now ≡ self.old.shared.seen.store.now }
+        ensures ignored { self.new.shared.ignored ≡ self.old.shared.ignored }
+    {
+        let own_name = if bare {
+            Some(Text::from_str(alloc, task)?)
+        } else {
+            None
+        };
+        self.shared.look_as(alloc, own_name);
+        let name = Text::from_str(alloc, task)?;
+        let own = self.shared.know_task(alloc, task, sstate)?;
+        self.task = name;
+        self.own = own;
+        self.sstate = sstate;
+        Ok(())
+    }
+
+    /// The names that the key starts with.
+    fn start(&self, alloc: Global) -> Result<Led, ExpandFault>
+        requires { IsReady self.now }
+        ensures ok { IfOk result (λ made. starting (task_view self.now) ≡ Ok (led_of made)) }
+        ensures err { IfErr result (λ fault. IsFaultOf fault (starting (task_view self.now))) }
+    {
+        let after = words_of_flag(alloc, &self.shared.seen, self.task.as_str(), "postfuncs")?;
+        let before = words_of_flag(alloc, &self.shared.seen, self.task.as_str(), "prefuncs")?;
+        let others = all_of(
+            alloc,
+            before.as_slice(),
+            after.as_slice(),
+            self.shared.exported.as_slice(),
+        )?;
+        let mut led = without(alloc, others, self.shared.ignored.as_slice(), &[])?;
+        led.names.insert(0, self.task.copy()?)?;
+        Ok(led)
+    }
+
+    /// The key of the task.
+    pub(crate) fn key(&mut self, alloc: Global) -> Result<Key, ExpandFault>
+        requires { IsReady self.old }
+        ensures ready { IsReady self.new }
+        ensures stays { StaysSo self.old self.new }
+        ensures ok { IfOk result (λ made. key_over (task_view self.old) ≡ Ok made) }
+        ensures err { IfErr result (λ fault. IsFaultOf fault (key_over (task_view self.old))) }
+    {
+        let start = self.start(alloc)?;
+        let names = reach(alloc, self, Vec::new(alloc), start.names)?;
+        self.lines(alloc, names.as_slice(), start.left_out)
+    }
+}
