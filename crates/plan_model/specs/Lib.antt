@@ -1,0 +1,5 @@
+pub mod PlanRefusal
+pub mod Inputs
+pub mod Plans
+pub mod Sound
+pub mod PlanSamples

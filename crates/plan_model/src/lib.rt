@@ -1,0 +1,12 @@
+//! Plans of runs: definitions, and laws of these.
+//!
+//! The plan of a graph has for each task its key, its input files, its script, and what its output is made of (`specs/Plans`;
+//! `specs/Inputs`: the files that `[file-checksums]` names; `specs/PlanRefusal`: why there is none). With `-f` the targets' tasks
+//! are forced (`forced`). `specs/Sound` says when a plan is sound.
+//!
+//! The crate has no code: its public functions have empty bodies, and their contracts are the laws.
+#![tactic(auto)]
+
+mod laws;
+
+pub use laws::{plan_is_sound, sound_plans_meet};
