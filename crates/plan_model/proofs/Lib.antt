@@ -5,3 +5,7 @@ pub mod Filed
 pub mod Placed
 pub mod Soundness
 pub mod Meets
+pub mod GoodStatements
+pub mod GoodLoading
+pub mod GoodFacts
+pub mod GoodConfig

@@ -11,7 +11,8 @@ use Rattle.meta_model.specs.declared.plan.PlanTask.{PlanTask}
 use Rattle.meta_model.specs.Text.{begins_with, is_shell_name}
 use Rattle.store_model.specs.Premises.{IsWord}
 use Rattle.store_model.specs.SoundPlan.{IsSoundAt}
-use Rattle.plan_model.specs.Sound.{is_task_name, IsSoundTask, SoundMeets}
+use Rattle.plan_model.specs.Names.{is_task_name}
+use Rattle.plan_model.specs.Sound.{IsSoundTask, SoundMeets}
 
 -- a byte that passes a test that a blank fails
 no_blank : (p : ℕ → Bool) → p 32 ≡ false → (c : ℕ) → p c ≡ true → (c == 32) ≡ false

@@ -1,5 +1,5 @@
 -- The nodes of a graph: their recipes and names are there, and each needs nodes before it.
-use Rattle.std.proofs.Common.{◌≡◌, ◌∙◌, sym, ap, refl, subst, ℕ, zero, suc, ◌<◌, ◌≤◌, ◌⊎◌, inl, inr, arith, List, [], ◌∷◌, Bool, true, false, Option, Some, None, Result, Ok, Err, All, get_or, if◌then◌else◌, slice_get}
+use Rattle.std.proofs.Common.{◌≡◌, ◌∙◌, sym, ap, refl, subst, ℕ, zero, suc, ◌<◌, ◌≤◌, ◌⊎◌, inl, inr, arith, length, List, [], ◌∷◌, Bool, true, false, Option, Some, None, Result, Ok, Err, All, get_or, if◌then◌else◌, slice_get}
 use Rattle.std.specs.Prelude.{Any, AllPairs, is_some, find, bytes_eq}
 use Rattle.std.specs.Option.{option_map, option_and_then}
 use Rattle.std.specs.Ordering.{nat_cmp, ordering_then}
@@ -131,3 +131,13 @@ needs_before facts targets graph is n node e = all_from (λ d. d < n) node.deps 
           | inl lt ↦ absurd (pair_at (λ m k. node_cmp m k ≡ Greater → ⊥) graph.nodes is.ascend n d node other lt e g (ap (λ o. ordering_then o (id_cmp node.id other.id)) (above_is_greater node.depth other.depth below)))
           | inr ge ↦ let same : n ≡ d = omega arith in let s : Some node ≡ Some other = sym e ∙ ap (slice_get graph.nodes) same ∙ g in let k : node ≡ other = cc in absurd (omega (arith, below, ap (λ m. m.depth) k))
         ]
+
+-- the nodes of a graph are of recipes of its facts
+pub graph_is_over : (facts : FactSet) (targets : List Target) (graph : Graph) → IsGraph facts targets graph → All (λ node. node.recipe < length facts.recipes) graph.nodes
+graph_is_over facts targets graph is = all_from (λ node. node.recipe < length facts.recipes) graph.nodes each
+  where
+    each : (n : ℕ) (node : Node) → slice_get graph.nodes n ≡ Some node → node.recipe < length facts.recipes
+    each n node e =
+        let reached = all_at (λ m. IsReached facts targets (node_task m)) graph.nodes is.sound n node e in
+        let a = in_facts facts (node_task node) (reached_is_task facts targets (node_task node) reached) in
+        slice_get_within facts.recipes node.recipe a.recipe a.there

@@ -26,7 +26,8 @@ use Rattle.store_model.specs.Premises.{Differ}
 use Rattle.plan_model.specs.PlanRefusal.{no_value}
 use Rattle.plan_model.specs.Inputs.{Files, input_words, inputs_of}
 use Rattle.plan_model.specs.Plans.{file_at, forced_from, forced}
-use Rattle.plan_model.specs.Sound.{is_task_name, IsOnePart, IsFolder, IsSoundTask, IsSound, IsMadeFrom, PlanIsSound, ForcedIsSound}
+use Rattle.plan_model.specs.Names.{is_task_name}
+use Rattle.plan_model.specs.Sound.{IsOnePart, IsFolder, IsSoundTask, IsSound, IsMadeFrom, PlanIsSound, ForcedIsSound}
 use Rattle.plan_model.proofs.Planning.{ok_parts, IsOfNode, as_many, node_of, IsOfGraph, of_graph}
 use Rattle.plan_model.proofs.Reached.{all_at, pair_at, pairs_from, reached_is_task, IsInFacts, in_facts, needs_before}
 use Rattle.plan_model.proofs.Keyed.{key_ascends, key_has_no_order}

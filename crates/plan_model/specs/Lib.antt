@@ -1,5 +1,6 @@
 pub mod PlanRefusal
 pub mod Inputs
 pub mod Plans
+pub mod Names
 pub mod Sound
 pub mod PlanSamples

@@ -1,6 +1,6 @@
 -- The plan of a graph: for each task what decides whether it has to run again, what its script is given, the script, and what its
 -- output is made of.
-use Rattle.std.specs.Prelude.{ℕ, zero, suc, ◌+◌, nat_le, Bool, ◌||◌, List, [], ◌∷◌, length, slice_get, slice_index_or, nat_eq, unwrap_or, Result, Ok, Err, codes, if◌then◌else◌}
+use Rattle.std.specs.Prelude.{ℕ, zero, suc, ◌+◌, ◌<◌, All, nat_le, Bool, ◌||◌, List, [], ◌∷◌, length, slice_get, slice_index_or, nat_eq, unwrap_or, Result, Ok, Err, codes, if◌then◌else◌}
 use Rattle.std.specs.List.{flat_map, list_any}
 use Rattle.std.specs.Option.{option_map_or}
 use Rattle.meta_model.specs.declared.entry.EntryLine.{EntryLine}
@@ -129,3 +129,10 @@ forced_from n targets (task ∷ tasks) = record task { nostamp = task.nostamp ||
 
 abbrev pub forced : Plan → Plan
 forced plan = record plan { tasks = forced_from zero plan.targets plan.tasks }
+
+abbrev pub forced_plan_of : Files → RecipeSet → Graph → ℕ → Result Plan PlanRefusal
+forced_plan_of files set graph threads = plan_of files set graph threads >>= λ plan. Ok (forced plan)
+
+-- The nodes of a graph are of recipes of these facts.
+abbrev pub IsOver : FactSet → Graph → Type 0
+IsOver facts graph = All (λ node. node.recipe < length facts.recipes) graph.nodes

@@ -1,5 +1,5 @@
 -- Plans that are sound, and what makes the plan of a graph one.
-use Rattle.std.specs.Prelude.{◌≡◌, ◌≢◌, ◌≤◌, ◌<◌, ◌⊎◌, ◌&&◌, ℕ, Bool, true, false, List, [], ◌∷◌, length, nat_le, All, AllPairs, Some, Ok, IsSome, codes}
+use Rattle.std.specs.Prelude.{◌≡◌, ◌≢◌, ◌≤◌, ◌<◌, ◌⊎◌, ℕ, true, false, List, [], ◌∷◌, length, All, AllPairs, Some, Ok, IsSome, codes}
 use Rattle.std.specs.List.{slice_get}
 use Rattle.std.specs.List.Sorted.{IsStrictlyIncreasing}
 use Rattle.tree_model.specs.Path.{IsPart, IsClean, parts_of}
@@ -9,9 +9,10 @@ use Rattle.meta_model.specs.declared.facts.Graph.{Graph}
 use Rattle.meta_model.specs.declared.facts.Target.{Target}
 use Rattle.meta_model.specs.declared.plan.Plan.{Plan}
 use Rattle.meta_model.specs.declared.plan.PlanTask.{PlanTask}
-use Rattle.meta_model.specs.Text.{begins_with, is_shell_name}
 use Rattle.meta_model.specs.TaskGraph.{IsGraph}
-use Rattle.load_model.specs.Facts.{RecipeSet}
+use Rattle.load_model.specs.Loading.{sources_of}
+use Rattle.load_model.specs.Layers.{Config, config}
+use Rattle.load_model.specs.Facts.{RecipeSet, recipe_set}
 use Rattle.load_model.specs.Recipes.{is_pn}
 use Rattle.store_model.specs.Signatures.{is_order, line_cmp}
 use Rattle.store_model.specs.Spelled.{Ascends}
@@ -19,11 +20,8 @@ use Rattle.store_model.specs.Valid.{IsPlain}
 use Rattle.store_model.specs.Premises.{Differ}
 use Rattle.store_model.specs.SoundPlan.{IsSoundPlan}
 use Rattle.plan_model.specs.Inputs.{Files}
-use Rattle.plan_model.specs.Plans.{plan_of, forced}
-
--- A task's name, as `addtask` allows it: a shell name of at most 255 bytes that begins with `do_` (own rule).
-abbrev pub is_task_name : List ℕ → Bool
-is_task_name name = begins_with (codes "do_") name && (is_shell_name name && nat_le (length name) 255)
+use Rattle.plan_model.specs.Plans.{plan_of, forced, IsOver}
+use Rattle.plan_model.specs.Names.{is_task_name}
 
 -- the path has one part
 pub record IsOnePart (path : List ℕ) : Type 0 where
@@ -92,3 +90,11 @@ SoundMeets = (plan : Plan) → IsSound plan → IsSoundPlan plan
 -- A sound plan of which the targets' tasks are forced stays sound.
 abbrev pub ForcedIsSound : Type 0
 ForcedIsSound = (plan : Plan) → IsSound plan → IsSound (forced plan)
+
+-- The recipes of a project, as they are read from its files, and their tasks have such names.
+abbrev pub ProjectHasGoodNames : Type 0
+ProjectHasGoodNames = (files : Files) (paths : List (List ℕ)) (made : Config) (set : RecipeSet) → config (sources_of files) paths ≡ Ok made → recipe_set (sources_of files) made.lines made.recipes made.appends ≡ Ok set → HasGoodNames set.facts
+
+-- The nodes of a graph are of recipes of its facts.
+abbrev pub GraphIsOver : Type 0
+GraphIsOver = (facts : FactSet) (targets : List Target) (graph : Graph) → IsGraph facts targets graph → IsOver facts graph

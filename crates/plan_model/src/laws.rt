@@ -1,5 +1,5 @@
 // What is proved of the definitions.
-ghost use Rattle.plan_model.specs.Sound.{ForcedIsSound, PlanIsSound, SoundMeets};
+ghost use Rattle.plan_model.specs.Sound.{ForcedIsSound, GraphIsOver, PlanIsSound, ProjectHasGoodNames, SoundMeets};
 
 /// The plan of a graph is sound, where its threads are 1 to 16, files stand at clean paths, and recipes and tasks have names that
 /// recipes and tasks may have.
@@ -12,4 +12,15 @@ pub fn plan_is_sound()
 /// A sound plan meets what the laws of reuse ask of a plan.
 pub fn sound_plans_meet()
     ensures { SoundMeets }
+{}
+
+/// The recipes of a project and their tasks have names that recipes and tasks may have, and no two recipes have one PN: a recipe's
+/// PN is tested after all its files, and a task comes from a line of `addtask` alone, in whatever file or class it stands.
+pub fn projects_have_good_names()
+    ensures { ProjectHasGoodNames }
+{}
+
+/// The nodes of a graph are of recipes of the facts that it was built from.
+pub fn graphs_are_over_their_facts()
+    ensures { GraphIsOver }
 {}

@@ -9,4 +9,6 @@
 
 mod laws;
 
-pub use laws::{plan_is_sound, sound_plans_meet};
+pub use laws::{
+    graphs_are_over_their_facts, plan_is_sound, projects_have_good_names, sound_plans_meet,
+};

@@ -1,0 +1,110 @@
+-- The configuration adds tasks of good names alone, and so all recipes of a project have good names.
+use Rattle.std.proofs.Common.{◌≡◌, refl, sym, ap, subst, ℕ, List, [], ◌∷◌, ◌++◌, map, Bool, true, false, true≢false, Option, Some, None, Result, Ok, Err, is_ok, option_map, codes}
+use Rattle.std.specs.Prelude.{is_some}
+use Rattle.std.specs.List.{AllByRecursion}
+use Rattle.meta_model.specs.declared.line.Kind.TheVariants.{Conf}
+use Rattle.meta_model.specs.declared.statement.Statement.{Statement}
+use Rattle.meta_model.specs.declared.statement.Statement.TheVariants.{Assign, Flag, Export, Unset, UnsetFlag, Include, Require, Inherit, Function, ExportFunctions, AddTask, DelTask}
+use Rattle.load_model.specs.LoadRefusal.{◌>>=◌, refused_as}
+use Rattle.load_model.specs.Loading.{Sources, Contents, Loaded, sources_of, entries, searched_entries}
+use Rattle.load_model.specs.Layers.{LayerRefusal, no_such_layer, load, no_list, built_in, flat_files, statement_in_layer, contents_in_layer, sources_in_layer, layer_file, layer_at, layers_after, words_of, starting_with, bitbake_conf, Configured, layered, flat, configured, patterns, named_files, in_layer_order, Config, config}
+use Rattle.plan_model.specs.Names.{AddsGoodTasks, HaveGoodTasks, AddGoodTasks}
+use Rattle.plan_model.specs.Sound.{ProjectHasGoodNames}
+use Rattle.plan_model.proofs.Planning.{ok_parts, ok_as, same_ok}
+use Rattle.plan_model.proofs.GoodStatements.{files_add}
+use Rattle.plan_model.proofs.GoodLoading.{entries_good, searched_entries_good}
+use Rattle.plan_model.proofs.GoodFacts.{set_has_good_names}
+
+-- files of a layer
+
+in_layer_good : (layer : List ℕ) (s : Statement) → AddsGoodTasks s → AddsGoodTasks (statement_in_layer layer s)
+in_layer_good layer (Assign export name op text) h = tt
+in_layer_good layer (Flag name flag op text) h = tt
+in_layer_good layer (Export name) h = tt
+in_layer_good layer (Unset name) h = tt
+in_layer_good layer (UnsetFlag name flag) h = tt
+in_layer_good layer (Include path) h = tt
+in_layer_good layer (Require path) h = tt
+in_layer_good layer (Inherit names) h = tt
+in_layer_good layer (Function name body) h = tt
+in_layer_good layer (ExportFunctions names) h = tt
+in_layer_good layer (AddTask names after before) h = h
+in_layer_good layer (DelTask names) h = tt
+
+abbrev Adds : List (ℕ × Statement) → Type 0
+Adds list = AllByRecursion (λ s. AddsGoodTasks s.1) list
+
+list_in_layer : (layer : List ℕ) (list : List (ℕ × Statement)) → Adds list → Adds (map (λ s. (s.0, statement_in_layer layer s.1)) list)
+list_in_layer layer [] h = tt
+list_in_layer layer (s ∷ list) h = (in_layer_good layer s.1 h.0, list_in_layer layer list h.1)
+
+layer_adds : (layer : List ℕ) (sources : Sources) → AddGoodTasks sources → AddGoodTasks (sources_in_layer layer sources)
+layer_adds layer sources adds path kind list e = by (sources path kind) refl e
+  where
+    by : (o : Option Contents) → sources path kind ≡ o → option_map (contents_in_layer layer) o ≡ Some (Ok list) → Adds list
+    by None f h = absurd (cc)
+    by (Some (Err wrong)) f h = absurd (cc)
+    by (Some (Ok own)) f h = let s : map (λ s. (s.0, statement_in_layer layer s.1)) own ≡ list = cc in subst Adds s (list_in_layer layer own (adds path kind own f))
+
+module _ (sources : Sources) (adds : AddGoodTasks sources) where
+  one_layer_good : (layer : List ℕ) (path : Option (List ℕ)) (old new : Loaded) → HaveGoodTasks old.lines → layer_at sources layer path old ≡ Ok new → HaveGoodTasks new.lines
+  one_layer_good layer None old new h e = absurd (true≢false (sym (ap is_ok e)))
+  one_layer_good layer (Some path) old new h e = by (is_some (sources path Conf)) e
+    where
+      by : (b : Bool) → ◌≡◌ {A = Result Loaded LayerRefusal} (elim b [ true ↦ refused_as load (entries (sources_in_layer layer sources) Conf path old) | false ↦ Err (no_such_layer layer) ]) (Ok new) → HaveGoodTasks new.lines
+      by true f = entries_good (sources_in_layer layer sources) (layer_adds layer sources adds) Conf path old new h (ok_as load (entries (sources_in_layer layer sources) Conf path old) new f)
+      by false f = absurd (true≢false (sym (ap is_ok f)))
+
+  layers_good : (layers : List (List ℕ)) (old new : Loaded) → HaveGoodTasks old.lines → layers_after sources layers old ≡ Ok new → HaveGoodTasks new.lines
+  layers_good [] old new h e = subst (λ (l : Loaded). HaveGoodTasks l.lines) (same_ok {E = LayerRefusal} old new e) h
+  layers_good (layer ∷ rest) old new h e =
+      let next = ok_parts (layer_at sources layer (layer_file layer) old) (λ next. layers_after sources rest next) new e in
+      layers_good rest next.0 new (one_layer_good layer (layer_file layer) old next.0 h next.1) next.2
+
+  conf_good : (must : Bool) (old new : Loaded) → HaveGoodTasks old.lines → bitbake_conf sources must old ≡ Ok new → HaveGoodTasks new.lines
+  conf_good must old new h e = searched_entries_good sources adds Conf must (codes "conf/bitbake.conf") old new h (ok_as load (searched_entries sources Conf must (codes "conf/bitbake.conf") old) new e)
+
+  layered_good : (made : Configured) → layered sources ≡ Ok made → HaveGoodTasks made.lines
+  layered_good made e =
+      let fourth = λ (layers : List (List ℕ)) (last : Loaded). let r : Result Configured LayerRefusal = Ok (record { lines = last.lines; layers = layers }) in r in
+      let third = λ (layers : List (List ℕ)) (all : Loaded). bitbake_conf sources true all >>= fourth layers in
+      let second = λ (first : Loaded) (layers : List (List ℕ)). layers_after sources layers first >>= third layers in
+      let one = λ (first : Loaded). refused_as no_list (words_of first.lines (codes "BBLAYERS")) >>= second first in
+      let start = starting_with built_in in
+      let first = ok_parts (refused_as load (entries sources Conf (codes "conf/bblayers.conf") start)) one made e in
+      let layers = ok_parts (refused_as no_list (words_of first.0.lines (codes "BBLAYERS"))) (second first.0) made first.2 in
+      let all = ok_parts (layers_after sources layers.0 first.0) (third layers.0) made layers.2 in
+      let last = ok_parts (bitbake_conf sources true all.0) (fourth layers.0) made all.2 in
+      let a = entries_good sources adds Conf (codes "conf/bblayers.conf") start first.0 (record { each = (tt, (tt, (tt, (tt, tt)))) }) (ok_as load (entries sources Conf (codes "conf/bblayers.conf") start) first.0 first.1) in
+      let b = layers_good layers.0 first.0 all.0 a all.1 in
+      subst (λ (c : Configured). HaveGoodTasks c.lines) (same_ok {E = LayerRefusal} (record { lines = last.0.lines; layers = layers.0 }) made last.2) (conf_good true all.0 last.0 b last.1)
+
+  flat_good : (made : Configured) → flat sources ≡ Ok made → HaveGoodTasks made.lines
+  flat_good made e =
+      let start = starting_with (built_in ++ flat_files) in
+      let last = ok_parts (bitbake_conf sources false start) (λ last. Ok (record { lines = last.lines; layers = [] })) made e in
+      subst (λ (c : Configured). HaveGoodTasks c.lines) (same_ok {E = LayerRefusal} (record { lines = last.0.lines; layers = [] }) made last.2) (conf_good false start last.0 (record { each = (tt, (tt, (tt, (tt, (tt, tt))))) }) last.1)
+
+  configured_good : (made : Configured) → configured sources ≡ Ok made → HaveGoodTasks made.lines
+  configured_good made e = by (is_some (sources (codes "conf/bblayers.conf") Conf)) e
+    where
+      by : (b : Bool) → ◌≡◌ {A = Result Configured LayerRefusal} (elim b [ true ↦ layered sources | false ↦ flat sources ]) (Ok made) → HaveGoodTasks made.lines
+      by true f = layered_good made f
+      by false f = flat_good made f
+
+  config_good : (paths : List (List ℕ)) (made : Config) → config sources paths ≡ Ok made → HaveGoodTasks made.lines
+  config_good paths made e =
+      let third = λ (c : Configured) (globs : List (List ℕ)). let r : Result Config LayerRefusal = Ok (record { lines = c.lines; layers = c.layers; recipes = named_files globs (codes ".bb") paths; appends = in_layer_order c.layers (named_files globs (codes ".bbappend") paths) }) in r in
+      let second = λ (c : Configured) (words : List (List ℕ)). patterns words >>= third c in
+      let first = λ (c : Configured). refused_as no_list (words_of c.lines (codes "BBFILES")) >>= second c in
+      let c = ok_parts (configured sources) first made e in
+      let words = ok_parts (refused_as no_list (words_of c.0.lines (codes "BBFILES"))) (second c.0) made c.2 in
+      let globs = ok_parts (patterns words.0) (third c.0) made words.2 in
+      let same = same_ok {E = LayerRefusal} (record { lines = c.0.lines; layers = c.0.layers; recipes = named_files globs.0 (codes ".bb") paths; appends = in_layer_order c.0.layers (named_files globs.0 (codes ".bbappend") paths) }) made globs.2 in
+      subst HaveGoodTasks (ap (λ (k : Config). k.lines) same) (configured_good c.0 c.1)
+
+pub project_has_good_names : ProjectHasGoodNames
+project_has_good_names files paths made set e f =
+    let sources = sources_of files in
+    let adds = files_add files in
+    set_has_good_names sources made.lines made.recipes made.appends set adds (config_good sources adds paths made e) f
