@@ -138,18 +138,40 @@ forms s = assignment false s
 forms_good : (s : List ℕ) → AllGood (forms s)
 forms_good s = (
   assignment_good false s,
-  (good_bind (behind_word (codes "export") s) (assignment true) (λ t e. assignment_good true t),
-  (flag_good s,
-  (name_good (codes "export") Export (λ t. tt) s,
-  (name_good (codes "unset") Unset (λ t. tt) s,
-  (flag_unset_good s,
-  (text_good (codes "include") Include (λ t. tt) s,
-  (text_good (codes "require") Require (λ t. tt) s,
-  (text_good (codes "inherit") Inherit (λ t. tt) s,
-  (words_good (codes "EXPORT_FUNCTIONS") (λ ws. Some (ExportFunctions ws)) (λ ws. tt) s,
-  (words_good (codes "addtask") task_parts parts_good s,
-  (words_good (codes "deltask") task_names deltask_good s,
-  tt)))))))))))
+  (
+    good_bind (behind_word (codes "export") s) (assignment true) (λ t e. assignment_good true t),
+    (
+      flag_good s,
+      (
+        name_good (codes "export") Export (λ t. tt) s,
+        (
+          name_good (codes "unset") Unset (λ t. tt) s,
+          (
+            flag_unset_good s,
+            (
+              text_good (codes "include") Include (λ t. tt) s,
+              (
+                text_good (codes "require") Require (λ t. tt) s,
+                (
+                  text_good (codes "inherit") Inherit (λ t. tt) s,
+                  (
+                    words_good (codes "EXPORT_FUNCTIONS") (λ ws. Some (ExportFunctions ws)) (λ ws. tt) s,
+                    (
+                      words_good (codes "addtask") task_parts parts_good s,
+                      (
+                        words_good (codes "deltask") task_names deltask_good s,
+                        tt,
+                      ),
+                    ),
+                  ),
+                ),
+              ),
+            ),
+          ),
+        ),
+      ),
+    ),
+  ),
 )
 
 fit_by : (b : Bool) (body s : List ℕ) → Good (if b then function_head body s else first_there (forms s))

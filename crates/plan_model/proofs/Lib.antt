@@ -9,3 +9,5 @@ pub mod GoodStatements
 pub mod GoodLoading
 pub mod GoodFacts
 pub mod GoodConfig
+pub mod Sorted
+pub mod OneGraph

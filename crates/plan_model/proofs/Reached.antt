@@ -121,8 +121,8 @@ needs_before facts targets graph is n node e = all_from (λ d. d < n) node.deps 
         let there = node_there graph d dep.0 dep.1 in
         let needs : Needs facts (node_task node) (node_task there.0) = subst (Needs facts (node_task node)) (sym there.2) dep.2 in
         let below = deeper facts (node_task node) (node_task there.0) node.depth there.0.depth needs
-            (all_at (λ m. IsDepth (Needs facts) (node_task m) m.depth) graph.nodes is.depths n node e)
-            (all_at (λ m. IsDepth (Needs facts) (node_task m) m.depth) graph.nodes is.depths d there.0 there.1) in
+        (all_at (λ m. IsDepth (Needs facts) (node_task m) m.depth) graph.nodes is.depths n node e)
+        (all_at (λ m. IsDepth (Needs facts) (node_task m) m.depth) graph.nodes is.depths d there.0 there.1) in
         by there.0 there.1 below (cases_lt d n)
       where
         by : (other : Node) → slice_get graph.nodes d ≡ Some other → other.depth < node.depth → (d < n) ⊎ (n ≤ d) → d < n

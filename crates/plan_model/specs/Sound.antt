@@ -98,3 +98,7 @@ ProjectHasGoodNames = (files : Files) (paths : List (List ℕ)) (made : Config) 
 -- The nodes of a graph are of recipes of its facts.
 abbrev pub GraphIsOver : Type 0
 GraphIsOver = (facts : FactSet) (targets : List Target) (graph : Graph) → IsGraph facts targets graph → IsOver facts graph
+
+-- The targets have one graph, where no two recipes have one PN.
+abbrev pub GraphsAreOne : Type 0
+GraphsAreOne = (facts : FactSet) (targets : List Target) (one other : Graph) → HasGoodNames facts → IsGraph facts targets one → IsGraph facts targets other → one ≡ other

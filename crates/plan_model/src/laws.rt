@@ -1,5 +1,5 @@
 // What is proved of the definitions.
-ghost use Rattle.plan_model.specs.Sound.{ForcedIsSound, GraphIsOver, PlanIsSound, ProjectHasGoodNames, SoundMeets};
+ghost use Rattle.plan_model.specs.Sound.{ForcedIsSound, GraphIsOver, GraphsAreOne, PlanIsSound, ProjectHasGoodNames, SoundMeets};
 
 /// The plan of a graph is sound, where its threads are 1 to 16, files stand at clean paths, and recipes and tasks have names that
 /// recipes and tasks may have.
@@ -23,4 +23,9 @@ pub fn projects_have_good_names()
 /// The nodes of a graph are of recipes of the facts that it was built from.
 pub fn graphs_are_over_their_facts()
     ensures { GraphIsOver }
+{}
+
+/// Targets have one graph, where no two recipes have one PN.
+pub fn graphs_are_one()
+    ensures { GraphsAreOne }
 {}

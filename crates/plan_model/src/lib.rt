@@ -10,5 +10,6 @@
 mod laws;
 
 pub use laws::{
-    graphs_are_over_their_facts, plan_is_sound, projects_have_good_names, sound_plans_meet,
+    graphs_are_one, graphs_are_over_their_facts, plan_is_sound, projects_have_good_names,
+    sound_plans_meet,
 };
