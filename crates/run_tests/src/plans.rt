@@ -126,7 +126,5 @@ pub fn is_sound(plan: &Plan) -> bool
     ensures { result ≡ true → IsSound plan.now }
 {
     let tasks = plan.tasks.as_slice();
-    tasks.len() <= 65536
-        && are_ordered(tasks)
-        && are_below(plan.targets.as_slice(), tasks.len())
+    tasks.len() <= 65536 && are_ordered(tasks) && are_below(plan.targets.as_slice(), tasks.len())
 }

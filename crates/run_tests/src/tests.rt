@@ -1,8 +1,12 @@
+ghost use Rattle.run_tests.specs.Index.{view_of};
+ghost use Rattle.run_tests.specs.Playing.{IsSound, Stands};
+
 use crate::index::Index;
 use crate::plans::{Shape, is_sound, plan_of};
 use crate::playing::{Outcome, Play, begin, play_out, step};
 use meta_model::{Options, Plan};
 use run_core::Next;
+use setscene_plan::ProbeFault;
 use std::alloc::Global;
 use std::test::Fail;
 use tree_model::{Hash, Mem};
@@ -12,109 +16,183 @@ const PLAIN: Options = Options {
     setscene: true,
 };
 
-/// A recipe of two tasks. The first one's key has this comment.
-fn two_tasks(alloc: Global, comment: &'static str) -> Result<Plan, Mem> {
+const GOING: Options = Options {
+    keep_going: true,
+    setscene: true,
+};
+
+/// Recipes of so many tasks in all, each with this many. The first one's key has this comment.
+fn recipes(
+    alloc: Global,
+    tasks: u32,
+    steps: u32,
+    reach: u32,
+    comment: &'static str,
+) -> Result<Plan, Mem> {
     plan_of(
         alloc,
         &Shape {
-            tasks: 2,
-            steps: 2,
-            reach: 0,
-            lines: 1,
+            tasks,
+            steps,
+            reach,
+            lines: 2,
             comment,
         },
     )
 }
 
-fn name_of(play: &Play, place: usize) -> Option<Hash> {
-    play.replan.names().get(place).copied()
+fn two_names(play: &Play) -> Option<[Hash; 2]> {
+    match play.replan.names() {
+        [first, second] => Some([*first, *second]),
+        _ => None,
+    }
+}
+
+/// The names in a run of two tasks, which both end.
+fn first_run(alloc: Global, index: &mut Index) -> Result<[Hash; 2], Fail>
+    requires { IsSound index.old.plan.now }
+{
+    let mut play = begin(alloc, index)?;
+    play_out(alloc, index, &mut play, &PLAIN)?;
+    Ok(two_names(&play).ok_or("two names")?)
+}
+
+/// What a second run answers to three steps, how often it asks in the first, and the names before and after.
+#[derive(Clone, Copy)]
+struct Rerun {
+    before: Option<[Hash; 2]>,
+    steps: [Next; 3],
+    asked: u64,
+    after: Option<[Hash; 2]>,
+}
+
+fn three_steps(
+    alloc: Global,
+    index: &mut Index,
+    play: &mut Play,
+    unihash: Hash,
+) -> Result<([Next; 3], u64), ProbeFault>
+    requires { Stands (view_of index.old) play.old }
+{
+    let before = index.asked;
+    let first = step(alloc, index, play, &PLAIN, Outcome::EndsAs(unihash))?;
+    let asked = index.asked.saturating_sub(before);
+    let second = step(alloc, index, play, &PLAIN, Outcome::Ends)?;
+    let third = step(alloc, index, play, &PLAIN, Outcome::Ends)?;
+    Ok(([first, second, third], asked))
+}
+
+/// A run in which the first task ends with this unihash.
+fn second_run(alloc: Global, index: &mut Index, unihash: Hash) -> Result<Rerun, ProbeFault>
+    requires { IsSound index.old.plan.now }
+{
+    let mut play = begin(alloc, index)?;
+    let before = two_names(&play);
+    let (steps, asked) = three_steps(alloc, index, &mut play, unihash)?;
+    Ok(Rerun {
+        before,
+        steps,
+        asked,
+        after: two_names(&play),
+    })
+}
+
+fn both_runs(alloc: Global, plan: &Plan, changed: &Plan) -> Result<([Hash; 2], Rerun), Fail>
+    requires plan { IsSound plan.now }
+    requires changed { IsSound changed.now }
+{
+    let mut index = Index::new(alloc, plan);
+    let names = first_run(alloc, &mut index)?;
+    let mut index = index.over(changed);
+    Ok((names, second_run(alloc, &mut index, names[0])?))
 }
 
 /// A comment of the first task changes. It runs anew and its record keeps the old unihash, so the second one has its old name and
 /// is found. Both are asked for once, since the names of both are worked out anew.
 #[test]
 fn comment_keeps_the_unihash(rt: HostRuntime) -> Result<(), Fail> {
-    let alloc = rt.alloc();
-    let plan = two_tasks(alloc, "one comment")?;
-    let changed = two_tasks(alloc, "another comment")?;
+    let plan = recipes(rt.alloc(), 2, 2, 0, "one comment")?;
+    let changed = recipes(rt.alloc(), 2, 2, 0, "another comment")?;
     assert!(rt; is_sound(&plan));
     assert!(rt; is_sound(&changed));
-    let mut index = Index::new(alloc, &plan);
-    let mut play = begin(alloc, &mut index)?;
-    assert_eq!(rt; play_out(alloc, &mut index, &mut play, &PLAIN)?, 2);
-    let first = name_of(&play, 0).ok_or("a name")?;
-    let second = name_of(&play, 1);
-
-    let mut index = index.over(&changed);
-    let mut play = begin(alloc, &mut index)?;
-    assert!(rt; name_of(&play, 0) != Some(first));
-    assert!(rt; name_of(&play, 1) != second);
-    let asked = index.asked;
-    let next = step(alloc, &mut index, &mut play, &PLAIN, Outcome::EndsAs(first))?;
-    assert_eq!(rt; next, Next::Start(0));
-    assert!(rt; name_of(&play, 1) == second);
-    assert_eq!(rt; index.asked.saturating_sub(asked), 2);
-    let next = step(alloc, &mut index, &mut play, &PLAIN, Outcome::Ends)?;
-    assert_eq!(rt; next, Next::Settle(1));
-    let next = step(alloc, &mut index, &mut play, &PLAIN, Outcome::Ends)?;
-    assert_eq!(rt; next, Next::Finished);
+    let (names, rerun) = both_runs(rt.alloc(), &plan, &changed)?;
+    let before = rerun.before.unwrap_or(names);
+    assert!(rt; before[0] != names[0] && before[1] != names[1]);
+    assert_eq!(rt;
+        rerun.steps,
+        [Next::Start(0), Next::Settle(1), Next::Finished]
+    );
+    assert_eq!(rt; rerun.asked, 2);
+    assert!(rt; rerun.after == Some([before[0], names[1]]));
     Ok(())
+}
+
+fn fail_first(
+    alloc: Global,
+    index: &mut Index,
+    play: &mut Play,
+    options: &Options,
+) -> Result<(Next, u32, Next), ProbeFault>
+    requires { Stands (view_of index.old) play.old }
+{
+    let first = step(alloc, index, play, options, Outcome::Fails)?;
+    let rest = play_out(alloc, index, play, options)?;
+    let last = step(alloc, index, play, options, Outcome::Ends)?;
+    Ok((first, rest, last))
+}
+
+/// A run whose first task fails: that step, how many steps are left, and what is answered then.
+fn failing_run(
+    alloc: Global,
+    plan: &Plan,
+    options: &Options,
+) -> Result<(Next, u32, Next), ProbeFault>
+    requires { IsSound plan.now }
+{
+    let mut index = Index::new(alloc, plan);
+    let mut play = begin(alloc, &mut index)?;
+    fail_first(alloc, &mut index, &mut play, options)
 }
 
 /// After a task failed nothing begins. With `keep_going` what doesn't stand above it still does.
 #[test]
 fn failed_task(rt: HostRuntime) -> Result<(), Fail> {
-    let alloc = rt.alloc();
-    let plan = plan_of(
-        alloc,
-        &Shape {
-            tasks: 4,
-            steps: 2,
-            reach: 0,
-            lines: 1,
-            comment: "",
-        },
-    )?;
+    let plan = recipes(rt.alloc(), 4, 2, 0, "")?;
     assert!(rt; is_sound(&plan));
-    let going = Options {
-        keep_going: true,
-        setscene: true,
-    };
-    for (options, rest, last) in [(PLAIN, 0, Next::Stopped), (going, 2, Next::Finished)] {
-        let mut index = Index::new(alloc, &plan);
-        let mut play = begin(alloc, &mut index)?;
-        let next = step(alloc, &mut index, &mut play, &options, Outcome::Fails)?;
-        assert_eq!(rt; next, Next::Start(0));
-        assert_eq!(rt; play_out(alloc, &mut index, &mut play, &options)?, rest);
-        let next = step(alloc, &mut index, &mut play, &options, Outcome::Ends)?;
-        assert_eq!(rt; next, last);
-    }
+    let stopped = failing_run(rt.alloc(), &plan, &PLAIN)?;
+    assert_eq!(rt; stopped, (Next::Start(0), 0, Next::Stopped));
+    let goes_on = failing_run(rt.alloc(), &plan, &GOING)?;
+    assert_eq!(rt; goes_on, (Next::Start(0), 2, Next::Finished));
     Ok(())
 }
 
-/// Of 50 recipes one task ends with its own unihash: no name changes, and nothing is asked but what has that task's name.
-#[test]
-fn one_task_ends(rt: HostRuntime) -> Result<(), Fail> {
-    let alloc = rt.alloc();
-    let plan = plan_of(
-        alloc,
-        &Shape {
-            tasks: 200,
-            steps: 4,
-            reach: 2,
-            lines: 3,
-            comment: "",
-        },
-    )?;
-    assert!(rt; is_sound(&plan));
-    let mut index = Index::new(alloc, &plan);
-    let mut play = begin(alloc, &mut index)?;
-    assert_eq!(rt; index.asked, 200);
+fn end_first(alloc: Global, index: &mut Index, play: &mut Play) -> Result<(Next, u64, bool), Fail>
+    requires { Stands (view_of index.old) play.old }
+{
     let mut names = Vec::new(alloc);
     names.extend_from_slice(play.replan.names())?;
-    let next = step(alloc, &mut index, &mut play, &PLAIN, Outcome::Ends)?;
+    let before = index.asked;
+    let next = step(alloc, index, play, &PLAIN, Outcome::Ends)?;
+    let asked = index.asked.saturating_sub(before);
+    Ok((next, asked, play.replan.names() == names.as_slice()))
+}
+
+/// A run's first step, how often it asks in it, and whether the names stay.
+fn one_step(alloc: Global, plan: &Plan) -> Result<(Next, u64, bool), Fail>
+    requires { IsSound plan.now }
+{
+    let mut index = Index::new(alloc, plan);
+    let mut play = begin(alloc, &mut index)?;
+    end_first(alloc, &mut index, &mut play)
+}
+
+/// Of 50 recipes one task ends with its own unihash: no name changes, and at most one output is asked for.
+#[test]
+fn one_task_ends(rt: HostRuntime) -> Result<(), Fail> {
+    let plan = recipes(rt.alloc(), 200, 4, 2, "")?;
+    assert!(rt; is_sound(&plan));
+    let (next, asked, stay) = one_step(rt.alloc(), &plan)?;
     assert_eq!(rt; next, Next::Start(0));
-    assert!(rt; index.asked <= 201);
-    assert!(rt; play.replan.names() == names.as_slice());
+    assert!(rt; asked <= 1 && stay);
     Ok(())
 }

@@ -26,9 +26,9 @@ returns c =
     c.in_ok-settle.ensures.current
     (long_twice fates task (Running 0) Ended ∙ stands.long ∙ ap (λ (p : Plan). length p.tasks) (sym plan))
     (subst (λ (p : Plan). Covers p.tasks (need_in new) (avail_in new) last c.after-2.new.self) (sym plan)
-      (c.after-2.ensures tasks (need_in old) (need_in new) (avail_in old) (avail_in new) mid
-        (c.after.ensures tasks (need_in old) (need_in old) (avail_in old) (avail_in old) fates stands.covers (may_start fates task stands.rests can) (nothing_changed (need_in old) (avail_in old) mid))
-        (may_end fates task can) (changes_told old new last c.told.result.now c.told.ensures c.in_ok-settle.ensures.told)))
+    (c.after-2.ensures tasks (need_in old) (need_in new) (avail_in old) (avail_in new) mid
+    (c.after.ensures tasks (need_in old) (need_in old) (avail_in old) (avail_in old) fates stands.covers (may_start fates task stands.rests can) (nothing_changed (need_in old) (avail_in old) mid))
+    (may_end fates task can) (changes_told old new last c.told.result.now c.told.ensures c.in_ok-settle.ensures.told)))
     (rests_twice fates task (Running 0) Ended can.within stands.rests (λ e. let f : false ≡ true = e in cc))
     (c.mark-2.ensures ∙ ap (λ (fs : List Fate). set fs task Ended) c.mark.ensures)
 

@@ -19,8 +19,8 @@ returns c =
     stood (view_of c.args.index.now) replan c.after-2.new.self (set mid task Failed) c.mark-2.new.self stands.sound stands.current
     (long_twice fates task (Running 0) Failed ∙ stands.long)
     (c.after-2.ensures tasks (need_in replan) (need_in replan) (avail_in replan) (avail_in replan) mid
-      (c.after.ensures tasks (need_in replan) (need_in replan) (avail_in replan) (avail_in replan) fates stands.covers (may_start fates task stands.rests can) (nothing_changed (need_in replan) (avail_in replan) mid))
-      (may_fail fates task (why.Status 1) can) (nothing_changed (need_in replan) (avail_in replan) (set mid task Failed)))
+    (c.after.ensures tasks (need_in replan) (need_in replan) (avail_in replan) (avail_in replan) fates stands.covers (may_start fates task stands.rests can) (nothing_changed (need_in replan) (avail_in replan) mid))
+    (may_fail fates task (why.Status 1) can) (nothing_changed (need_in replan) (avail_in replan) (set mid task Failed)))
     (rests_twice fates task (Running 0) Failed can.within stands.rests (λ e. let f : false ≡ true = e in cc))
     (c.mark-2.ensures ∙ ap (λ (fs : List Fate). set fs task Failed) c.mark.ensures)
 
