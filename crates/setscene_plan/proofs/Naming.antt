@@ -1,23 +1,20 @@
 -- Names that are worked out task by task are those from scratch.
-use Rattle.std.proofs.Common.{◌≡◌, ◌≢◌, ◌∙◌, sym, ap, subst, refl, ℕ, zero, suc, ◌+◌, ◌<◌, ◌≤◌, arith, List, [], ◌∷◌, ◌++◌, length, get_or, map, All, Contains, Option, Some, None, slice_get, append_assoc, inl, inr, ◌⊎◌}
+use Rattle.std.proofs.Common.{◌≡◌, ◌∙◌, sym, ap, subst, refl, ℕ, zero, suc, ◌<◌, ◌≤◌, arith, List, [], ◌∷◌, ◌++◌, length, get_or, map, All, Option, Some, None, slice_get, append_assoc, inl, inr, ◌⊎◌}
 use Rattle.std.specs.Option.{option_map}
 use Rattle.std.specs.List.{AllByRecursion, cons_option, filter_map}
-use Rattle.std.proofs.lemmas.Bool.{cases_lt}
 use Rattle.std.proofs.lemmas.List.{append-nil, length-map, map-append}
-use Rattle.std.proofs.lemmas.List.Elements.{Contains-get_or, recursion_from_All}
-use Rattle.std.proofs.lemmas.Option.{same_Some, slice_get-get_or, slice_get-map, slice_get_past, slice_get_within}
+use Rattle.std.proofs.lemmas.List.Elements.{recursion_from_All}
+use Rattle.std.proofs.lemmas.Option.{same_Some, slice_get-map, slice_get_past, slice_get_within}
 use Rattle.tree_model.specs.declared.hash.Hash.{Hash}
 use Rattle.meta_model.specs.declared.plan.PlanTask.{PlanTask}
-use Rattle.run_core.specs.Need.{AreOrdered, deps_in, deps_of}
+use Rattle.run_core.specs.Need.{AreOrdered, deps_in}
 use Rattle.store_model.specs.declared.signature.EquivRow.{EquivRow}
-use Rattle.store_model.specs.declared.signature.SigRecord.{SigRecord}
-use Rattle.store_model.specs.Rows.{uni}
 use Rattle.store_model.specs.Signatures.{Signed, signature, signatures, signed_from}
 use Rattle.store_model.specs.Spelling.{name_of}
 use Rattle.store_model.specs.Unihashes.{Hashed, hashed, signature_of}
 use Rattle.store_model.proofs.Hashing.{signature_by_unihashes}
-use Rattle.sig_gen.specs.Signing.{hashed_among, hashed_at, paired, signature_by}
-use Rattle.setscene_plan.specs.Names.{AreNamed, IsNamed, NamesAreOver, names_over}
+use Rattle.sig_gen.specs.Signing.{hashed_at, paired, signature_by}
+use Rattle.setscene_plan.specs.Names.{AreNamed, NamesAreOver, names_over}
 
 -- ---- a signature depends on the unihashes of what its task needs alone
 

@@ -1,6 +1,6 @@
 -- What stays of names, unihashes and signatures when one task is named anew.
-use Rattle.std.proofs.Common.{◌≡◌, ◌≢◌, ◌∙◌, sym, ap, subst, refl, ℕ, suc, ◌+◌, ◌<◌, ◌≤◌, arith, List, length, get_or, set, length-set, get_or-set_same, All, Some, slice_get, ◌⊎◌, inl, inr}
-use Rattle.std.proofs.lemmas.Bool.{cases_eq, cases_lt}
+use Rattle.std.proofs.Common.{◌≡◌, ◌≢◌, ◌∙◌, sym, ap, subst, ℕ, ◌+◌, ◌<◌, ◌≤◌, arith, List, length, get_or, set, length-set, get_or-set_same, All, Some, slice_get, inl, inr}
+use Rattle.std.proofs.lemmas.Bool.{cases_lt}
 use Rattle.std.proofs.lemmas.Option.{same_Some, slice_get-get_or, slice_get_within}
 use Rattle.tree_model.specs.declared.hash.Hash.{Hash}
 use Rattle.meta_model.specs.declared.plan.PlanTask.{PlanTask}

@@ -1,9 +1,8 @@
 -- Rows after a task was settled.
-use Rattle.std.proofs.Common.{◌≡◌, ◌≢◌, ◌∙◌, sym, ap, subst, ℕ, List, Some, None, slice_get, ◌⊎◌, inl, inr}
+use Rattle.std.proofs.Common.{◌∙◌, sym, ap, subst, ℕ, List, Some, inl, inr}
 use Rattle.std.proofs.lemmas.Bool.{cases_eq}
-use Rattle.meta_model.specs.declared.plan.PlanTask.{PlanTask}
 use Rattle.store_model.specs.declared.signature.EquivRow.{EquivRow}
-use Rattle.store_model.specs.Rows.{row_at, unihash_or}
+use Rattle.store_model.specs.Rows.{unihash_or}
 use Rattle.store_model.specs.Spelling.{name_of}
 use Rattle.sig_gen.specs.Signing.{signature_by}
 use Rattle.setscene_plan.specs.declared.replan.Replan.{Replan}

@@ -1,5 +1,5 @@
 -- The work on names, task by task.
-use Rattle.std.proofs.Common.{◌≡◌, ◌≢◌, ◌∙◌, sym, ap, subst, refl, ℕ, zero, suc, ◌+◌, ◌-◌, ◌<◌, ◌≤◌, arith, Bool, true, false, List, [], ◌∷◌, ◌++◌, length, get_or, fold, All, Contains, Option, Some, None, slice_get, ◌⊎◌, inl, inr}
+use Rattle.std.proofs.Common.{◌≡◌, ◌≢◌, ◌∙◌, sym, ap, subst, refl, ℕ, zero, suc, ◌+◌, ◌<◌, ◌≤◌, arith, Bool, true, false, List, [], ◌∷◌, ◌++◌, length, get_or, fold, Contains, slice_get, ◌⊎◌, inl, inr}
 use Rattle.std.specs.List.{AllByRecursion}
 use Rattle.std.proofs.lemmas.Bool.{cases_eq, cases_lt}
 use Rattle.std.proofs.lemmas.List.Elements.{All-contains, Contains-append_left, Contains-append_right, Contains-get_or, Contains-push, Contains-push_cases, recursion_from_All}
@@ -10,7 +10,7 @@ use Rattle.run_core.specs.Above.{IsAbove, above_of}
 use Rattle.run_core.specs.Need.{AreOrdered, deps_in, deps_of}
 use Rattle.store_model.specs.declared.signature.EquivRow.{EquivRow}
 use Rattle.setscene_plan.specs.declared.work.Names.{Names}
-use Rattle.setscene_plan.specs.Reworks.{Ascend, Changes, IsFound, IsRightAt, IsTouched, IsUntouched, IsWorkable, IsWorked, PutsAll, Renames, Steps, raised}
+use Rattle.setscene_plan.specs.Reworks.{Ascend, IsFound, IsRightAt, IsTouched, IsUntouched, IsWorkable, IsWorked, Steps, raised}
 use Rattle.setscene_plan.proofs.Working.{renamed_else, renamed_here, renamed_same}
 
 -- behind the last one of a list

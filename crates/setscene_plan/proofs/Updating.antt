@@ -1,26 +1,24 @@
 -- What is kept of a plan's tasks, brought up to date.
-use Rattle.std.proofs.Common.{◌≡◌, ◌≢◌, ◌∙◌, sym, ap, subst, refl, ℕ, ◌+◌, ◌<◌, ◌≤◌, arith, Bool, true, List, [], length, get_or, All, Contains, Option, Some, None, slice_get, ◌⊎◌, inl, inr}
-use Rattle.std.proofs.lemmas.Bool.{cases_eq, cases_lt}
-use Rattle.std.proofs.lemmas.List.Elements.{Contains-get_or}
-use Rattle.std.proofs.lemmas.Option.{same_Some, slice_get-get_or, slice_get_within}
+use Rattle.std.proofs.Common.{◌≡◌, ◌≢◌, ◌∙◌, sym, ap, subst, refl, ℕ, ◌+◌, ◌<◌, ◌≤◌, arith, true, List, [], length, get_or, All, Contains, Option, Some, None, slice_get, ◌⊎◌, inl, inr}
+use Rattle.std.proofs.lemmas.Bool.{cases_lt}
+use Rattle.std.proofs.lemmas.Option.{same_Some, slice_get-get_or}
 use Rattle.tree_model.specs.declared.hash.Hash.{Hash}
 use Rattle.meta_model.specs.declared.event.Avail.{Avail}
-use Rattle.meta_model.specs.declared.event.Avail.TheVariants.{Missing}
 use Rattle.meta_model.specs.declared.plan.Plan.{Plan}
 use Rattle.meta_model.specs.declared.plan.PlanTask.{PlanTask}
 use Rattle.meta_model.proofs.Bools.{either_way}
 use Rattle.run_core.specs.Above.{IsAbove}
-use Rattle.run_core.specs.Need.{AreOrdered, IsIn, IsNeed, deps_in, deps_of}
+use Rattle.run_core.specs.Need.{AreOrdered, IsIn, IsNeed, deps_in}
 use Rattle.store_model.specs.Rows.{hash_eq, row_at}
 use Rattle.store_model.specs.Spelling.{name_of}
 use Rattle.store_model.proofs.Listing.{hash_itself, hash_same}
 use Rattle.sig_gen.specs.Signing.{signature_by}
 use Rattle.setscene_plan.specs.declared.replan.Replan.{Replan}
 use Rattle.setscene_plan.specs.View.{IsKnown, IsTold, View, told_by, told_for}
-use Rattle.setscene_plan.specs.Names.{AreNamed, IsClearAt, IsHashed, IsNamed, names_over}
-use Rattle.setscene_plan.specs.Asked.{AreNeeds, Knows, SameAt, members_beyond, members_of_either}
+use Rattle.setscene_plan.specs.Names.{IsClearAt, IsHashed, IsNamed, names_over}
+use Rattle.setscene_plan.specs.Asked.{AreNeeds, SameAt, members_beyond, members_of_either}
 use Rattle.setscene_plan.specs.Reworks.{Ascend, HaveOneName, IsFound, IsRightAt, IsTouched, IsUntouched, IsWorkable, IsWorked}
-use Rattle.setscene_plan.specs.Replans.{AreReworked, AsksNeeds, IsAskable, IsCurrent, IsMadeFor, IsSettled, ReworksNames, avail_in, names_in, need_in, unihashes_in}
+use Rattle.setscene_plan.specs.Replans.{AreReworked, AsksNeeds, IsAskable, IsCurrent, IsSettled, ReworksNames, avail_in, names_in, need_in, unihashes_in}
 use Rattle.setscene_plan.proofs.Naming.{names_are_over, signature_local}
 use Rattle.setscene_plan.proofs.Working.{alone, right_past}
 

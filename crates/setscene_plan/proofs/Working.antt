@@ -1,10 +1,10 @@
 -- Names that are worked out anew, one after the other.
-use Rattle.std.proofs.Common.{◌≡◌, ◌≢◌, ◌∙◌, sym, ap, subst, refl, ℕ, zero, suc, ◌+◌, ◌<◌, ◌≤◌, arith, Bool, true, false, nat_eq, List, [], ◌∷◌, ◌++◌, length, get_or, set, length-set, get_or-set_same, All, Contains, Option, Some, None, slice_get, ◌⊎◌, inl, inr, eqb-true}
+use Rattle.std.proofs.Common.{◌≡◌, ◌≢◌, ◌∙◌, sym, ap, subst, refl, ℕ, zero, suc, ◌+◌, ◌<◌, ◌≤◌, arith, Bool, true, false, nat_eq, List, [], ◌∷◌, length, get_or, set, length-set, get_or-set_same, All, Contains, Option, Some, slice_get, inl, inr, eqb-true}
 use Rattle.std.specs.HashMap.{get}
 use Rattle.std.specs.Cmp.Lexicographic.{pointwise}
-use Rattle.std.proofs.lemmas.Bool.{cases_eq, cases_lt}
+use Rattle.std.proofs.lemmas.Bool.{cases_lt}
 use Rattle.std.proofs.lemmas.List.{set-get_or}
-use Rattle.std.proofs.lemmas.Option.{same_Some, slice_get-get_or, slice_get_past, slice_get_within}
+use Rattle.std.proofs.lemmas.Option.{same_Some, slice_get-get_or, slice_get_within}
 use Rattle.tree_model.specs.declared.hash.Hash.{Hash}
 use Rattle.meta_model.specs.declared.plan.PlanTask.{PlanTask}
 use Rattle.meta_model.proofs.Bools.{either_way}
@@ -13,7 +13,7 @@ use Rattle.store_model.specs.declared.signature.EquivRow.{EquivRow}
 use Rattle.store_model.specs.Spelling.{name_of}
 use Rattle.sig_gen.specs.Signing.{signature_by}
 use Rattle.setscene_plan.specs.declared.work.Names.{Names}
-use Rattle.setscene_plan.specs.Names.{IsClearAt, IsHashed, IsNamed}
+use Rattle.setscene_plan.specs.Names.{IsClearAt}
 use Rattle.setscene_plan.specs.Owners.{IsOwned, Owners}
 use Rattle.setscene_plan.specs.Reworks.{HaveOneName, IsFound, IsRightAt, PutsAll, Renames}
 use Rattle.setscene_plan.proofs.Renaming.{clear_kept, hashed_kept, named_kept, needs_before, signature_kept}

@@ -1,9 +1,9 @@
 -- The names of a plan's tasks, and their unihashes.
-use Rattle.std.specs.Prelude.{◌≡◌, ◌≢◌, ℕ, ◌<◌, ◌⊎◌, Bool, true, List, Some, length, map, Contains, AllPairs}
+use Rattle.std.specs.Prelude.{◌≡◌, ℕ, List, Some, length, map}
 use Rattle.std.specs.List.{slice_get}
 use Rattle.tree_model.specs.declared.hash.Hash.{Hash}
 use Rattle.meta_model.specs.declared.plan.PlanTask.{PlanTask}
-use Rattle.run_core.specs.Need.{AreOrdered, deps_of}
+use Rattle.run_core.specs.Need.{AreOrdered}
 use Rattle.store_model.specs.declared.signature.EquivRow.{EquivRow}
 use Rattle.store_model.specs.Rows.{uni}
 use Rattle.store_model.specs.Signatures.{signatures}

@@ -1,5 +1,5 @@
 -- How names are worked out anew.
-use Rattle.std.specs.Prelude.{◌≡◌, ◌≢◌, ℕ, ◌≤◌, ◌<◌, ◌⊎◌, Bool, true, false, List, [], ◌∷◌, Some, length, All, Contains}
+use Rattle.std.specs.Prelude.{◌≡◌, ◌≢◌, ℕ, ◌<◌, ◌⊎◌, Bool, true, false, List, [], ◌∷◌, Some, length, All, Contains}
 use Rattle.std.specs.List.{AllByRecursion, slice_get}
 use Rattle.tree_model.specs.declared.hash.Hash.{Hash}
 use Rattle.meta_model.specs.declared.plan.PlanTask.{PlanTask}

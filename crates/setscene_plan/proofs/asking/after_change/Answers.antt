@@ -1,4 +1,4 @@
-use Rattle.std.proofs.Common.{ℕ, List, ◌≡◌, ◌∙◌, sym, ap, subst, length, inl, inr, refl, arith}
+use Rattle.std.proofs.Common.{List, ◌≡◌, ◌∙◌, sym, ap, subst, length, arith}
 use Rattle.meta_model.specs.declared.event.Avail.{Avail}
 use Rattle.meta_model.specs.declared.plan.Plan.{Plan}
 use Rattle.run_core.specs.Need.{IsNeed}

@@ -1,4 +1,4 @@
-use Rattle.std.proofs.Common.{ℕ, ◌≡◌, ◌≤◌, ◌+◌, ◌-◌, suc, ◌∙◌, refl, subst, drop, get_or, arith}
+use Rattle.std.proofs.Common.{◌≡◌, ◌≤◌, ◌+◌, ◌-◌, suc, ◌∙◌, refl, subst, drop, get_or, arith}
 use Rattle.setscene_plan.specs.View.{View}
 use Rattle.setscene_plan.specs.Asked.{AsksAll, AsksOne, members_among}
 use Rattle.setscene_plan.proofs.Learning.{all_asked_next, among_next, missing_next}

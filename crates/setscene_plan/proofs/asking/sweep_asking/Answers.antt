@@ -1,5 +1,4 @@
-use Rattle.std.proofs.Common.{ℕ, List, ◌≡◌, ◌-◌, suc, ◌∙◌, ap, subst, sym, length, slice_get, Some, arith}
-use Rattle.meta_model.specs.declared.event.Avail.{Avail}
+use Rattle.std.proofs.Common.{List, ◌≡◌, ◌-◌, suc, ◌∙◌, ap, subst, sym, length, slice_get, arith}
 use Rattle.meta_model.specs.declared.plan.Plan.{Plan}
 use Rattle.meta_model.specs.declared.plan.PlanTask.{PlanTask}
 use Rattle.run_core.specs.Need.{AreOrdered, IsIn}

@@ -1,11 +1,9 @@
-use Rattle.std.proofs.Common.{◌≡◌, ◌≤◌, ◌<◌, ◌∙◌, ℕ, subst, ap, List, length, length-set, slice_get, Some, arith}
+use Rattle.std.proofs.Common.{◌≡◌, ◌≤◌, ◌∙◌, subst, List, length, length-set, slice_get, Some, arith}
 use Rattle.std.specs.Prelude.{IfSome}
-use Rattle.std.proofs.lemmas.Option.{slice_get_within}
 use Rattle.tree_model.specs.declared.hash.Hash.{Hash}
 use Rattle.meta_model.specs.declared.plan.PlanTask.{PlanTask}
 use Rattle.store_model.specs.Spelling.{name_of}
 use Rattle.sig_gen.specs.Signing.{signature_by}
-use Rattle.setscene_plan.specs.Names.{IsHashed, IsNamed}
 use Rattle.setscene_plan.proofs.Naming.{names_are_over}
 use Rattle.setscene_plan.proofs.Renaming.{named_all, named_step}
 use Rattle.setscene_plan.proofs.names.hashes.Goals as goal

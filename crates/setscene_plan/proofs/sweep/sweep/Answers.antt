@@ -1,4 +1,4 @@
-use Rattle.std.proofs.Common.{◌≡◌, ◌-◌, suc, subst, List, length, arith}
+use Rattle.std.proofs.Common.{◌≡◌, ◌-◌, suc, subst, List, arith}
 use Rattle.meta_model.specs.declared.plan.PlanTask.{PlanTask}
 use Rattle.setscene_plan.specs.Sets.{Adds, IsBelow}
 use Rattle.setscene_plan.proofs.Sweeping.{IsSwept, swept_all, swept_step}

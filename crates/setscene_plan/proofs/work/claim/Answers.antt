@@ -1,4 +1,4 @@
-use Rattle.std.proofs.Common.{◌≡◌, ◌∙◌}
+use Rattle.std.proofs.Common.{◌∙◌}
 use Rattle.setscene_plan.proofs.Working.{claimed}
 use Rattle.setscene_plan.proofs.work.claim.Goals as goal
 

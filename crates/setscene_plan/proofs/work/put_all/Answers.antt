@@ -1,4 +1,4 @@
-use Rattle.std.proofs.Common.{◌≡◌, ℕ, List, subst, sym, refl, [], ◌∷◌, get_or, arith}
+use Rattle.std.proofs.Common.{ℕ, List, subst, sym, refl, [], ◌∷◌, get_or, arith}
 use Rattle.setscene_plan.specs.Reworks.{PutsAll}
 use Rattle.setscene_plan.proofs.Keys.{puts_more, puts_none, puts_one}
 use Rattle.setscene_plan.proofs.work.put_all.Goals as goal

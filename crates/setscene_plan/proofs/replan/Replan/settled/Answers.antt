@@ -1,4 +1,4 @@
-use Rattle.std.proofs.Common.{◌<◌, List, length, ap, sym, subst, refl, arith}
+use Rattle.std.proofs.Common.{◌<◌, length, ap, sym, subst, refl, arith}
 use Rattle.meta_model.specs.declared.plan.Plan.{Plan}
 use Rattle.setscene_plan.specs.declared.replan.Replan.{Replan}
 use Rattle.setscene_plan.specs.View.{View}

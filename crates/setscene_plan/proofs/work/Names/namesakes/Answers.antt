@@ -1,4 +1,4 @@
-use Rattle.std.proofs.Common.{◌≡◌, ◌∙◌, ◌+◌, ◌<◌, ℕ, List, Contains, length, ap, sym, subst, arith}
+use Rattle.std.proofs.Common.{◌∙◌, ◌+◌, ◌<◌, ℕ, List, Contains, length, ap, sym, subst, arith}
 use Rattle.tree_model.specs.declared.hash.Hash.{Hash}
 use Rattle.setscene_plan.specs.Reworks.{HaveOneName}
 use Rattle.setscene_plan.proofs.Keys.{puts_one}

@@ -1,5 +1,4 @@
-use Rattle.std.proofs.Common.{◌≡◌, ◌≤◌, ◌<◌, ◌∙◌, ℕ, ap, subst, List, length, arith}
-use Rattle.store_model.specs.declared.signature.EquivRow.{EquivRow}
+use Rattle.std.proofs.Common.{◌≡◌, ◌≤◌, ◌∙◌, subst, length, arith}
 use Rattle.setscene_plan.specs.View.{View}
 use Rattle.setscene_plan.specs.Reworks.{Renames}
 use Rattle.setscene_plan.proofs.Working.{found_all, found_more, renamed_more, right_all}

@@ -1,4 +1,4 @@
-use Rattle.std.proofs.Common.{◌≡◌, true, false, arith}
+use Rattle.std.proofs.Common.{◌≡◌, true, false}
 use Rattle.setscene_plan.proofs.Working.{put_other, put_same}
 use Rattle.setscene_plan.proofs.work.Names.put_unihash.Goals as goal
 
