@@ -1,0 +1,10 @@
+pub mod Passing
+pub mod Turns
+pub mod Parts
+pub mod Escapes
+pub mod Ends
+pub mod Orders
+pub mod Exports
+pub mod Pairs
+pub mod Lines
+pub mod Texts

@@ -1,0 +1,37 @@
+use Rattle.std.proofs.Common.{◌≡◌, ◌∙◌, ap, sym, subst, arith, ◌<◌, ◌+◌, length, take, drop, position, ◌++◌, get_or, true, refl}
+use Rattle.std.proofs.lemmas.Grind.{common_steps}
+use Rattle.std.proofs.lemmas.List.Quantifiers.{position-Some}
+use Rattle.std.proofs.lemmas.Str.{IsCharBoundary-after_ascii}
+use Rattle.std.specs.List.{slice_index, slice_index_or}
+use Rattle.script_gen.specs.Steps.{is_special, escape}
+use Rattle.script_gen.proofs.Escapes.{escaped_step, escaped_last}
+use Rattle.script_gen.proofs.text.push_escaped.Goals as goal
+
+pub escape-requires : goal.escape-requires
+escape-requires c =
+    let first : position is_special c.loop-place.rest.now ≡ _ = ap (position is_special) (sym c.as_bytes.ensures.value) ∙ sym c.in-Some.ensures.first in
+    ap (λ l. is_special (slice_index_or l c.in-Some.place 0)) c.as_bytes-in-Some.ensures.value
+    ∙ (position-Some is_special c.loop-place.rest.now c.in-Some.place 0 first).1
+
+pub range_from-rest-requires : goal.range_from-rest-requires
+range_from-rest-requires c = λ _.
+    IsCharBoundary-after_ascii c.loop-place.rest.now c.in-Some.place c.loop-place.invariant.0
+    (subst (λ s. c.in-Some.place < length s) c.as_bytes.ensures.value c.in-Some.ensures.within)
+    (subst (λ s. slice_index s c.in-Some.place < 128) c.as_bytes.ensures.value c.in-Some.ensures.stands)
+
+pub loop-place-preserved : goal.loop-place-preserved
+loop-place-preserved c =
+    let piece : c.range.result.now ≡ take c.in-Some.place c.loop-place.rest.now = grind (arith, common_steps, c.range.ensures.value) in
+    let after : c.range_from-rest.result.now ≡ drop (c.in-Some.place + 1) c.loop-place.rest.now = grind (arith, common_steps, c.range_from-rest.ensures.value) in (
+      c.range_from-rest.utf8,
+      escaped_step c.loop-place.rest.now c.range.result.now c.escape.result.now c.range_from-rest.result.now c.loop-place.out c.push_str.new.self c.push_str-in-Some.new.self c.in-Some.place
+          (c.in-Some.ensures.first ∙ ap (position is_special) c.as_bytes.ensures.value) piece c.in_ok-push_str.ensures.ok
+          (c.escape.ensures ∙ ap (λ l. escape (slice_index_or l c.in-Some.place 0)) c.as_bytes-in-Some.ensures.value)
+          c.in_ok-push_str-2.ensures.ok after
+          ∙ c.loop-place.invariant.1,
+    )
+
+pub returns : goal.returns
+returns c =
+    escaped_last c.loop-place.rest.now c.loop-place.out c.args.out.now c.push_str-2.new.self c.args.value.now
+    (c.in_default.ensures.first ∙ ap (position is_special) c.as_bytes.ensures.value) c.loop-place.invariant.1 c.in_ok-push_str-3.ensures.ok

@@ -1,0 +1,30 @@
+-- What a fault says of the script or the places that were meant.
+use Rattle.std.specs.Prelude.{◌≡◌, Option, Some, None, option_map, Result, Err, ⊤}
+use Rattle.meta_model.specs.Refusal.{Refusal, unstable}
+use Rattle.datastore.specs.declared.fault.DataFault.{DataFault}
+use Rattle.datastore.specs.declared.fault.DataFault.TheVariants as data_fault
+use Rattle.datastore.specs.Faults as datastore
+use Rattle.task_model.specs.TaskRefusal.{TaskRefusal, bad_flag, no_value}
+use Rattle.script_gen.specs.declared.fault.ScriptFault.{ScriptFault}
+use Rattle.script_gen.specs.declared.fault.ScriptFault.TheVariants.{BadFlag, Data, Memory}
+
+-- the refusal that a store's fault is; none where it is want of memory
+abbrev pub data_refusal : DataFault → Option Refusal
+data_refusal (data_fault.Unstable before last) = Some (unstable before last)
+data_refusal (data_fault.Expand fault) = datastore.refusal_of fault
+data_refusal data_fault.Memory = None
+
+-- the refusal that a fault is: with its flag and word, or that of the value that was asked for; none where it is want of memory
+abbrev pub refusal_of : ScriptFault → Option TaskRefusal
+refusal_of (BadFlag flag word) = Some (bad_flag flag word)
+refusal_of (Data fault) = option_map no_value (data_refusal fault)
+refusal_of Memory = None
+
+-- This refusal was meant. Where there is none, nothing is claimed.
+abbrev pub IsMeant : {A : Type 0} → Option TaskRefusal → Result A TaskRefusal → Type 0
+IsMeant (Some refusal) meant = meant ≡ Err refusal
+IsMeant None meant = ⊤
+
+-- The fault is the refusal that was meant. Of want of memory nothing is claimed.
+abbrev pub IsScriptFault : {A : Type 0} → ScriptFault → Result A TaskRefusal → Type 0
+IsScriptFault fault meant = IsMeant (refusal_of fault) meant
