@@ -4,12 +4,13 @@ ghost use Rattle.datastore.specs.Faults.{IsDataFault};
 ghost use Rattle.load_model.specs.Layers as layers;
 ghost use Rattle.load_model.specs.Recipes as recipes;
 ghost use Rattle.load_model.specs.Facts as facts;
+ghost use Rattle.meta_model.specs.Text.{words as text_words};
 
 use crate::brackets::without_brackets;
 use datastore::{DataFault, Datastore};
 use path_words::words;
 use std::alloc::Global;
-use tree_model::{Text, Texts};
+use tree_model::{Mem, Text, Texts};
 
 /// The expanded value of a name, or the empty text where it has none.
 ///
@@ -37,6 +38,14 @@ pub fn words_of(alloc: Global, store: &Datastore, name: &str) -> Result<Texts, D
     }
 }
 
+/// The words of a text without what stands in parentheses.
+fn kept_words(alloc: Global, text: &str) -> Result<Texts, Mem>
+    ensures { IfOk result (λ made. made ≡ text_words (facts.without_brackets text.now)) }
+{
+    let kept = without_brackets(alloc, text)?;
+    words(alloc, kept.as_str())
+}
+
 /// The same words without text in parentheses: a `(` takes away all up to the `)` that belongs to it, and one without a
 /// partner is a character like others (own rule).
 ///
@@ -46,10 +55,7 @@ pub fn needed_words(alloc: Global, store: &Datastore, name: &str) -> Result<Text
     ensures err { IfErr result (λ fault. IsDataFault fault (facts.needed_words store.now name.now)) }
 {
     match store.value(alloc, name)? {
-        Some(text) => {
-            let kept = without_brackets(alloc, text.as_str())?;
-            Ok(words(alloc, kept.as_str())?)
-        }
+        Some(text) => Ok(kept_words(alloc, text.as_str())?),
         None => Ok(Texts::new(alloc)),
     }
 }
@@ -64,6 +70,10 @@ pub(crate) fn flag_words(
     ensures ok { IfOk result (λ made. facts.flag_words store.now name.now flag.now ≡ Ok made) }
     ensures err { IfErr result (λ fault. IsDataFault fault (facts.flag_words store.now name.now flag.now)) }
 {
-    let text = store.expand(alloc, store.flag(name, flag).unwrap_or(""))?;
+    let told = match store.flag(name, flag) {
+        Some(text) => text,
+        None => "",
+    };
+    let text = store.expand(alloc, told)?;
     Ok(words(alloc, text.as_str())?)
 }

@@ -1,5 +1,5 @@
 // The names that may have a value.
-ghost use Rattle.std.specs.Prelude.{◌≡◌, ◌≤◌, ◌||◌, ◌&&◌, List, ℕ, IfOk, OnOk, true, is_some, bytes_eq, take, drop, length, flat_map};
+ghost use Rattle.std.specs.Prelude.{◌≡◌, ◌++◌, ◌∷◌, [], ◌≤◌, ◌||◌, ◌&&◌, List, ℕ, IfOk, OnOk, true, is_some, bytes_eq, take, drop, length, flat_map};
 ghost use Rattle.std.specs.BTreeMap.{get_by_text, IsOrdered};
 ghost use Rattle.std.specs.String.{string_cmp};
 ghost use Rattle.meta_model.specs.Text.{is_in};
@@ -64,6 +64,13 @@ fn fronts_of_all(alloc: Global, names: &[Text]) -> Result<Names, Mem>
     Ok(set)
 }
 
+/// Puts a name at the end.
+fn push_name(made: &mut Texts, alloc: Global, name: &str) -> Result<(), Mem>
+    ensures { OnOk result (made.new ≡ made.old ++ name.now ∷ []) }
+{
+    made.push(Text::from_str(alloc, name)?)
+}
+
 /// The names of a set, in byte order.
 fn names_of(alloc: Global, set: &Names) -> Result<Texts, Mem>
     ensures names { IfOk result (λ made. made ≡ picked (λ there. true) set.now.entries) }
@@ -71,7 +78,7 @@ fn names_of(alloc: Global, set: &Names) -> Result<Texts, Mem>
 {
     let mut made = Texts::new(alloc);
     for (name, _) in set {
-        made.push(Text::from_str(alloc, name.as_str())?)?;
+        push_name(&mut made, alloc, name.as_str())?;
     }
     Ok(made)
 }
