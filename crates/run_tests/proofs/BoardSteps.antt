@@ -1,5 +1,5 @@
 -- Runs of one seat.
-use Rattle.std.proofs.Common.{◌≡◌, ◌≢◌, ◌∙◌, sym, ap, subst, refl, ℕ, zero, suc, ◌<◌, Bool, true, false, List, [], ◌∷◌, length, set, replicate, Option, Some, None, slice_get, IfSome, Contains, ◌⊎◌, inl, inr, arith}
+use Rattle.std.proofs.Common.{◌≡◌, ◌≢◌, ◌∙◌, sym, ap, subst, refl, ℕ, zero, suc, ◌<◌, Bool, true, false, List, [], length, set, replicate, Contains, inl, inr, arith}
 use Rattle.std.proofs.Math.ListN.{length-set}
 use Rattle.std.proofs.lemmas.Bool.{cases_eq}
 use Rattle.std.proofs.lemmas.List.{length-replicate}
@@ -8,7 +8,6 @@ use Rattle.meta_model.specs.declared.event.Avail.{Avail}
 use Rattle.meta_model.specs.declared.event.Event.TheVariants as events
 use Rattle.meta_model.specs.declared.event.Why.{Why}
 use Rattle.meta_model.specs.declared.plan.Options.{Options}
-use Rattle.meta_model.specs.declared.plan.PlanTask.{PlanTask}
 use Rattle.run_core.specs.declared.fate.Fate.{Fate}
 use Rattle.run_core.specs.declared.fate.Fate.TheVariants.{Waiting, Running, Failed}
 use Rattle.run_core.specs.declared.fate.Next.TheVariants as next

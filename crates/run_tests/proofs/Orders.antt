@@ -1,5 +1,5 @@
 -- Plans whose tasks need tasks below them alone.
-use Rattle.std.proofs.Common.{◌≡◌, sym, ap, subst, ℕ, ◌<◌, ◌≤◌, arith, List, length, All, inl, inr}
+use Rattle.std.proofs.Common.{sym, ap, subst, ℕ, ◌<◌, ◌≤◌, arith, List, length, All, inl, inr}
 use Rattle.std.proofs.lemmas.Option.{slice_get_past}
 use Rattle.std.proofs.lemmas.Bool.{cases_lt}
 use Rattle.meta_model.specs.declared.plan.PlanTask.{PlanTask}

@@ -1,16 +1,14 @@
 -- The record of a task that has ended.
-use Rattle.std.proofs.Common.{◌≡◌, ◌≢◌, ◌∙◌, sym, ap, subst, refl, ℕ, ◌<◌, List, length, get_or, Option, Some, None, slice_get, IfSome, inl, inr, arith}
+use Rattle.std.proofs.Common.{◌≡◌, ◌∙◌, sym, ap, subst, ℕ, ◌<◌, List, length, Option, Some, None, slice_get, IfSome, inl, inr, arith}
 use Rattle.std.proofs.lemmas.Option.{same_Some, slice_get_cases}
 use Rattle.tree_model.specs.declared.hash.Hash.{Hash}
 use Rattle.meta_model.specs.declared.plan.Plan.{Plan}
 use Rattle.meta_model.specs.declared.plan.PlanTask.{PlanTask}
-use Rattle.store_model.specs.declared.signature.EquivRow.{EquivRow}
 use Rattle.store_model.specs.Rows.{row_at}
 use Rattle.store_model.specs.Spelling.{name_of, signature_bytes}
 use Rattle.sig_gen.specs.Signing.{signature_by}
 use Rattle.setscene_plan.specs.declared.replan.Replan.{Replan}
-use Rattle.setscene_plan.specs.View.{View}
-use Rattle.setscene_plan.specs.Replans.{AreSettling, IsCurrent, IsSettled, names_in, unihashes_in}
+use Rattle.setscene_plan.specs.Replans.{IsCurrent, IsSettled, unihashes_in}
 use Rattle.setscene_plan.proofs.Settling.{settles}
 use Rattle.run_tests.specs.declared.index.Index.{Index}
 use Rattle.run_tests.specs.Index.{Puts, rows_of, view_of}

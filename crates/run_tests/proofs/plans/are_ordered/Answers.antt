@@ -1,4 +1,4 @@
-use Rattle.std.proofs.Common.{◌≡◌, ◌<◌, ℕ, sym, subst, List, length, All, below_more, true, rules, arith}
+use Rattle.std.proofs.Common.{◌≡◌, ◌<◌, ℕ, subst, List, length, All, below_more, true, rules, arith}
 use Rattle.run_core.proofs.Standing.{deps_here}
 use Rattle.run_tests.proofs.Orders.{ordered_all}
 use Rattle.run_tests.proofs.plans.are_ordered.Goals as goal

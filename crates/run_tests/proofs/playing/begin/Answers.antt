@@ -1,4 +1,4 @@
-use Rattle.std.proofs.Common.{◌≡◌, ◌∙◌, sym, subst}
+use Rattle.std.proofs.Common.{sym, subst}
 use Rattle.setscene_plan.specs.View.{View}
 use Rattle.run_tests.specs.Index.{view_of}
 use Rattle.run_tests.specs.Playing.{Stands}

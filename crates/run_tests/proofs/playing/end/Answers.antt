@@ -1,4 +1,4 @@
-use Rattle.std.proofs.Common.{◌≡◌, ◌∙◌, ap, sym, subst, Bool, true, false, List, set, length}
+use Rattle.std.proofs.Common.{◌≡◌, ◌∙◌, ap, sym, subst, true, false, List, set, length}
 use Rattle.meta_model.specs.declared.plan.Plan.{Plan}
 use Rattle.run_core.specs.declared.fate.Fate.{Fate}
 use Rattle.run_core.specs.declared.fate.Fate.TheVariants.{Ended, Running}

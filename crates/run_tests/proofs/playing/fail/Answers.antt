@@ -1,4 +1,4 @@
-use Rattle.std.proofs.Common.{◌≡◌, ◌∙◌, ap, Bool, true, false, List, set}
+use Rattle.std.proofs.Common.{◌≡◌, ◌∙◌, ap, true, false, List, set}
 use Rattle.meta_model.specs.declared.event.Why.TheVariants as why
 use Rattle.run_core.specs.declared.fate.Fate.{Fate}
 use Rattle.run_core.specs.declared.fate.Fate.TheVariants.{Failed, Running}

@@ -1,4 +1,4 @@
-use Rattle.std.proofs.Common.{◌≡◌, ◌∙◌, Bool, true, false, set}
+use Rattle.std.proofs.Common.{◌≡◌, ◌∙◌, true, false, set}
 use Rattle.run_core.specs.declared.fate.Fate.TheVariants.{Found}
 use Rattle.setscene_plan.specs.Replans.{avail_in, need_in}
 use Rattle.run_tests.specs.Index.{view_of}
