@@ -1,16 +1,13 @@
 -- The exported names of a store that a script tells.
-use Rattle.std.proofs.Common.{◌≡◌, refl, sym, ◌∙◌, ap, ℕ, Bool, true, false, List, [], Option, Some, None, is_some, filter, Result, Ok, Err, codes}
-use Rattle.meta_model.proofs.Bools.{not_both}
+use Rattle.std.proofs.Common.{◌≡◌, refl, sym, ◌∙◌, ap, ℕ, Bool, true, List, [], Option, Some, None, is_some, filter, Result, Ok, Err, codes}
 use Rattle.meta_model.specs.declared.entry.EntryLine.{EntryLine}
 use Rattle.meta_model.specs.declared.value.Resolved.{Resolved}
 use Rattle.meta_model.specs.Refusal.{Refusal}
-use Rattle.meta_model.specs.Text.{is_in}
 use Rattle.meta_model.specs.Base.{flag, names}
 use Rattle.meta_model.specs.Active.{find_in}
 use Rattle.task_model.specs.Views.{seen_by, has_flag}
 use Rattle.task_model.specs.Scripts.{known, told_names}
 use Rattle.task_model.proofs.Ordered.{filtered_in}
-use Rattle.task_model.proofs.Leaders.{Faithful, store_view}
 use Rattle.task_model.proofs.Faithful.{faithful}
 use Rattle.task_model.proofs.ScriptLaw.{filter_in, told_same}
 

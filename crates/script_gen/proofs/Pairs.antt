@@ -1,8 +1,8 @@
 -- Lists of which each item has a partner.
-use Rattle.std.proofs.Common.{◌≡◌, refl, sym, ◌∙◌, ap, arith, ℕ, suc, ◌+◌, ◌<◌, List, [], ◌∷◌, ◌++◌, length, get_or, take, zero, ◌≤◌, Result, Ok, Err, codes}
+use Rattle.std.proofs.Common.{◌≡◌, refl, sym, ◌∙◌, ap, arith, ℕ, suc, ◌+◌, ◌<◌, List, [], ◌∷◌, ◌++◌, length, get_or, take, zero, ◌≤◌, Ok, Err, codes}
 use Rattle.std.specs.Prelude.{zip}
 use Rattle.std.proofs.lemmas.List.{take_more, take_all, length-take}
-use Rattle.task_model.specs.TaskRefusal.{TaskRefusal, bad_flag}
+use Rattle.task_model.specs.TaskRefusal.{bad_flag}
 use Rattle.task_model.specs.Scripts.{paired}
 
 pub all_paired : (inputs outputs : List (List ℕ)) → length inputs ≡ length outputs → paired inputs outputs ≡ Ok tt

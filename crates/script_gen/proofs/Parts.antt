@@ -14,7 +14,7 @@ use Rattle.task_model.specs.Leads.{is_key_name}
 use Rattle.task_model.specs.Keys.{key}
 use Rattle.task_model.specs.TaskRefusal.{TaskRefusal, bad_flag, ◌>>=◌, asked, require}
 use Rattle.task_model.specs.Scripts.{Flags, Frame, all_folders, flag_at, places_of, script_of, value_at, all_functions, all_places, body, flag_text, folders, functions_in, is_folder, is_on, is_path, line_names, paired, place_of, places_from, script, script_from, store_flags, told_names, told_values}
-use Rattle.script_gen.specs.Steps.{folder_of, called, place_in, told_value, framed, begun, finished, written, placed, side}
+use Rattle.script_gen.specs.Steps.{folder_of, called, place_in, told_value, begun, written, placed, side}
 use Rattle.script_gen.specs.declared.fault.ScriptFault.{ScriptFault}
 use Rattle.script_gen.specs.Faults.{IsScriptFault}
 use Rattle.script_gen.proofs.Passing.{fault_on, fault_later, goes_on}

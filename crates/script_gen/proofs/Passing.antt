@@ -1,5 +1,5 @@
 -- Answers and refusals, one after another.
-use Rattle.std.proofs.Common.{◌≡◌, sym, ◌∙◌, ap, subst, Option, Some, None, Result, Ok, Err, IfErr, OnOk, IfOk}
+use Rattle.std.proofs.Common.{◌≡◌, sym, ap, subst, Option, Some, None, Result, Ok, Err, IfErr, OnOk, IfOk}
 use Rattle.std.specs.Prelude.{IsErrAnd}
 use Rattle.std.proofs.lemmas.Result.{err_from_is_err_and}
 use Rattle.meta_model.specs.Refusal.{Refusal}
@@ -8,8 +8,8 @@ use Rattle.var_expand.specs.declared.fault.ExpandFault.TheVariants as expand
 use Rattle.var_expand.specs.Faults.{IsFaultOf}
 use Rattle.datastore.specs.declared.fault.DataFault.{DataFault}
 use Rattle.datastore.specs.declared.fault.DataFault.TheVariants as data_fault
-use Rattle.datastore.specs.Faults.{IsDataFault, told_as}
-use Rattle.task_model.specs.TaskRefusal.{TaskRefusal, no_value, ◌>>=◌, asked}
+use Rattle.datastore.specs.Faults.{IsDataFault}
+use Rattle.task_model.specs.TaskRefusal.{TaskRefusal, ◌>>=◌, asked}
 use Rattle.script_gen.specs.declared.fault.ScriptFault.{ScriptFault}
 use Rattle.script_gen.specs.declared.fault.ScriptFault.TheVariants.{Memory}
 use Rattle.script_gen.specs.Told.{told, told_by}

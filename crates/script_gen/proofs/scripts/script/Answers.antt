@@ -1,4 +1,4 @@
-use Rattle.std.proofs.Common.{◌≡◌, ◌∙◌, ap, sym, subst, ℕ, List, codes, IfOk, IfErr, Result, Ok}
+use Rattle.std.proofs.Common.{◌≡◌, ◌∙◌, sym, subst, ℕ, List, IfOk, IfErr, Result, Ok}
 use Rattle.datastore.specs.Faults.{IsDataFault}
 use Rattle.meta_model.specs.declared.value.Key.{Key}
 use Rattle.meta_model.specs.Base.{names}
