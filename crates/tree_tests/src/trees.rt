@@ -1,6 +1,7 @@
 // Trees by the calls that make and change them.
 use crate::build::{entries_of, expect, expect_text, file, is_refused_at, shown, tree_of};
 use std::alloc::Global;
+use std::process::Abort;
 use tree_model::{Entry, Size, Text, Tree, TreeFault, is_below, is_clean};
 
 /// Paths and contents of files.
@@ -16,39 +17,35 @@ const BADLY_SORTED: Files = &[
 
 const FOLDERS: Files = &[("a/b", "1"), ("a/c/d", "2"), ("a-b", "3"), ("e", "4")];
 
-/// The tree of these files, shown.
-fn made(alloc: Global, files: Files) -> Result<String, TreeFault> {
-    let tree = tree_of(alloc, files)?;
-    Ok(shown(alloc, &tree)?)
+/// What is done with a tree.
+enum Step {
+    /// It is copied.
+    Copy,
+    /// The tree of these files is laid over it.
+    Lay(Files),
+    /// What stands in a folder is picked.
+    Pick(&'static str),
+    /// It is put into a folder.
+    Place(&'static str),
+    /// What stands at a path is taken out.
+    Take(&'static str),
 }
 
-/// A copy of their tree, shown.
-fn copied(alloc: Global, files: Files) -> Result<String, TreeFault> {
-    let tree = tree_of(alloc, files)?.copy()?;
-    Ok(shown(alloc, &tree)?)
-}
+/// Files, what is done with their tree, and the tree that it gives, shown.
+type Row = (Files, &'static [Step], &'static str);
 
-/// The number of paths of their tree that begin with a prefix.
-fn listed(alloc: Global, files: Files, prefix: &str) -> Result<usize, TreeFault> {
-    let tree = tree_of(alloc, files)?;
-    Ok(tree.listing(alloc, prefix)?.len())
-}
-
-/// Whether their tree has an entry at a path.
-fn has(alloc: Global, files: Files, path: &str) -> Result<bool, TreeFault> {
-    Ok(tree_of(alloc, files)?.get(path).is_some())
-}
-
-/// The size of their tree.
-fn size_of(alloc: Global, files: Files) -> Result<Size, TreeFault> {
-    Ok(tree_of(alloc, files)?.size())
-}
-
-/// One tree laid over another, shown.
-fn overlaid(alloc: Global, earlier: Files, later: Files) -> Result<String, TreeFault> {
-    let mut tree = tree_of(alloc, earlier)?;
-    lay_over(alloc, &mut tree, later)?;
-    Ok(shown(alloc, &tree)?)
+/// Does a step.
+fn take_step(alloc: Global, tree: &mut Tree, step: &Step) -> Result<(), TreeFault> {
+    match step {
+        Step::Copy => *tree = tree.copy()?,
+        Step::Lay(files) => lay_over(alloc, tree, files)?,
+        Step::Pick(folder) => *tree = tree.pick(alloc, folder)?,
+        Step::Place(folder) => *tree = tree.place(alloc, folder)?,
+        Step::Take(path) => {
+            let _ = tree.take(path);
+        }
+    }
+    Ok(())
 }
 
 /// Lays the tree of these files over a tree.
@@ -57,41 +54,51 @@ fn lay_over(alloc: Global, tree: &mut Tree, later: Files) -> Result<(), TreeFaul
     Ok(tree.overlay(alloc, &later)?)
 }
 
-/// What stands in a folder of their tree, shown.
-fn picked(alloc: Global, files: Files, folder: &str) -> Result<String, TreeFault> {
-    let tree = tree_of(alloc, files)?.pick(alloc, folder)?;
-    Ok(shown(alloc, &tree)?)
-}
-
-/// Their tree in a folder, shown.
-fn placed(alloc: Global, files: Files, folder: &str) -> Result<String, TreeFault> {
-    let tree = tree_of(alloc, files)?.place(alloc, folder)?;
-    Ok(shown(alloc, &tree)?)
-}
-
-/// Their tree without what stands at a path, shown.
-fn without(alloc: Global, files: Files, path: &str) -> Result<String, TreeFault> {
+/// The tree of the files behind these steps.
+fn stepped(alloc: Global, files: Files, steps: &[Step]) -> Result<Tree, TreeFault> {
     let mut tree = tree_of(alloc, files)?;
-    let _ = tree.take(path);
-    Ok(shown(alloc, &tree)?)
+    for step in steps {
+        take_step(alloc, &mut tree, step)?;
+    }
+    Ok(tree)
 }
+
+/// Asserts that it is the one that is wanted.
+fn expect_tree(rt: &impl Abort, alloc: Global, row: &Row) -> Result<(), TreeFault> {
+    let tree = stepped(alloc, row.0, row.1)?;
+    let shown = shown(alloc, &tree)?;
+    expect_text(rt, shown.as_str(), row.2);
+    Ok(())
+}
+
+/// The same of each row.
+fn expect_trees(rt: &impl Abort, alloc: Global, rows: &[Row]) -> Result<(), TreeFault> {
+    for row in rows {
+        expect_tree(rt, alloc, row)?;
+    }
+    Ok(())
+}
+
+const SORTED: &[Row] = &[
+    (BADLY_SORTED, &[], "a-b:4 a.b:3 a/a:5 a/b:2 a0:1 "),
+    (BADLY_SORTED, &[Step::Copy], "a-b:4 a.b:3 a/a:5 a/b:2 a0:1 "),
+];
 
 #[test]
 fn paths_that_sort_badly(rt: HostRuntime) -> Result<(), TreeFault> {
     let alloc = rt.alloc();
-    let want = "a-b:4 a.b:3 a/a:5 a/b:2 a0:1 ";
-    expect_text(&rt, made(alloc, BADLY_SORTED)?.as_str(), want);
-    expect_text(&rt, copied(alloc, BADLY_SORTED)?.as_str(), want);
-    expect(&rt, listed(alloc, BADLY_SORTED, "a/")? == 2);
-    expect(&rt, listed(alloc, BADLY_SORTED, "")? == 5);
-    expect(&rt, has(alloc, BADLY_SORTED, "a/b")?);
-    expect(&rt, !has(alloc, BADLY_SORTED, "a")?);
+    expect_trees(&rt, alloc, SORTED)?;
+    let tree = tree_of(alloc, BADLY_SORTED)?;
+    expect(&rt, tree.get("a/b").is_some());
+    expect(&rt, tree.get("a").is_none());
+    expect(&rt, tree.listing(alloc, "a/")?.len() == 2);
+    expect(&rt, tree.listing(alloc, "")?.len() == 5);
     Ok(())
 }
 
 #[test]
 fn sizes(rt: HostRuntime) -> Result<(), TreeFault> {
-    let size = size_of(rt.alloc(), BADLY_SORTED)?;
+    let size = tree_of(rt.alloc(), BADLY_SORTED)?.size();
     let (entries, largest) = (5, 1);
     expect(&rt, size.entries == entries);
     assert!(rt;
@@ -114,7 +121,7 @@ fn sizes(rt: HostRuntime) -> Result<(), TreeFault> {
 #[test]
 fn what_is_no_tree(rt: HostRuntime) -> Result<(), TreeFault> {
     let alloc = rt.alloc();
-    let refusals: [(Files, &str); 7] = [
+    let refusals: &[(Files, &'static str)] = &[
         (&[("a0", ""), ("a", ""), ("a-b", ""), ("a/b", "")], "a"),
         (&[("x", ""), ("b", ""), ("b", "")], "b"),
         (&[("b/c/d", ""), ("b/c/d/e", ""), ("b", "")], "b"),
@@ -134,120 +141,84 @@ fn what_is_no_tree(rt: HostRuntime) -> Result<(), TreeFault> {
     Ok(())
 }
 
+const OVERLAYS: &[Row] = &[
+    (
+        &[("a", "1"), ("b", "2")],
+        &[Step::Lay(&[("b", "3"), ("c", "4")])],
+        "a:1 b:3 c:4 ",
+    ),
+    (
+        &[("a/b", "1"), ("a/c", "2"), ("a-b", "3"), ("a0", "4")],
+        &[Step::Lay(&[("a", "5")])],
+        "a:5 a-b:3 a0:4 ",
+    ),
+    (
+        &[("a", "1"), ("a-b", "2"), ("a.b", "3")],
+        &[Step::Lay(&[("a/b", "4")])],
+        "a-b:2 a.b:3 a/b:4 ",
+    ),
+    (
+        &[("a/b/c", "1"), ("d", "2")],
+        &[Step::Lay(&[("a", "3"), ("a-b/c", "4"), ("d/e", "5")])],
+        "a:3 a-b/c:4 d/e:5 ",
+    ),
+    (&[], &[Step::Lay(&[("a", "1")])], "a:1 "),
+    (&[("a", "1")], &[Step::Lay(&[])], "a:1 "),
+    (
+        &[("a", "1"), ("b/c", "2")],
+        &[Step::Lay(&[("a", "1"), ("b/c", "2")])],
+        "a:1 b/c:2 ",
+    ),
+    (
+        &[("lib/a", "1"), ("lib/b/c", "2")],
+        &[Step::Lay(&[("lib/b", "3")])],
+        "lib/a:1 lib/b:3 ",
+    ),
+    // three trees, laid over each other one after the other
+    (
+        &[("a/c", "1")],
+        &[Step::Lay(&[("a", "2")]), Step::Lay(&[("a/b", "3")])],
+        "a/b:3 ",
+    ),
+];
+
 #[test]
 fn overlays(rt: HostRuntime) -> Result<(), TreeFault> {
-    let alloc = rt.alloc();
-    let rows: [(Files, Files, &str); 8] = [
-        (
-            &[("a", "1"), ("b", "2")],
-            &[("b", "3"), ("c", "4")],
-            "a:1 b:3 c:4 ",
-        ),
-        (
-            &[("a/b", "1"), ("a/c", "2"), ("a-b", "3"), ("a0", "4")],
-            &[("a", "5")],
-            "a:5 a-b:3 a0:4 ",
-        ),
-        (
-            &[("a", "1"), ("a-b", "2"), ("a.b", "3")],
-            &[("a/b", "4")],
-            "a-b:2 a.b:3 a/b:4 ",
-        ),
-        (
-            &[("a/b/c", "1"), ("d", "2")],
-            &[("a", "3"), ("a-b/c", "4"), ("d/e", "5")],
-            "a:3 a-b/c:4 d/e:5 ",
-        ),
-        (&[], &[("a", "1")], "a:1 "),
-        (&[("a", "1")], &[], "a:1 "),
-        (
-            &[("a", "1"), ("b/c", "2")],
-            &[("a", "1"), ("b/c", "2")],
-            "a:1 b/c:2 ",
-        ),
-        (
-            &[("lib/a", "1"), ("lib/b/c", "2")],
-            &[("lib/b", "3")],
-            "lib/a:1 lib/b:3 ",
-        ),
-    ];
-    for (earlier, later, both) in rows {
-        expect_text(&rt, overlaid(alloc, earlier, later)?.as_str(), both);
-    }
-    Ok(())
+    expect_trees(&rt, rt.alloc(), OVERLAYS)
 }
 
-/// Three trees, the last two laid over each other first, and then over the first.
-fn from_the_right(
-    alloc: Global,
-    first: Files,
-    middle: Files,
-    last: Files,
-) -> Result<String, TreeFault> {
-    let mut later = tree_of(alloc, middle)?;
-    lay_over(alloc, &mut later, last)?;
-    let mut tree = tree_of(alloc, first)?;
-    tree.overlay(alloc, &later)?;
-    Ok(shown(alloc, &tree)?)
-}
-
-/// Three trees, laid over each other one after the other.
-fn from_the_left(
-    alloc: Global,
-    first: Files,
-    middle: Files,
-    last: Files,
-) -> Result<String, TreeFault> {
-    let mut tree = tree_of(alloc, first)?;
-    lay_over(alloc, &mut tree, middle)?;
-    lay_over(alloc, &mut tree, last)?;
-    Ok(shown(alloc, &tree)?)
-}
-
+/// The last of the same three trees laid over the middle one first, and both over the first: an overlay is associative only
+/// where no file became a folder.
 #[test]
 fn overlay_is_associative_only_where_no_file_became_a_folder(
     rt: HostRuntime,
 ) -> Result<(), TreeFault> {
     let alloc = rt.alloc();
-    let (first, middle, last): (Files, Files, Files) = (
-        &[("a/c", "1")],
-        &[("a", "2")],
-        &[("a/b", "3")],
-    );
-    expect_text(
-        &rt,
-        from_the_left(alloc, first, middle, last)?.as_str(),
-        "a/b:3 ",
-    );
-    expect_text(
-        &rt,
-        from_the_right(alloc, first, middle, last)?.as_str(),
-        "a/b:3 a/c:1 ",
-    );
+    let later = stepped(alloc, &[("a", "2")], &[Step::Lay(&[("a/b", "3")])])?;
+    let mut tree = tree_of(alloc, &[("a/c", "1")])?;
+    tree.overlay(alloc, &later)?;
+    let shown = shown(alloc, &tree)?;
+    expect_text(&rt, shown.as_str(), "a/b:3 a/c:1 ");
     Ok(())
 }
 
+const IN_FOLDERS: &[Row] = &[
+    (FOLDERS, &[Step::Pick("a")], "b:1 c/d:2 "),
+    (FOLDERS, &[Step::Pick(".")], "a-b:3 a/b:1 a/c/d:2 e:4 "),
+    (FOLDERS, &[Step::Pick("a/c")], "d:2 "),
+    (FOLDERS, &[Step::Pick("e")], ""),
+    (FOLDERS, &[Step::Pick("x")], ""),
+    (
+        FOLDERS,
+        &[Step::Place("x/y")],
+        "x/y/a-b:3 x/y/a/b:1 x/y/a/c/d:2 x/y/e:4 ",
+    ),
+    (FOLDERS, &[Step::Place(".")], "a-b:3 a/b:1 a/c/d:2 e:4 "),
+];
+
 #[test]
 fn folders(rt: HostRuntime) -> Result<(), TreeFault> {
-    let alloc = rt.alloc();
-    let picks = [
-        ("a", "b:1 c/d:2 "),
-        (".", "a-b:3 a/b:1 a/c/d:2 e:4 "),
-        ("a/c", "d:2 "),
-        ("e", ""),
-        ("x", ""),
-    ];
-    for (folder, want) in picks {
-        expect_text(&rt, picked(alloc, FOLDERS, folder)?.as_str(), want);
-    }
-    let places = [
-        ("x/y", "x/y/a-b:3 x/y/a/b:1 x/y/a/c/d:2 x/y/e:4 "),
-        (".", "a-b:3 a/b:1 a/c/d:2 e:4 "),
-    ];
-    for (folder, want) in places {
-        expect_text(&rt, placed(alloc, FOLDERS, folder)?.as_str(), want);
-    }
-    Ok(())
+    expect_trees(&rt, rt.alloc(), IN_FOLDERS)
 }
 
 /// The answer for a folder that makes no clean path.
@@ -258,13 +229,18 @@ fn no_folder(rt: HostRuntime) -> Result<(), TreeFault> {
     Ok(())
 }
 
+const TAKEN: &[Row] = &[
+    (&[("a", "1"), ("b/c", "2")], &[Step::Take("a")], "b/c:2 "),
+    (
+        &[("a", "1"), ("b/c", "2")],
+        &[Step::Take("b")],
+        "a:1 b/c:2 ",
+    ),
+];
+
 #[test]
 fn taken_entries(rt: HostRuntime) -> Result<(), TreeFault> {
-    let alloc = rt.alloc();
-    let files: Files = &[("a", "1"), ("b/c", "2")];
-    expect_text(&rt, without(alloc, files, "a")?.as_str(), "b/c:2 ");
-    expect_text(&rt, without(alloc, files, "b")?.as_str(), "a:1 b/c:2 ");
-    Ok(())
+    expect_trees(&rt, rt.alloc(), TAKEN)
 }
 
 #[test]
