@@ -1,0 +1,5 @@
+pub mod Faulting
+pub mod Inputting
+pub mod Keeping
+pub mod Stepping
+pub mod Taking

@@ -1,0 +1,124 @@
+// The plan of a graph.
+ghost use Rattle.std.specs.Prelude.{◌≡◌, ◌<◌, [], false, length, nat_eq, All, Ok, IfOk, IfErr};
+ghost use Rattle.std.specs.List.{list_any};
+ghost use Rattle.outside_traits.specs.Fault.{Counts};
+ghost use Rattle.plan_model.specs.Plans as plans;
+ghost use Rattle.task_plan.specs.Faults.{IsPlanFault, IsWantOfMemory, plan_failed};
+ghost use Rattle.task_plan.specs.Steps.{forced_tasks};
+
+use crate::fault::PlanFault;
+use crate::planned::{Sums, copy_numbers, planned_node};
+use meta_model::{Graph, ListOf, Node, Plan, PlanTask};
+use outside_traits::Layers;
+use recipe_set::RecipeSet;
+use std::alloc::Global;
+use std::collections::BTreeMap;
+
+/// Whether the task with this number is one of these.
+fn is_one_of(numbers: &[u32], number: usize) -> bool
+    ensures { result ≡ list_any (nat_eq number) numbers.now }
+{
+    numbers.iter().any(|n| number == *n as usize)
+}
+
+/// The tasks of some nodes. Those with these numbers run in each run.
+fn tasks_of<L: Layers>(
+    alloc: Global,
+    layers: &mut L,
+    set: &RecipeSet,
+    nodes: &[Node],
+    forced: &[u32],
+) -> Result<ListOf<PlanTask>, PlanFault>
+    requires { All (λ node. node.recipe < length set.now.facts.recipes) nodes.now }
+    ensures ok { IfOk result (λ made. L.tells → forced_tasks (L.files layers.old) set.now plans.no_sums 0 forced.now nodes.now ≡ Ok made) }
+    ensures err { IfErr result (λ fault. L.tells → IsPlanFault fault (forced_tasks (L.files layers.old) set.now plans.no_sums 0 forced.now nodes.now)) }
+    ensures same { L.files layers.new ≡ L.files layers.old }
+    ensures cause { Counts (L.faults layers.old) (L.faults layers.new) (plan_failed result) }
+{
+    let mut kept = BTreeMap::new(alloc);
+    let mut sums = Sums {
+        texts: 0,
+        inputs: 0,
+    };
+    let mut tasks = ListOf::new(alloc);
+    for (number, node) in nodes.iter().enumerate() {
+        let mut task = planned_node(alloc, layers, set, &mut kept, node, &mut sums)?;
+        task.nostamp = task.nostamp || is_one_of(forced, number);
+        tasks.push(task)?;
+    }
+    Ok(tasks)
+}
+
+/// A plan of these tasks.
+fn plan_with(
+    alloc: Global,
+    graph: &Graph,
+    threads: u32,
+    tasks: ListOf<PlanTask>,
+) -> Result<Plan, PlanFault>
+    ensures ok { IfOk result (λ made. made ≡ record { threads = threads; targets = graph.now.targets; tasks = tasks }) }
+    ensures err { IfErr result IsWantOfMemory }
+    ensures not_read { plan_failed result ≡ false }
+{
+    match copy_numbers(alloc, graph.targets.as_slice()) {
+        Ok(targets) => Ok(Plan {
+            threads,
+            targets,
+            tasks,
+        }),
+        Err(_) => Err(PlanFault::Memory),
+    }
+}
+
+/// The plan of a graph of these recipes, with this number of threads: the tasks of its nodes, in their order.
+///
+/// Refused as the definition is, with the refusal of the earliest task, of which the first in this order counts: its key (`Data`),
+/// the expansion of `[file-checksums]` (`Data`), its words in their order (`MissingFile`, `InputBytes`, or `PlanBytes` where all
+/// input files so far have more than 268,435,456 bytes), its script and its places (`BadFlag`, `Data`), `[nostamp]` (`Data`), and
+/// `PlanBytes` where the keys' lines and the scripts so far have more than 268,435,456 bytes (own rules). `Read` comes only where the
+/// layers' count of faults rose, `Memory` where memory ran out. No call changes a file.
+///
+/// Each word of `[file-checksums]` is read once for each task that has it.
+pub fn plan<L: Layers>(
+    alloc: Global,
+    set: &RecipeSet,
+    layers: &mut L,
+    graph: &Graph,
+    threads: u32,
+) -> Result<Plan, PlanFault>
+    // the graph was built from these facts
+    requires { plans.IsOver set.now.facts graph.now }
+    ensures ok { IfOk result (λ made. L.tells → plans.plan_of (L.files layers.old) set.now graph.now threads ≡ Ok made) }
+    ensures err { IfErr result (λ fault. L.tells → IsPlanFault fault (plans.plan_of (L.files layers.old) set.now graph.now threads)) }
+    ensures same { L.files layers.new ≡ L.files layers.old }
+    ensures cause { Counts (L.faults layers.old) (L.faults layers.new) (plan_failed result) }
+{
+    let nodes = graph.nodes.as_slice();
+    match tasks_of(alloc, layers, set, nodes, &[]) {
+        Ok(tasks) => plan_with(alloc, graph, threads, tasks),
+        Err(fault) => Err(fault),
+    }
+}
+
+/// The plan with the option `-f`: the tasks of the graph's targets run in this run, as those with `[nostamp]` do. It is refused as
+/// `plan` is.
+pub fn forced_plan<L: Layers>(
+    alloc: Global,
+    set: &RecipeSet,
+    layers: &mut L,
+    graph: &Graph,
+    threads: u32,
+) -> Result<Plan, PlanFault>
+    // the graph was built from these facts
+    requires { plans.IsOver set.now.facts graph.now }
+    ensures ok { IfOk result (λ made. L.tells → plans.forced_plan_of (L.files layers.old) set.now graph.now threads ≡ Ok made) }
+    ensures err { IfErr result (λ fault. L.tells → IsPlanFault fault (plans.forced_plan_of (L.files layers.old) set.now graph.now threads)) }
+    ensures same { L.files layers.new ≡ L.files layers.old }
+    ensures cause { Counts (L.faults layers.old) (L.faults layers.new) (plan_failed result) }
+{
+    let nodes = graph.nodes.as_slice();
+    match tasks_of(alloc, layers, set, nodes, graph.targets.as_slice()) {
+        Ok(tasks) => plan_with(alloc, graph, threads, tasks),
+        Err(fault) => Err(fault),
+    }
+}
