@@ -76,7 +76,7 @@ fn assignment_line(alloc: Global, name: &str, op: Op, text: Text) -> Result<Entr
 fn give(alloc: Global, reading: &mut Reading, line: EntryLine) -> Result<(), Mem>
     ensures { OnOk result (reading.new ≡ with_lines (line ∷ []) reading.old) }
 {
-    reading.apply(alloc, &line)
+    reading.apply_line(alloc, line)
 }
 
 /// An assignment to a name, which may be late, and whose text is taken.

@@ -81,12 +81,20 @@ impl Reading {
         self.store().expand(alloc, text)
     }
 
-    /// One more entry. Where memory is wanting, all is as before.
+    /// One more entry, which is copied. Where memory is wanting, all is as before.
     pub(crate) fn apply(&mut self, alloc: Global, line: &EntryLine) -> Result<(), Mem>
         ensures ok { OnOk result (self.new ≡ with_lines (line.now ∷ []) self.old) }
         ensures err { OnErr result (self.new ≡ self.old) }
     {
         self.store.apply(alloc, line)
+    }
+
+    /// One more entry. Where memory is wanting, all is as before.
+    pub(crate) fn apply_line(&mut self, alloc: Global, line: EntryLine) -> Result<(), Mem>
+        ensures ok { OnOk result (self.new ≡ with_lines (line ∷ []) self.old) }
+        ensures err { OnErr result (self.new ≡ self.old) }
+    {
+        self.store.apply_line(alloc, line)
     }
 
     /// More entries, in their order.

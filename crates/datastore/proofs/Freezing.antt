@@ -207,7 +207,7 @@ parted_fault list whole s g s' g' move rest fault e h =
 
 -- the frozen entries
 
-ok_pair : {A B : Type 0} (a c : A) (b d : B) → answer {A = A × B} (a, b) ≡ answer {A = A × B} (c, d) → (a ≡ c) × (b ≡ d)
+pub ok_pair : {A B : Type 0} (a c : A) (b d : B) → answer {A = A × B} (a, b) ≡ answer {A = A × B} (c, d) → (a ≡ c) × (b ≡ d)
 ok_pair {A} {B} a c b d e =
     let first : A × B = (a, b) in
     let second : A × B = (c, d) in

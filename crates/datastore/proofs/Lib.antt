@@ -10,3 +10,6 @@ pub mod Sets
 pub mod Tasking
 pub mod Freezing
 pub mod Orders
+pub mod Retelling
+pub mod Unexported
+pub mod Retold

@@ -1,6 +1,7 @@
 -- The names and flags that entries leave.
-use Rattle.std.proofs.Common.{◌≡◌, refl, sym, ◌∙◌, ap, subst, ℕ, List, [], ◌∷◌, ◌++◌, map, filter, flat_map, take, get_or, length, ◌<◌, ◌+◌, if◌then◌else◌, Bool, true, false, not, ◌||◌, ◌&&◌, Option, Some, None, is_some, inl, inr, bytes_eq, codes, String}
+use Rattle.std.proofs.Common.{◌≡◌, refl, sym, ◌∙◌, ap, subst, ℕ, List, [], ◌∷◌, ◌++◌, map, filter, flat_map, take, get_or, length, ◌<◌, ◌+◌, if◌then◌else◌, Bool, true, false, not, ◌||◌, ◌&&◌, Option, Some, None, is_some, Result, Ok, Err, IfOk, OnOk, inl, inr, bytes_eq, codes, String, BTreeMap}
 use Rattle.std.specs.Global.{Global}
+use Rattle.std.specs.Option.{option_or}
 use Rattle.std.specs.List.{list_any}
 use Rattle.std.proofs.lemmas.List.{take_more}
 use Rattle.std.proofs.lemmas.List.Elements.{filter-append}
@@ -21,7 +22,8 @@ use Rattle.datastore.specs.Named.{slot_at, lates_at, flag_at}
 use Rattle.datastore.specs.Maps.{named_at, Keeps}
 use Rattle.datastore.specs.Picked.{picked, passes}
 use Rattle.datastore.specs.Left.{kept_set, named_left}
-use Rattle.datastore.proofs.Ordered.{Ascending, picked_is, picked_in, picked_ascending, ordered_is, filtered_in, filter_ascending}
+use Rattle.datastore.specs.Keys.{Ascending, AreKeys}
+use Rattle.datastore.proofs.Ordered.{ordered_in, picked_is, picked_in, picked_ascending, ordered_is, filtered_in, filter_ascending}
 
 -- a flag that no entry gives is nothing
 
@@ -61,6 +63,12 @@ flag_named list name f h = elim (either_way (is_in f (flat_map (flag_in name) li
   | inl t ↦ t
   | inr e ↦ not_both (is_set (flag_slot list name f)) h (ap is_set (flag_unnamed list name f nothing e))
 ]
+
+-- the flags of a name are those that are set
+pub in_flags : (list : List EntryLine) (name f : List ℕ) → is_in f (flags_of list name) ≡ is_set (flag_slot list name f)
+in_flags list name f =
+    ordered_in (filter (λ g. is_set (flag_slot list name g)) (flat_map (flag_in name) list)) f
+    ∙ filtered_in (λ g. is_set (flag_slot list name g)) (flat_map (flag_in name) list) f (λ h. flag_named list name f h)
 
 -- the flags of a name that no entry names
 
@@ -130,22 +138,53 @@ none_left list maps name keeps found =
 
 -- the names
 
-some_passes : (o : Option Named) → passes (λ named. true) o ≡ is_some o
+some_passes : {V : Type 0} (o : Option V) → passes (λ there. true) o ≡ is_some o
 some_passes None = refl
-some_passes (Some named) = refl
+some_passes (Some v) = refl
 
-left_kept : (list : List EntryLine) (maps : Maps) (name : List ℕ) → Keeps list maps → is_left list name ≡ true → is_some (named_at maps name) ≡ true
+-- the names of a map
+pub keys_are : {V : Type 0} (map : BTreeMap (String Global) V) (made : List (List ℕ)) → made ≡ picked (λ there. true) map.entries → IsOrdered string_cmp map → AreKeys made (λ name. is_some (get_by_text map name))
+keys_are map made e ordered = record {
+  ordered = subst Ascending (sym e) (picked_ascending (λ there. true) map.entries ordered);
+  are = λ name. ap (is_in name) e ∙ picked_in (λ there. true) map.entries name ordered ∙ some_passes (get_by_text map name);
+}
+
+pub if_keys : {V E : Type 0} (map : BTreeMap (String Global) V) (r : Result (List (List ℕ)) E) → IfOk r (λ made. made ≡ picked (λ there. true) map.entries) → OnOk r (IsOrdered string_cmp map)
+    → IfOk r (λ made. AreKeys made (λ name. is_some (get_by_text map name)))
+if_keys map (Ok made) e ordered = keys_are map made e ordered
+if_keys map (Err fault) e ordered = tt
+
+pub left_kept : (list : List EntryLine) (maps : Maps) (name : List ℕ) → Keeps list maps → is_left list name ≡ true → is_some (named_at maps name) ≡ true
 left_kept list maps name keeps h = at (named_at maps name) refl
   where
     at : (o : Option Named) → named_at maps name ≡ o → is_some o ≡ true
     at None e = not_both (is_left list name) h (none_left list maps name keeps e)
     at (Some named) e = refl
 
-pub names_are : (list : List EntryLine) (maps : Maps) (keys : List (List ℕ)) → Keeps list maps → IsOrdered string_cmp maps.named → keys ≡ picked (λ named. true) maps.named.entries → filter (is_left list) keys ≡ names list
-names_are list maps keys keeps ordered e =
-    let ascending : Ascending keys = subst Ascending (sym e) (picked_ascending (λ named. true) maps.named.entries ordered) in
-    let there : (t : List ℕ) → is_left list t ≡ true → is_in t keys ≡ true = λ t h. ap (is_in t) e ∙ picked_in (λ named. true) maps.named.entries t ordered ∙ some_passes (named_at maps t) ∙ left_kept list maps t keeps h in
-    ordered_is (is_left list) (names_in list) (filter (is_left list) keys) (filter_ascending (is_left list) keys ascending) (λ t. filtered_in (is_left list) keys t (there t)) (λ t. left_named list t)
+pub names_are : (list : List EntryLine) (maps : Maps) (keys : List (List ℕ)) → Keeps list maps → AreKeys keys (λ name. is_some (named_at maps name)) → filter (is_left list) keys ≡ names list
+names_are list maps keys keeps all =
+    let there : (t : List ℕ) → is_left list t ≡ true → is_in t keys ≡ true = λ t h. all.are t ∙ left_kept list maps t keeps h in
+    ordered_is (is_left list) (names_in list) (filter (is_left list) keys) (filter_ascending (is_left list) keys all.ordered) (λ t. filtered_in (is_left list) keys t (there t)) (λ t. left_named list t)
+
+-- names in byte order that pass another test
+pub same_keys : (names : List (List ℕ)) (f g : List ℕ → Bool) → ((t : List ℕ) → f t ≡ g t) → AreKeys names f → AreKeys names g
+same_keys names f g same all = record { ordered = all.ordered; are = λ name. all.are name ∙ same name }
+
+pub if_same_keys : {E : Type 0} (r : Result (List (List ℕ)) E) (f g : List ℕ → Bool) → ((t : List ℕ) → f t ≡ g t) → IfOk r (λ made. AreKeys made f) → IfOk r (λ made. AreKeys made g)
+if_same_keys (Ok made) f g same all = same_keys made f g same all
+if_same_keys (Err fault) f g same all = tt
+
+pub turned_or : (a b : Bool) → (a || (b || false)) ≡ (b || a)
+turned_or true true = refl
+turned_or true false = refl
+turned_or false true = refl
+turned_or false false = refl
+
+pub either_some : {A : Type 0} (a b : Option A) → (is_some b || (is_some a || false)) ≡ is_some (option_or a b)
+either_some None None = refl
+either_some None (Some b) = refl
+either_some (Some a) None = refl
+either_some (Some a) (Some b) = refl
 
 -- one more text that is filtered
 pub filter_turn : (test : List ℕ → Bool) (xs : List (List ℕ)) (i : ℕ) (x : List ℕ) → x ≡ get_or xs i x → i < length xs → filter test (take i xs) ++ (if test x then x ∷ [] else []) ≡ filter test (take (i + 1) xs)

@@ -18,12 +18,9 @@ use Rattle.meta_model.proofs.Bools.{not_both, either_way, or_first, same_text, t
 use Rattle.meta_model.proofs.Winner.{in_filter, filter_passes}
 use Rattle.meta_model.specs.Text.{is_in, is_less, is_before, into_order, in_byte_order}
 use Rattle.datastore.specs.Picked.{picked, passes}
+use Rattle.datastore.specs.Keys.{Before, Above, Ascending}
 
 -- the order
-
--- the first text comes before the second
-abbrev pub Before : List ℕ → List ℕ → Type 0
-Before x y = slice_cmp nat_cmp x y ≡ Less
 
 itself : (x : List ℕ) → slice_cmp nat_cmp x x ≡ Equal
 itself x = equal_is (slice_cmp nat_cmp x x) (is_eq-slice_cmp x x ∙ text_itself x)
@@ -44,16 +41,6 @@ cases_of x y Greater h = inr (inr (nat_list_cmp_total.antisymm y x ∙ ap orderi
 order_cases : (x y : List ℕ) → (Before x y) ⊎ ((x ≡ y) ⊎ (Before y x))
 order_cases x y = cases_of x y (slice_cmp nat_cmp x y) refl
 
--- a text comes before all of these
-abbrev pub Above : List ℕ → List (List ℕ) → Type 0
-Above x [] = Unit {0}
-Above x (y ∷ ys) = (Before x y) × Above x ys
-
--- each text comes before those after it
-abbrev pub Ascending : List (List ℕ) → Type 0
-Ascending [] = Unit {0}
-Ascending (x ∷ xs) = Above x xs × Ascending xs
-
 above_more : (x y : List ℕ) (ys : List (List ℕ)) → Before x y → Above y ys → Above x ys
 above_more x y [] b a = tt
 above_more x y (z ∷ ys) b a = (nat_list_cmp_total.trans x y z b a.0, above_more x y ys b a.1)
@@ -64,7 +51,7 @@ apart x y b = elim (either_way (bytes_eq x y)) [
   | inr e ↦ e
 ]
 
-above_not_in : (x : List ℕ) (ys : List (List ℕ)) → Above x ys → is_in x ys ≡ false
+pub above_not_in : (x : List ℕ) (ys : List (List ℕ)) → Above x ys → is_in x ys ≡ false
 above_not_in x [] a = refl
 above_not_in x (y ∷ ys) a = rw (apart x y a.0) (above_not_in x ys a.1)
 

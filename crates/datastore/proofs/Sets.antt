@@ -1,6 +1,8 @@
 -- Sets of names.
-use Rattle.std.proofs.Common.{◌≡◌, refl, ◌∙◌, ap, ℕ, List, [], ◌∷◌, ◌++◌, Bool, true, false, not, ◌||◌, ◌&&◌, cond, Option, Some, None, is_some, bytes_eq, Result, Ok, Err, OnErr}
+use Rattle.std.proofs.Common.{◌≡◌, refl, sym, subst, ◌∙◌, ap, inl, inr, ◌+◌, ◌<◌, length, get_or, take, ℕ, List, [], ◌∷◌, ◌++◌, Bool, true, false, not, ◌||◌, ◌&&◌, cond, Option, Some, None, is_some, bytes_eq, Result, Ok, Err, OnErr}
 use Rattle.std.specs.Map.{update}
+use Rattle.std.proofs.lemmas.List.{take_more}
+use Rattle.meta_model.proofs.Bools.{either_way, same_text, differs}
 use Rattle.meta_model.specs.Text.{is_in}
 
 put_at : {A : Type 0} (b : Bool) (w : A) (x : Option A) → is_some (cond b (Some w) x) ≡ (b || is_some x)
@@ -32,7 +34,34 @@ in_end t x (y ∷ xs) = ap (λ b. bytes_eq t y || b) (in_end t x xs) ∙ or_asso
     or_assoc true b c = refl
     or_assoc false b c = refl
 
+pub eq_turned : (a b : List ℕ) → bytes_eq a b ≡ bytes_eq b a
+eq_turned a b = elim (either_way (bytes_eq a b)) [
+  | inl e ↦ subst (λ t. bytes_eq a t ≡ bytes_eq t a) (same_text a b e) refl
+  | inr e ↦ e ∙ sym (differs a b e)
+]
+
 -- what holds always, holds where there is an error
 pub on_err : {T E P : Type 0} (r : Result T E) → P → OnErr r P
 on_err (Ok x) p = tt
 on_err (Err e) p = p
+
+-- one more name of a list is put in
+pub set_turn : (xs : List (List ℕ)) (i : ℕ) (x t : List ℕ) (old : Bool) {now : Bool} → x ≡ get_or xs i x → i < length xs → now ≡ (bytes_eq x t || (is_in t (take i xs) || old)) → now ≡ (is_in t (take (i + 1) xs) || old)
+set_turn xs i x t old is lt e =
+    e ∙ ap (λ b. b || (is_in t (take i xs) || old)) (eq_turned x t) ∙ sym (ap (λ l. is_in t l || old) (take_more xs i x lt ∙ ap (λ z. take i xs ++ z ∷ []) (sym is)) ∙ ap (λ b. b || old) (in_end t x (take i xs)) ∙ turned (is_in t (take i xs)) (bytes_eq t x) old)
+  where
+    turned : (a b c : Bool) → ((a || b) || c) ≡ (b || (a || c))
+    turned true true c = refl
+    turned true false c = refl
+    turned false b c = refl
+
+-- one more name of a list is there
+pub there_turn : (xs : List (List ℕ)) (i : ℕ) (x t : List ℕ) {now : Bool} → x ≡ get_or xs i x → i < length xs → now ≡ (bytes_eq x t || is_in t (take i xs)) → now ≡ is_in t (take (i + 1) xs)
+there_turn xs i x t is lt e =
+    e ∙ ap (λ b. b || is_in t (take i xs)) (eq_turned x t) ∙ turned (bytes_eq t x) (is_in t (take i xs)) ∙ sym (ap (is_in t) (take_more xs i x lt ∙ ap (λ z. take i xs ++ z ∷ []) (sym is)) ∙ in_end t x (take i xs))
+  where
+    turned : (a b : Bool) → (a || b) ≡ (b || a)
+    turned true true = refl
+    turned true false = refl
+    turned false true = refl
+    turned false false = refl

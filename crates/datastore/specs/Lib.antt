@@ -8,5 +8,9 @@ pub mod Store
 pub mod Looked
 pub mod Picked
 pub mod Left
+pub mod Keys
+pub mod Plain
+pub mod Anew
+pub mod Parts
 pub mod Telling
 pub mod Orders

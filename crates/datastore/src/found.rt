@@ -1,12 +1,15 @@
 // What is found for a name under active overrides.
-ghost use Rattle.std.specs.Prelude.{◌≡◌, ◌++◌, ◌∷◌, [], List, IfOk, OnOk, Some, is_some, if◌then◌else◌, option_copied, option_to_list, option_map, codes};
+ghost use Rattle.std.specs.Prelude.{◌≡◌, ◌++◌, ◌∷◌, [], List, IfOk, OnOk, Some, is_some, filter, if◌then◌else◌, option_copied, option_to_list, option_map, codes};
+ghost use Rattle.std.specs.BTreeMap.{get_by_text};
 ghost use Rattle.meta_model.specs.declared.entry.EntryLine.{EntryLine as Line};
 ghost use Rattle.meta_model.specs.Slot.{at_end};
 ghost use Rattle.meta_model.specs.Overrides.{winning, resolved};
 ghost use Rattle.datastore.specs.Named.{slot_at, lates_at, flag_at};
-ghost use Rattle.datastore.specs.Maps.{Keeps, named_at, noted_at};
+ghost use Rattle.datastore.specs.Forms.{rests};
+ghost use Rattle.datastore.specs.Maps.{Keeps, named_at, base_of, under_noted};
 ghost use Rattle.datastore.specs.Found.{own_at, form_of, is_present, present_forms, own_of, told_flag, joined_at};
 
+use crate::forms::Forms;
 use crate::maps::Maps;
 use crate::names::push_if;
 use meta_model::{LateLine, ListOf, Resolved};
@@ -22,6 +25,16 @@ fn form_of(alloc: Global, name: &str, rest: &str) -> Result<Text, Mem>
     made.push_str(":")?;
     made.push_str(rest)?;
     Ok(made)
+}
+
+/// The texts that are noted behind a name and a colon.
+fn noted_in<'a>(forms: &'a Forms, name: &str) -> &'a [Text]
+    ensures { result.now ≡ rests (get_by_text forms.now name.now) }
+{
+    match forms.get(name) {
+        Some(noted) => noted.as_slice(),
+        None => &[],
+    }
 }
 
 /// Puts copies of texts at the end.
@@ -49,7 +62,7 @@ impl Maps {
     fn base_of(&self, name: &str) -> Option<&str>
         ensures { option_copied result ≡ at_end (slot_at (named_at self.now name.now)) }
     {
-        match self.named.get(name) {
+        match self.of(name) {
             Some(named) => named.kept.at_end(),
             None => None,
         }
@@ -59,7 +72,7 @@ impl Maps {
     pub(crate) fn lates_of(&self, name: &str) -> &[LateLine]
         ensures { result.now ≡ lates_at (named_at self.now name.now) }
     {
-        match self.named.get(name) {
+        match self.of(name) {
             Some(named) => named.lates.as_slice(),
             None => &[],
         }
@@ -69,7 +82,7 @@ impl Maps {
     pub(crate) fn flag_of(&self, name: &str, flag: &str) -> Option<&str>
         ensures { option_copied result ≡ at_end (flag_at (named_at self.now name.now) flag.now) }
     {
-        match self.named.get(name) {
+        match self.of(name) {
             Some(named) => match named.flags.get(flag) {
                 Some(kept) => kept.at_end(),
                 None => None,
@@ -110,12 +123,12 @@ impl Maps {
         self.has_own(alloc, form.as_str(), active)
     }
 
-    /// The texts that are noted behind a name and a colon.
-    fn noted_of(&self, name: &str) -> &[Text]
-        ensures { result.now ≡ noted_at self.now name.now }
+    /// The texts that the shared entries let be noted behind a name and a colon.
+    fn noted_under(&self, name: &str) -> &[Text]
+        ensures { result.now ≡ under_noted (base_of self.now) name.now }
     {
-        match self.forms.get(name) {
-            Some(noted) => noted.as_slice(),
+        match &self.base {
+            Some(base) => noted_in(&base.as_ref().forms, name),
             None => &[],
         }
     }
@@ -135,14 +148,31 @@ impl Maps {
         push_if(list, rest, asked)
     }
 
+    /// Puts those texts at the end of which the name `N:rest` is a form of N.
+    fn push_presents(
+        &self,
+        list: &mut Texts,
+        alloc: Global,
+        name: &str,
+        rests: &[Text],
+        active: &[Text],
+    ) -> Result<(), Mem>
+        ensures { OnOk result (list.new ≡ list.old ++ filter (is_present self.now active.now name.now) rests.now) }
+    {
+        for rest in rests {
+            self.push_present(list, alloc, name, rest, active)?;
+        }
+        Ok(())
+    }
+
     /// The forms of a name.
     fn present_forms(&self, alloc: Global, name: &str, active: &[Text]) -> Result<Texts, Mem>
         ensures { IfOk result (λ made. made ≡ present_forms self.now active.now name.now) }
     {
         let mut made = Texts::new(alloc);
-        for rest in self.noted_of(name) {
-            self.push_present(&mut made, alloc, name, rest, active)?;
-        }
+        let own = noted_in(&self.forms, name);
+        self.push_presents(&mut made, alloc, name, self.noted_under(name), active)?;
+        self.push_presents(&mut made, alloc, name, own, active)?;
         Ok(made)
     }
 

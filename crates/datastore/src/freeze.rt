@@ -1,26 +1,31 @@
 // Names that hold references, moved to what they expand to.
-ghost use Rattle.std.specs.Prelude.{◌≡◌, ◌++◌, ◌∷◌, [], List, OnOk, IfOk, IfErr, Ok, map, flat_map, filter};
-ghost use Rattle.std.specs.BTreeMap.{IsOrdered};
+ghost use Rattle.std.specs.Prelude.{◌≡◌, ◌++◌, ◌∷◌, [], List, ℕ, OnOk, IfOk, IfErr, Ok, None, is_some, map, flat_map, filter};
+ghost use Rattle.std.specs.BTreeMap.{get_by_text, IsOrdered};
 ghost use Rattle.std.specs.String.{string_cmp};
 ghost use Rattle.meta_model.specs.declared.entry.EntryLine.TheVariants.{Set, Later, Flag, UnsetFlag};
 ghost use Rattle.meta_model.specs.declared.entry.EntryLine.{EntryLine as Line};
+ghost use Rattle.meta_model.specs.Text.{is_in};
 ghost use Rattle.meta_model.specs.Active as entries;
 ghost use Rattle.meta_model.specs.Base as base;
 ghost use Rattle.meta_model.specs.Frozen as frozen;
 ghost use Rattle.datastore.specs.Faults.{IsDataFault};
 ghost use Rattle.datastore.specs.Looked.{IsMeant};
 ghost use Rattle.datastore.specs.Telling.{move_of, behind, parted, IsPushed, value_lines, flag_lines, told_kept, named_lines};
-ghost use Rattle.datastore.specs.Maps.{Keeps};
+ghost use Rattle.datastore.specs.Maps.{Keeps, base_of, is_anew};
+ghost use Rattle.datastore.specs.Keys.{AreKeys};
+ghost use Rattle.datastore.specs.Anew.{IsAnew, moved};
+ghost use Rattle.datastore.specs.Named.{IsAlike};
 ghost use Rattle.datastore.specs.Kept.{slot_of};
 ghost use Rattle.datastore.specs.Left.{kept_set};
 ghost use Rattle.datastore.specs.Picked.{picked};
 
-use crate::by_name::push_name;
+use crate::by_name::{push_name, put_value};
 use crate::fault::DataFault;
 use crate::kept::Kept;
 use crate::line::{flag_of, late_of, push_line, set_of, unset_flag_of};
 use crate::looked::{Overrides, expand_over};
 use crate::maps::Maps;
+use crate::named::Named;
 use crate::store::Datastore;
 use meta_model::{EntryLine, LateLine, Op};
 use std::alloc::Global;
@@ -247,7 +252,7 @@ impl Maps {
     ) -> Result<(), Mem>
         ensures { (list : List Line) → Keeps list self.now → OnOk result (lines.new.items ≡ lines.old.items ++ named_lines list (move_of (source.now, target.now))) }
     {
-        match self.named.get(source) {
+        match self.of(source) {
             Some(named) => {
                 let flags = flags_of(alloc, &named.flags)?;
                 push_value(lines, target, &named.kept)?;
@@ -324,21 +329,100 @@ fn push_moves(
     Ok(())
 }
 
-/// Each name of a store with the name that it goes to.
-fn all_moves(
+/// What is told again where names are moved: the names, and their lines. All other names keep what they have.
+#[derive(Drop)]
+pub(crate) struct Anew {
+    pub(crate) names: Texts,
+    pub(crate) staying: Vec<EntryLine>,
+    pub(crate) moving: Vec<EntryLine>,
+}
+
+/// The lines of these names: of those that stay, and of those that move.
+fn lines_of(
     alloc: Global,
     store: &Datastore,
     overrides: &Overrides,
-) -> Result<Vec<(Text, Text)>, DataFault>
+    moves: &[(Text, Text)],
+) -> Result<(Vec<EntryLine>, Vec<EntryLine>), DataFault>
     requires { IsMeant overrides.now (entries.active store.now) }
-    ensures ok { IfOk result (λ made. frozen.moves store.now (base.names store.now) ≡ Ok (map move_of made.items)) }
-    ensures err { IfErr result (λ fault. IsDataFault fault (frozen.moves store.now (base.names store.now))) }
+    ensures ok { IfOk result (λ made. parted [] [] (frozen.told_all store.now (map move_of moves.now)) ≡ Ok (made.0.items, made.1.items)) }
+    ensures err { IfErr result (λ fault. IsDataFault fault (parted [] [] (frozen.told_all store.now (map move_of moves.now)))) }
 {
-    let names = store.names(alloc)?;
-    moves_of(alloc, store, overrides, names.as_slice())
+    let mut staying = Vec::new(alloc);
+    let mut moving = Vec::new(alloc);
+    push_moves(&mut staying, &mut moving, alloc, store, overrides, moves)?;
+    Ok((staying, moving))
 }
 
-/// Applies these entries.
+/// Those of some names of which something is left, each with the name that it goes to.
+fn moves_among(
+    alloc: Global,
+    store: &Datastore,
+    maps: &Maps,
+    overrides: &Overrides,
+    names: &[Text],
+) -> Result<Vec<(Text, Text)>, DataFault>
+    requires overrides { IsMeant overrides.now (entries.active store.now) }
+    requires keeps { Keeps store.now maps.now }
+    requires names { AreKeys names.now (is_anew maps.now) }
+    ensures ok { IfOk result (λ made. frozen.moves store.now (filter (is_anew maps.now) (base.names store.now)) ≡ Ok (map move_of made.items)) }
+    ensures err { IfErr result (λ fault. IsDataFault fault (frozen.frozen store.now)) }
+{
+    let left = maps.left_among(alloc, names)?;
+    moves_of(alloc, store, overrides, left.as_slice())
+}
+
+/// What is told again of a store whose maps these are.
+pub(crate) fn told_anew(
+    alloc: Global,
+    store: &Datastore,
+    maps: &Maps,
+    overrides: &Overrides,
+) -> Result<Anew, DataFault>
+    requires overrides { IsMeant overrides.now (entries.active store.now) }
+    requires keeps { Keeps store.now maps.now }
+    ensures ok { IfOk result (λ made. IsAnew store.now maps.now made) }
+    ensures err { IfErr result (λ fault. IsDataFault fault (frozen.frozen store.now)) }
+{
+    let names = maps.anew(alloc)?;
+    let moves = moves_among(alloc, store, maps, overrides, names.as_slice())?;
+    let (staying, moving) = lines_of(alloc, store, overrides, moves.as_slice())?;
+    Ok(Anew {
+        names,
+        staying,
+        moving,
+    })
+}
+
+/// Maps in which nothing is kept of these names, and of no other.
+fn hidden(alloc: Global, names: &[Text]) -> Result<BTreeMap<String, Named>, Mem>
+    ensures there { IfOk result (λ made. (name : List ℕ) → is_some (get_by_text made name) ≡ is_in name names.now) }
+    ensures empty { IfOk result (λ made. (name : List ℕ) → IsAlike None (get_by_text made name)) }
+{
+    let mut made = BTreeMap::new(alloc);
+    for name in names {
+        put_value(&mut made, alloc, name.as_str(), Named::new(alloc))?;
+    }
+    Ok(made)
+}
+
+/// The maps once names are moved.
+pub(crate) fn retold(alloc: Global, maps: Maps, anew: Anew) -> Result<Maps, Mem>
+    ensures { (list : List Line) → Keeps list maps → IsAnew list maps anew → IfOk result (λ made. (base_of made ≡ base_of maps) × Keeps (moved list) made) }
+{
+    let Maps {
+        base,
+        named: _,
+        forms,
+    } = maps;
+    let named = hidden(alloc, anew.names.as_slice())?;
+    let mut made = Maps { base, named, forms };
+    made.change_all(alloc, anew.staying.as_slice())?;
+    made.change_all(alloc, anew.moving.as_slice())?;
+    Ok(made)
+}
+
+/// Applies copies of these entries.
 pub(crate) fn apply_all(
     store: &mut Datastore,
     alloc: Global,
@@ -350,90 +434,4 @@ pub(crate) fn apply_all(
         store.apply(alloc, line)?;
     }
     Ok(())
-}
-
-/// Applies an entry if it is one of a task.
-fn apply_task(store: &mut Datastore, alloc: Global, line: &EntryLine) -> Result<(), Mem>
-    ensures { OnOk result (store.new ≡ store.old ++ filter frozen.is_task_line (line.now ∷ [])) }
-{
-    match line {
-        EntryLine::Task { .. } => store.apply(alloc, line),
-        EntryLine::NoTask { .. } => store.apply(alloc, line),
-        _ => Ok(()),
-    }
-}
-
-/// Applies the entries of tasks.
-fn apply_tasks(store: &mut Datastore, alloc: Global, lines: &[EntryLine]) -> Result<(), Mem>
-    ensures { OnOk result (store.new ≡ store.old ++ filter frozen.is_task_line lines.now) }
-{
-    for line in lines {
-        apply_task(store, alloc, line)?;
-    }
-    Ok(())
-}
-
-/// Applies the lines of names that stay, those of names that move, and the entries of tasks.
-fn apply_parts(
-    store: &mut Datastore,
-    alloc: Global,
-    staying: &[EntryLine],
-    moving: &[EntryLine],
-    lines: &[EntryLine],
-) -> Result<(), Mem>
-    ensures { OnOk result (store.new ≡ ((store.old ++ staying.now) ++ moving.now) ++ filter frozen.is_task_line lines.now) }
-{
-    apply_all(store, alloc, staying)?;
-    apply_all(store, alloc, moving)?;
-    apply_tasks(store, alloc, lines)
-}
-
-/// A store of the lines of names that stay, those of names that move, and the entries of tasks.
-fn store_of(
-    alloc: Global,
-    staying: &[EntryLine],
-    moving: &[EntryLine],
-    lines: &[EntryLine],
-) -> Result<Datastore, Mem>
-    ensures { IfOk result (λ made. made ≡ (staying.now ++ moving.now) ++ filter frozen.is_task_line lines.now) }
-{
-    let mut made = Datastore::new(alloc);
-    apply_parts(&mut made, alloc, staying, moving, lines)?;
-    Ok(made)
-}
-
-/// The store of what these names have, and of the entries of tasks.
-fn moved(
-    alloc: Global,
-    store: &Datastore,
-    overrides: &Overrides,
-    moves: &[(Text, Text)],
-    lines: &[EntryLine],
-) -> Result<Datastore, DataFault>
-    requires overrides { IsMeant overrides.now (entries.active store.now) }
-    requires lines { lines.now ≡ store.now }
-    requires moves { frozen.moves store.now (base.names store.now) ≡ Ok (map move_of moves.now) }
-    ensures ok { IfOk result (λ made. frozen.frozen store.now ≡ Ok made) }
-    ensures err { IfErr result (λ fault. IsDataFault fault (frozen.frozen store.now)) }
-{
-    let mut staying = Vec::new(alloc);
-    let mut moving = Vec::new(alloc);
-    push_moves(&mut staying, &mut moving, alloc, store, overrides, moves)?;
-    Ok(store_of(alloc, staying.as_slice(), moving.as_slice(), lines)?)
-}
-
-/// The store of the frozen entries.
-pub(crate) fn freeze(
-    alloc: Global,
-    store: &Datastore,
-    overrides: &Overrides,
-    lines: &[EntryLine],
-) -> Result<Datastore, DataFault>
-    requires overrides { IsMeant overrides.now (entries.active store.now) }
-    requires lines { lines.now ≡ store.now }
-    ensures ok { IfOk result (λ made. frozen.frozen store.now ≡ Ok made) }
-    ensures err { IfErr result (λ fault. IsDataFault fault (frozen.frozen store.now)) }
-{
-    let moves = all_moves(alloc, store, overrides)?;
-    moved(alloc, store, overrides, moves.as_slice(), lines)
 }

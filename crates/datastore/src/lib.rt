@@ -10,6 +10,7 @@
 //! names that hold references. Want of memory alone is free, and has an answer of its own.
 #![tactic(auto)]
 
+mod again;
 mod by_name;
 mod fault;
 mod forms;
@@ -22,8 +23,9 @@ mod maps;
 mod named;
 mod names;
 mod order;
+mod special;
 mod store;
 mod tasks;
 
 pub use fault::DataFault;
-pub use store::Datastore;
+pub use store::{Datastore, SharedStore};

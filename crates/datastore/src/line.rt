@@ -1,6 +1,6 @@
 // Copies of entries.
-ghost use Rattle.std.specs.Prelude.{◌≡◌, ◌++◌, ◌∷◌, [], List, IfOk, OnOk, OnErr};
-ghost use Rattle.meta_model.specs.declared.entry.EntryLine.{EntryLine as Line};
+ghost use Rattle.std.specs.Prelude.{◌≡◌, ◌++◌, ◌∷◌, [], IfOk, OnOk, OnErr, filter};
+ghost use Rattle.meta_model.specs.Frozen.{is_task_line};
 ghost use Rattle.meta_model.specs.declared.entry.EntryLine.TheVariants.{Set, Later, Flag, UnsetFlag, Exported, Task};
 
 use meta_model::{EntryLine, Late, Op};
@@ -77,7 +77,7 @@ fn task_of(task: &Text, after: &Texts, before: &Texts) -> Result<EntryLine, Mem>
 }
 
 /// The same entry again.
-fn copy_of(line: &EntryLine) -> Result<EntryLine, Mem>
+pub(crate) fn copy_of(line: &EntryLine) -> Result<EntryLine, Mem>
     ensures { IfOk result (λ made. made ≡ line.now) }
 {
     match line {
@@ -114,17 +114,23 @@ pub(crate) fn push_line(lines: &mut Vec<EntryLine>, line: EntryLine) -> Result<(
     Ok(lines.push(line)?)
 }
 
-/// Puts a copy of an entry behind the others. Where memory is wanting, they are as before.
-pub(crate) fn push_copy(lines: &mut Vec<EntryLine>, line: &EntryLine) -> Result<(), Mem>
-    ensures ok { OnOk result (lines.new.items ≡ lines.old.items ++ line.now ∷ []) }
-    ensures err { OnErr result (lines.new.items ≡ lines.old.items) }
+/// Puts a copy of an entry behind the others, if it is one of a task.
+fn push_task(lines: &mut Vec<EntryLine>, line: &EntryLine) -> Result<(), Mem>
+    ensures { OnOk result (lines.new.items ≡ lines.old.items ++ filter is_task_line (line.now ∷ [])) }
 {
-    push_line(lines, copy_of(line)?)
+    match line {
+        EntryLine::Task { .. } => push_line(lines, copy_of(line)?),
+        EntryLine::NoTask { .. } => push_line(lines, copy_of(line)?),
+        _ => Ok(()),
+    }
 }
 
-/// Takes the last entry away.
-pub(crate) fn drop_last(lines: &mut Vec<EntryLine>)
-    ensures { (rest : List Line) (last : Line) → lines.old.items ≡ rest ++ last ∷ [] → lines.new.items ≡ rest }
+/// Puts copies of the entries of tasks behind the others.
+pub(crate) fn push_tasks(lines: &mut Vec<EntryLine>, all: &[EntryLine]) -> Result<(), Mem>
+    ensures { OnOk result (lines.new.items ≡ lines.old.items ++ filter is_task_line all.now) }
 {
-    lines.pop();
+    for line in all {
+        push_task(lines, line)?;
+    }
+    Ok(())
 }

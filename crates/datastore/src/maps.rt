@@ -1,8 +1,12 @@
 // What a store keeps of all names, by name.
-ghost use Rattle.std.specs.Prelude.{◌≡◌, [], OnOk, OnErr, MatchOption, true, false, is_some};
+ghost use Rattle.std.specs.Prelude.{◌≡◌, ◌++◌, [], List, None, IfOk, OnOk, OnErr, MatchOption, true, Some, option_copied};
+ghost use Rattle.std.specs.BTreeMap.{get_by_text};
+ghost use Rattle.std.specs.Option.{option_map};
+ghost use Rattle.std.specs.Rc.{rc_value};
+ghost use Rattle.meta_model.specs.declared.entry.EntryLine.{EntryLine as Line};
 ghost use Rattle.meta_model.specs.Frozen.{is_task_line};
-ghost use Rattle.datastore.specs.Named.{subject};
-ghost use Rattle.datastore.specs.Maps.{Goes, Stays, Keeps, named_at};
+ghost use Rattle.datastore.specs.Named.{Steps, subject};
+ghost use Rattle.datastore.specs.Maps.{Goes, Stays, Keeps, KeepsBase, named_at, base_of, under_named, under_entries, under_special};
 
 use crate::by_name::put_value;
 use crate::forms::{Forms, note_forms};
@@ -10,13 +14,35 @@ use crate::named::Named;
 use meta_model::EntryLine;
 use std::alloc::Global;
 use std::collections::BTreeMap;
-use tree_model::Mem;
+use std::rc::Rc;
+use tree_model::{Mem, Text, Texts};
 
-/// What is kept of each name, and which forms it has.
+/// Entries that stores share, in their order, with what is kept of each name, and which forms it has; and the names that are told
+/// again where names are moved.
 #[derive(Drop)]
-pub(crate) struct Maps {
+pub(crate) struct Base {
+    pub(crate) entries: Vec<EntryLine>,
     pub(crate) named: BTreeMap<String, Named>,
     pub(crate) forms: Forms,
+    pub(crate) special: Texts,
+}
+
+/// What is kept of each name, and which forms it has. What is a store's own of a name stands in place of what is shared.
+#[derive(Drop)]
+pub(crate) struct Maps {
+    pub(crate) base: Option<Rc<Base>>,
+    pub(crate) named: BTreeMap<String, Named>,
+    pub(crate) forms: Forms,
+}
+
+/// The same shared entries again.
+pub(crate) fn again(base: &Option<Rc<Base>>) -> Result<Option<Rc<Base>>, Mem>
+    ensures { IfOk result (λ made. option_map rc_value made ≡ option_map rc_value base.now) }
+{
+    match base {
+        Some(base) => Ok(Some(base.clone()?)),
+        None => Ok(None),
+    }
 }
 
 /// The name that an entry is of. Entries of tasks are of none.
@@ -38,23 +64,94 @@ fn name_of(line: &EntryLine) -> Option<&str>
 impl Maps {
     /// Maps without names. They take no memory.
     pub(crate) fn new(alloc: Global) -> Maps
-        ensures { Keeps [] result }
+        ensures keeps { Keeps [] result }
+        ensures alone { base_of result ≡ None }
     {
         Maps {
+            base: None,
             named: BTreeMap::new(alloc),
             forms: BTreeMap::new(alloc),
         }
     }
 
-    /// One more entry, of a name of which nothing is kept. Where memory is wanting, all is as before.
+    /// What shared entries give.
+    pub(crate) fn over(alloc: Global, base: Option<Rc<Base>>) -> Maps
+        ensures same { base_of result ≡ option_map rc_value base }
+        ensures keeps { KeepsBase (option_map rc_value base) → Keeps (under_entries (option_map rc_value base)) result }
+    {
+        Maps {
+            base,
+            named: BTreeMap::new(alloc),
+            forms: BTreeMap::new(alloc),
+        }
+    }
+
+    /// Whether nothing is shared.
+    pub(crate) fn is_alone(&self) -> bool
+        ensures { result ≡ true → base_of self.now ≡ None }
+    {
+        self.base.is_none()
+    }
+
+    /// The shared entries.
+    pub(crate) fn entries(&self) -> &[EntryLine]
+        ensures { result.now ≡ under_entries (base_of self.now) }
+    {
+        match &self.base {
+            Some(base) => base.as_ref().entries.as_slice(),
+            None => &[],
+        }
+    }
+
+    /// The shared names that are told again where names are moved.
+    pub(crate) fn special(&self) -> &[Text]
+        ensures { result.now ≡ under_special (base_of self.now) }
+    {
+        match &self.base {
+            Some(base) => base.as_ref().special.as_slice(),
+            None => &[],
+        }
+    }
+
+    /// What the shared entries leave of a name.
+    fn shared(&self, name: &str) -> Option<&Named>
+        ensures { option_copied result ≡ under_named (base_of self.now) name.now }
+    {
+        match &self.base {
+            Some(base) => base.as_ref().named.get(name),
+            None => None,
+        }
+    }
+
+    /// What is kept of a name.
+    pub(crate) fn of(&self, name: &str) -> Option<&Named>
+        ensures { option_copied result ≡ named_at self.now name.now }
+    {
+        match self.named.get(name) {
+            Some(named) => Some(named),
+            None => self.shared(name),
+        }
+    }
+
+    /// What an entry makes of what the shared entries leave of its name.
+    fn first(&self, alloc: Global, name: &str, line: &EntryLine) -> Result<Named, Mem>
+        ensures { IfOk result (λ made. Steps (under_named (base_of self.now) name.now) (Some made) (subject line.now) line.now) }
+    {
+        match self.shared(name) {
+            Some(named) => named.changed(alloc, line),
+            None => Named::first(alloc, line),
+        }
+    }
+
+    /// One more entry, of a name of which nothing is a store's own. Where memory is wanting, all is as before.
     fn add(&mut self, alloc: Global, name: &str, line: &EntryLine) -> Result<(), Mem>
         requires name { name.now ≡ subject line.now }
-        requires absent { is_some (named_at self.old name.now) ≡ false }
+        requires absent { get_by_text self.old.named name.now ≡ None }
         ensures ok { OnOk result (Goes self.old self.new line.now) }
         ensures err { OnErr result (Stays self.old self.new) }
     {
         note_forms(&mut self.forms, alloc, name)?;
-        let named = Named::first(alloc, line)?;
+        let named = self.first(alloc, name, line)?;
         put_value(&mut self.named, alloc, name, named)
     }
 
@@ -70,5 +167,16 @@ impl Maps {
             Some(named) => named.change(alloc, line),
             None => self.add(alloc, name, line),
         }
+    }
+
+    /// More entries, in their order.
+    pub(crate) fn change_all(&mut self, alloc: Global, lines: &[EntryLine]) -> Result<(), Mem>
+        ensures same { OnOk result (base_of self.new ≡ base_of self.old) }
+        ensures keeps { OnOk result ((list : List Line) → Keeps list self.old → Keeps (list ++ lines.now) self.new) }
+    {
+        for line in lines {
+            self.change(alloc, line)?;
+        }
+        Ok(())
     }
 }

@@ -1,18 +1,21 @@
 // The names of a store.
-ghost use Rattle.std.specs.Prelude.{◌≡◌, ◌++◌, ◌∷◌, [], List, IfOk, OnOk, true, if◌then◌else◌};
-ghost use Rattle.std.specs.BTreeMap.{IsOrdered, values};
+ghost use Rattle.std.specs.Prelude.{◌≡◌, ◌++◌, ◌∷◌, [], ◌||◌, List, ℕ, IfOk, OnOk, is_some, filter, if◌then◌else◌};
+ghost use Rattle.std.specs.Option.{option_or};
+ghost use Rattle.std.specs.BTreeMap.{get_by_text, IsOrdered, values};
 ghost use Rattle.std.specs.List.{list_any};
 ghost use Rattle.std.specs.String.{string_cmp};
 ghost use Rattle.meta_model.specs.declared.entry.EntryLine.{EntryLine as Line};
 ghost use Rattle.meta_model.specs.Base as base;
-ghost use Rattle.datastore.specs.Maps.{Keeps};
-ghost use Rattle.datastore.specs.Picked.{picked};
+ghost use Rattle.meta_model.specs.Text.{is_in};
+ghost use Rattle.datastore.specs.Maps.{Keeps, named_at, is_anew};
 ghost use Rattle.datastore.specs.Left.{kept_set, named_left};
+ghost use Rattle.datastore.specs.Keys.{AreKeys};
 
 use crate::by_name::names_of;
 use crate::kept::Kept;
 use crate::maps::Maps;
 use crate::named::Named;
+use crate::tasks::{Names, put};
 use std::alloc::Global;
 use std::collections::BTreeMap;
 use tree_model::{Mem, Text, Texts};
@@ -23,6 +26,50 @@ fn has_flag(flags: &BTreeMap<String, Kept>) -> bool
     ensures ordered { IsOrdered string_cmp flags.now }
 {
     flags.values().any(|kept| kept.is_set())
+}
+
+/// The names of a map, in byte order.
+pub(crate) fn own_keys(alloc: Global, named: &BTreeMap<String, Named>) -> Result<Texts, Mem>
+    ensures { IfOk result (λ made. AreKeys made (λ name. is_some (get_by_text named.now name))) }
+{
+    names_of(alloc, named)
+}
+
+/// Puts names into a set.
+fn put_all(set: &mut Names, alloc: Global, names: &[Text]) -> Result<(), Mem>
+    ensures { OnOk result ((t : List ℕ) → is_some (get_by_text set.new t) ≡ (is_in t names.now || is_some (get_by_text set.old t))) }
+{
+    for name in names {
+        put(set, alloc, name.as_str())?;
+    }
+    Ok(())
+}
+
+/// The names of two maps, in byte order and each once.
+fn joined_keys(
+    alloc: Global,
+    own: &BTreeMap<String, Named>,
+    shared: &BTreeMap<String, Named>,
+) -> Result<Texts, Mem>
+    ensures { IfOk result (λ made. AreKeys made (λ name. is_some (option_or (get_by_text own.now name) (get_by_text shared.now name)))) }
+{
+    let first = own_keys(alloc, own)?;
+    let second = own_keys(alloc, shared)?;
+    let mut set = BTreeMap::new(alloc);
+    put_all(&mut set, alloc, first.as_slice())?;
+    put_all(&mut set, alloc, second.as_slice())?;
+    names_of(alloc, &set)
+}
+
+/// The names of a map and some more, in byte order and each once.
+fn keys_with(alloc: Global, own: &BTreeMap<String, Named>, more: &[Text]) -> Result<Texts, Mem>
+    ensures { IfOk result (λ made. AreKeys made (λ name. is_some (get_by_text own.now name) || is_in name more.now)) }
+{
+    let first = own_keys(alloc, own)?;
+    let mut set = BTreeMap::new(alloc);
+    put_all(&mut set, alloc, first.as_slice())?;
+    put_all(&mut set, alloc, more)?;
+    names_of(alloc, &set)
 }
 
 /// Puts a copy of the text at the end, where it is asked for.
@@ -51,21 +98,45 @@ impl Maps {
     fn is_left(&self, name: &str) -> bool
         ensures { (list : List Line) → Keeps list self.now → result ≡ base.is_left list name.now }
     {
-        match self.named.get(name) {
+        match self.of(name) {
             Some(named) => named.is_left(),
             None => false,
         }
+    }
+
+    /// The names that are a store's own, or shared, in byte order.
+    fn keys(&self, alloc: Global) -> Result<Texts, Mem>
+        ensures { IfOk result (λ made. AreKeys made (λ name. is_some (named_at self.now name))) }
+    {
+        match &self.base {
+            Some(base) => joined_keys(alloc, &self.named, &base.as_ref().named),
+            None => own_keys(alloc, &self.named),
+        }
+    }
+
+    /// The names that are told again where names are moved, in byte order.
+    pub(crate) fn anew(&self, alloc: Global) -> Result<Texts, Mem>
+        ensures { IfOk result (λ made. AreKeys made (is_anew self.now)) }
+    {
+        keys_with(alloc, &self.named, self.special())
+    }
+
+    /// Those of some names of which something is left.
+    pub(crate) fn left_among(&self, alloc: Global, keys: &[Text]) -> Result<Texts, Mem>
+        ensures { (list : List Line) → Keeps list self.now → IfOk result (λ made. made ≡ filter (base.is_left list) keys.now) }
+    {
+        let mut made = Texts::new(alloc);
+        for name in keys {
+            push_if(&mut made, name, self.is_left(name.as_str()))?;
+        }
+        Ok(made)
     }
 
     /// The names of which something is left, in byte order.
     pub(crate) fn names(&self, alloc: Global) -> Result<Texts, Mem>
         ensures { (list : List Line) → Keeps list self.now → IfOk result (λ made. made ≡ base.names list) }
     {
-        let keys = names_of(alloc, &self.named)?;
-        let mut made = Texts::new(alloc);
-        for name in keys.as_slice() {
-            push_if(&mut made, name, self.is_left(name.as_str()))?;
-        }
-        Ok(made)
+        let keys = self.keys(alloc)?;
+        self.left_among(alloc, keys.as_slice())
     }
 }

@@ -1,5 +1,8 @@
 // The datastore.
-ghost use Rattle.std.specs.Prelude.{◌≡◌, ◌++◌, ◌∷◌, [], OnOk, OnErr, IfOk, IfErr, Ok, None, option_copied};
+ghost use Rattle.std.specs.Prelude.{◌≡◌, ◌++◌, ◌∷◌, [], OnOk, OnErr, IfOk, IfErr, Ok, Some, None, option_copied, filter, fold, true, List};
+ghost use Rattle.std.specs.Option.{option_map};
+ghost use Rattle.std.specs.Rc.{rc_value};
+ghost use Rattle.meta_model.specs.declared.entry.EntryLine.{EntryLine as Line};
 ghost use Rattle.meta_model.specs.Active as entries;
 ghost use Rattle.meta_model.specs.Base as base;
 ghost use Rattle.meta_model.specs.Overrides as under;
@@ -7,25 +10,31 @@ ghost use Rattle.meta_model.specs.Tasks as tasks;
 ghost use Rattle.meta_model.specs.Frozen as frozen;
 ghost use Rattle.datastore.specs.Faults.{IsDataFault};
 ghost use Rattle.datastore.specs.Looked.{IsMeant};
-ghost use Rattle.datastore.specs.Maps.{Keeps};
+ghost use Rattle.datastore.specs.Maps.{Keeps, KeepsBase, base_of, under_entries};
+ghost use Rattle.datastore.specs.Anew.{moved};
+ghost use Rattle.datastore.specs.Parts.{moved_with};
 
 use crate::fault::DataFault;
-use crate::freeze::{apply_all, freeze};
-use crate::line::{drop_last, push_copy};
+use crate::freeze::{apply_all, retold, told_anew};
+use crate::line::{copy_of, push_tasks};
 use crate::looked::{
     Overrides, expand_anew, expand_over, overrides_of, resolved_anew, resolved_over, value_anew,
     value_over,
 };
-use crate::maps::Maps;
+use crate::maps::{Base, Maps, again};
+use crate::special::special_of;
 use crate::tasks::ordered_tasks;
 use meta_model::{EntryLine, Resolved};
 use std::alloc::Global;
 use std::marker::Model;
+use std::rc::Rc;
 use tree_model::{Mem, Text, Texts};
 
-/// What entries give. Contracts see the list of the entries, in the order in which they were applied.
+/// What entries give. Contracts see the list of the entries, in the order in which they were applied: those that are shared, and
+/// behind them the store's own. Where names were moved, it begins with what that made of all entries before.
 #[derive(Drop)]
 pub struct Datastore {
+    past: Vec<Vec<EntryLine>>,
     entries: Vec<EntryLine>,
     maps: Maps,
     settled: Option<Overrides>,
@@ -37,11 +46,36 @@ impl Model for Datastore {
 
     ghost Value = { List Line };
 
-    ghost use Rattle.datastore.specs.Store.{IsStore};
+    ghost use Rattle.datastore.specs.Store.{IsStore, all_entries};
 
-    ghost view = { λ s. s.entries.items };
+    ghost view = { λ s. all_entries s.maps s.past.items s.entries.items };
 
-    ghost invariant = { λ s. IsStore s.entries.items s.maps s.settled };
+    ghost invariant = { λ s. IsStore (all_entries s.maps s.past.items s.entries.items) s.maps s.settled };
+}
+
+/// Entries that stores share. Contracts see the list of the entries.
+#[derive(Drop)]
+pub struct SharedStore {
+    store: Datastore,
+}
+
+impl Model for SharedStore {
+    ghost use Rattle.std.specs.Prelude.{List};
+    ghost use Rattle.meta_model.specs.declared.entry.EntryLine.{EntryLine as Line};
+
+    ghost Value = { List Line };
+
+    ghost view = { λ s. s.store };
+}
+
+impl SharedStore {
+    /// A store of these entries, to which more may be applied. It costs what its own entries touch: the shared entries are not
+    /// copied.
+    pub fn top(&self, alloc: Global) -> Result<Datastore, Mem>
+        ensures { IfOk result (λ made. made ≡ self.now) }
+    {
+        self.store.copy(alloc)
+    }
 }
 
 /// No active overrides are kept any longer.
@@ -51,43 +85,122 @@ fn forget(settled: &mut Option<Overrides>)
     *settled = None;
 }
 
+/// The entries and maps of a store that shares nothing, as shared ones.
+fn ground_of(alloc: Global, entries: Vec<EntryLine>, maps: Maps) -> Result<Rc<Base>, Mem>
+    requires keeps { Keeps entries.items maps }
+    requires alone { base_of maps ≡ None }
+    ensures entries { IfOk result (λ made. (rc_value made).entries ≡ entries) }
+    ensures keeps { IfOk result (λ made. KeepsBase (Some (rc_value made))) }
+{
+    let Maps {
+        base: _,
+        named,
+        forms,
+    } = maps;
+    let special = special_of(alloc, &named)?;
+    Ok(Rc::new(
+        alloc,
+        Base {
+            entries,
+            named,
+            forms,
+            special,
+        },
+    )?)
+}
+
+/// Whether a store shares nothing, and none of its names were moved.
+fn is_alone(maps: &Maps, past: &[Vec<EntryLine>]) -> bool
+    ensures { result ≡ true → (base_of maps.now ≡ None) × (past.now ≡ []) }
+{
+    maps.is_alone() && past.is_empty()
+}
+
 impl Datastore {
     /// A store without entries. It takes no memory.
     pub fn new(alloc: Global) -> Datastore
         ensures { result ≡ [] }
     {
         Datastore {
+            past: Vec::new(alloc),
             entries: Vec::new(alloc),
             maps: Maps::new(alloc),
             settled: None,
         }
     }
 
-    /// One more entry. Where memory is wanting, the store is as before.
+    /// A store of shared entries alone.
+    fn over(alloc: Global, base: Option<Rc<Base>>) -> Datastore
+        requires { KeepsBase (option_map rc_value base) }
+        ensures { result ≡ under_entries (option_map rc_value base) }
+    {
+        Datastore {
+            past: Vec::new(alloc),
+            entries: Vec::new(alloc),
+            maps: Maps::over(alloc, base),
+            settled: None,
+        }
+    }
+
+    /// One more entry, which is copied. Where memory is wanting, the store is as before.
     pub fn apply(&mut self, alloc: Global, line: &EntryLine) -> Result<(), Mem>
         ensures ok { OnOk result (self.new ≡ self.old ++ line.now ∷ []) }
         ensures err { OnErr result (self.new ≡ self.old) }
     {
-        push_copy(&mut self.entries, line)?;
-        match self.maps.change(alloc, line) {
-            Ok(()) => {
-                forget(&mut self.settled);
-                Ok(())
-            }
-            Err(fault) => {
-                drop_last(&mut self.entries);
-                Err(fault)
-            }
-        }
+        self.apply_line(alloc, copy_of(line)?)
     }
 
-    /// The same store again.
+    /// One more entry. Where memory is wanting, the store is as before.
+    pub fn apply_line(&mut self, alloc: Global, line: EntryLine) -> Result<(), Mem>
+        ensures ok { OnOk result (self.new ≡ self.old ++ line ∷ []) }
+        ensures err { OnErr result (self.new ≡ self.old) }
+    {
+        self.entries.reserve(1)?;
+        self.maps.change(alloc, &line)?;
+        self.entries.push_reserved(line);
+        forget(&mut self.settled);
+        Ok(())
+    }
+
+    /// The same store again. What it shares with others is not copied.
     pub fn copy(&self, alloc: Global) -> Result<Datastore, Mem>
         ensures { IfOk result (λ made. made ≡ self.now) }
     {
-        let mut made = Datastore::new(alloc);
+        let start = Datastore::over(alloc, again(&self.maps.base)?);
+        let mut made = replayed(alloc, start, self.past.as_slice())?;
         apply_all(&mut made, alloc, self.entries.as_slice())?;
         Ok(made)
+    }
+
+    /// The entries, to be shared by stores.
+    pub fn share(self, alloc: Global) -> Result<SharedStore, Mem>
+        ensures { IfOk result (λ made. made ≡ self) }
+    {
+        Ok(SharedStore {
+            store: self.grounded(alloc)?,
+        })
+    }
+
+    /// The same store, whose own entries are shared ones from now on, unless it shares some already or its names were moved.
+    fn grounded(self, alloc: Global) -> Result<Datastore, Mem>
+        ensures { IfOk result (λ made. made ≡ self) }
+    {
+        let Datastore {
+            past,
+            entries,
+            maps,
+            settled,
+        } = self;
+        if is_alone(&maps, past.as_slice()) {
+            let base = ground_of(alloc, entries, maps)?;
+            return Ok(Datastore::over(alloc, Some(base)));
+        }
+        Ok(Datastore {
+            past,
+            entries,
+            maps,
+            settled,
+        })
     }
 
     /// What a name has under these active overrides. It fails for want of memory alone.
@@ -185,7 +298,19 @@ impl Datastore {
     pub fn tasks(&self, alloc: Global) -> Result<Vec<(Text, Texts)>, Mem>
         ensures { IfOk result (λ made. made.items ≡ tasks.tasks self.now) }
     {
-        ordered_tasks(alloc, self.entries.as_slice())
+        let lines = self.task_lines(alloc)?;
+        ordered_tasks(alloc, lines.as_slice())
+    }
+
+    /// Copies of the entries of tasks.
+    fn task_lines(&self, alloc: Global) -> Result<Vec<EntryLine>, Mem>
+        ensures { IfOk result (λ made. made.items ≡ filter frozen.is_task_line self.now) }
+    {
+        let mut made = Vec::new(alloc);
+        push_tasks(&mut made, self.maps.entries())?;
+        push_past(&mut made, self.past.as_slice())?;
+        push_tasks(&mut made, self.entries.as_slice())?;
+        Ok(made)
     }
 
     /// The store once the names that hold references are moved to what they expand to ("Key Expansion"). Names that stay come
@@ -198,15 +323,63 @@ impl Datastore {
         ensures ok { IfOk result (λ made. frozen.frozen self ≡ Ok made) }
         ensures err { IfErr result (λ fault. IsDataFault fault (frozen.frozen self)) }
     {
-        self.frozen(alloc)
-    }
-
-    /// The same, of a store that stays.
-    fn frozen(&self, alloc: Global) -> Result<Datastore, DataFault>
-        ensures ok { IfOk result (λ made. frozen.frozen self.now ≡ Ok made) }
-        ensures err { IfErr result (λ fault. IsDataFault fault (frozen.frozen self.now)) }
-    {
         let overrides = self.overrides(alloc)?;
-        freeze(alloc, self, &overrides, self.entries.as_slice())
+        let anew = told_anew(alloc, &self, &self.maps, &overrides)?;
+        let Datastore {
+            past,
+            entries,
+            maps,
+            settled: _,
+        } = self;
+        let past = with_part(past, entries)?;
+        let maps = retold(alloc, maps, anew)?;
+        Ok(Datastore {
+            past,
+            entries: Vec::new(alloc),
+            maps,
+            settled: None,
+        })
     }
+}
+
+/// Lists of entries, with one more behind them.
+fn with_part(past: Vec<Vec<EntryLine>>, part: Vec<EntryLine>) -> Result<Vec<Vec<EntryLine>>, Mem>
+    ensures { IfOk result (λ made. made.items ≡ past.items ++ part ∷ []) }
+{
+    let mut made = past;
+    made.push(part)?;
+    Ok(made)
+}
+
+/// Puts copies of the entries of tasks behind those of what names that were moved made of.
+fn push_past(lines: &mut Vec<EntryLine>, past: &[Vec<EntryLine>]) -> Result<(), Mem>
+    ensures { OnOk result ((list : List Line) → lines.old.items ≡ filter frozen.is_task_line list → lines.new.items ≡ filter frozen.is_task_line (fold moved_with list past.now)) }
+{
+    for part in past {
+        push_tasks(lines, part.as_slice())?;
+    }
+    Ok(())
+}
+
+/// A store with more entries, and its names moved then.
+fn moved_store(alloc: Global, store: Datastore, part: &[EntryLine]) -> Result<Datastore, Mem>
+    ensures { IfOk result (λ made. made ≡ moved (store ++ part.now)) }
+{
+    let mut store = store;
+    apply_all(&mut store, alloc, part)?;
+    match store.freeze(alloc) {
+        Ok(made) => Ok(made),
+        Err(_) => Err(Mem),
+    }
+}
+
+/// A store with more entries, and its names moved behind each list of these.
+fn replayed(alloc: Global, store: Datastore, past: &[Vec<EntryLine>]) -> Result<Datastore, Mem>
+    ensures { IfOk result (λ made. made ≡ fold moved_with store past.now) }
+{
+    let mut made = store;
+    for part in past {
+        made = moved_store(alloc, made, part.as_slice())?;
+    }
+    Ok(made)
 }

@@ -1,7 +1,8 @@
 // The tasks that entries add and take away.
-ghost use Rattle.std.specs.Prelude.{◌≡◌, ◌++◌, ◌∷◌, [], ◌||◌, ◌&&◌, not, map, List, ℕ, OnOk, IfOk, true, is_some, bytes_eq};
+ghost use Rattle.std.specs.Prelude.{◌≡◌, ◌++◌, ◌∷◌, [], ◌||◌, ◌&&◌, not, map, filter, List, ℕ, OnOk, IfOk, true, is_some, bytes_eq};
 ghost use Rattle.std.specs.BTreeMap.{get_by_text, IsOrdered};
 ghost use Rattle.std.specs.String.{string_cmp};
+ghost use Rattle.meta_model.specs.Frozen.{is_task_line};
 ghost use Rattle.meta_model.specs.Tasks as tasks;
 ghost use Rattle.meta_model.specs.declared.entry.EntryLine.{EntryLine as Line};
 ghost use Rattle.datastore.specs.Orders.{IsOrderOf, with_order};
@@ -96,9 +97,9 @@ fn with_orders(alloc: Global, set: &Names, orders: &Orders) -> Result<Vec<(Text,
     Ok(made)
 }
 
-/// The tasks in byte order, each with those that it comes after.
+/// The tasks in byte order, each with those that it comes after. The lines are all entries of tasks.
 pub(crate) fn ordered_tasks(alloc: Global, lines: &[EntryLine]) -> Result<Vec<(Text, Texts)>, Mem>
-    ensures { IfOk result (λ made. made.items ≡ tasks.tasks lines.now) }
+    ensures { (list : List Line) → lines.now ≡ filter is_task_line list → IfOk result (λ made. made.items ≡ tasks.tasks list) }
 {
     let set = tasks_of(alloc, lines)?;
     let orders = orders_of(alloc, lines)?;

@@ -1,5 +1,5 @@
 -- The chosen recipes and what they say, in their parts.
-use Rattle.std.specs.Prelude.{ℕ, List, Result, Ok, ◌++◌, map, length, nat_le, MatchOption}
+use Rattle.std.specs.Prelude.{ℕ, List, Result, Ok, map, length, nat_le}
 use Rattle.meta_model.specs.declared.entry.EntryLine.{EntryLine}
 use Rattle.load_model.specs.LoadRefusal.{◌>>=◌, require, there}
 use Rattle.load_model.specs.Loading.{Sources}

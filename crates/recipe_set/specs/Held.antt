@@ -1,5 +1,5 @@
 -- The recipe that is chosen so far.
-use Rattle.std.specs.Prelude.{ℕ, Bool, true, false, List, Option, Some, None, fold, filter, if◌then◌else◌}
+use Rattle.std.specs.Prelude.{ℕ, Bool, true, false, List, Option, Some, None, fold, if◌then◌else◌}
 use Rattle.std.specs.Ordering.{is_lt}
 use Rattle.load_model.specs.Recipes.{Recipe}
 use Rattle.load_model.specs.Facts.{recipe_cmp, fits}

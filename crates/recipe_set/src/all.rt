@@ -20,12 +20,12 @@ use crate::names::FileName;
 use crate::picks::{Picks, Versions, chosen, pick, versions_of};
 use crate::recipe::{Known, read_recipe};
 use crate::set::{RecipeSet, set_of};
-use datastore::Datastore;
+use datastore::{Datastore, SharedStore};
 use outside_traits::Layers;
 use recipe_facts::{Wishes, wishes_of};
 use std::alloc::Global;
 use std::collections::BTreeMap;
-use tree_model::Text;
+use tree_model::{Mem, Text};
 
 /// Reads the recipe of a file, and puts it in the place of the one that is chosen so far of its PN, if that gives way.
 fn read_one<L: Layers>(
@@ -97,11 +97,11 @@ fn read_files<L: Layers>(
     set_of(alloc, wishes, recipes)
 }
 
-/// Reads all recipes under what the configuration says of them.
+/// Reads all recipes over shared entries, under what they say of recipes.
 fn read_under<L: Layers>(
     alloc: Global,
     layers: &mut L,
-    config: &Datastore,
+    config: &SharedStore,
     wishes: Wishes,
     recipes: &[Text],
     appends: &[Text],
@@ -119,6 +119,33 @@ fn read_under<L: Layers>(
         index: &index,
     };
     read_files(alloc, layers, &known, wishes, files.as_slice())
+}
+
+/// The entries of the configuration, which the recipes share.
+fn shared_of(alloc: Global, config: &Datastore) -> Result<SharedStore, Mem>
+    ensures { IfOk result (λ made. made ≡ config.now) }
+{
+    config.copy(alloc)?.share(alloc)
+}
+
+/// Reads all recipes under what the configuration says of them.
+fn read_sharing<L: Layers>(
+    alloc: Global,
+    layers: &mut L,
+    config: &Datastore,
+    wishes: Wishes,
+    recipes: &[Text],
+    appends: &[Text],
+) -> Result<RecipeSet, SetFault>
+    ensures ok { IfOk result (λ made. L.tells → set_under (sources_of (L.files layers.old)) config.now recipes.now appends.now (wished wishes) ≡ Ok made) }
+    ensures err { IfErr result (λ fault. L.tells → IsSetFault fault (set_under (sources_of (L.files layers.old)) config.now recipes.now appends.now (wished wishes))) }
+    ensures same { L.files layers.new ≡ L.files layers.old }
+    ensures cause { Counts (L.faults layers.old) (L.faults layers.new) (set_failed result) }
+{
+    match shared_of(alloc, config) {
+        Ok(shared) => read_under(alloc, layers, &shared, wishes, recipes, appends),
+        Err(_) => Err(SetFault::Memory),
+    }
 }
 
 /// Reads all recipes over the configuration, and chooses one of each PN: the greatest, by version, revision and path, of those
@@ -143,7 +170,7 @@ pub fn read_all<L: Layers>(
     ensures cause { Counts (L.faults layers.old) (L.faults layers.new) (set_failed result) }
 {
     match wishes_of(alloc, config) {
-        Ok(wishes) => read_under(alloc, layers, config, wishes, recipes, appends),
+        Ok(wishes) => read_sharing(alloc, layers, config, wishes, recipes, appends),
         Err(fault) => Err(data_told(alloc, "", fault)),
     }
 }

@@ -9,7 +9,7 @@ ghost use Rattle.recipe_set.specs.Names.{name_meant};
 
 use crate::names::FileName;
 use class_inherit::Reading;
-use datastore::Datastore;
+use datastore::SharedStore;
 use meta_model::{EntryLine, Op};
 use path_words::folder_of;
 use std::alloc::Global;
@@ -58,13 +58,13 @@ pub(crate) fn at_file(alloc: Global, reading: Reading, path: &str) -> Result<Rea
 /// What is there before the first file of a recipe is read: the configuration, and the recipe's name and file.
 pub(crate) fn start_of(
     alloc: Global,
-    config: &Datastore,
+    config: &SharedStore,
     path: &str,
     name: &FileName,
 ) -> Result<Reading, Mem>
     ensures { IfOk result (λ made. made ≡ starting_with (config.now ++ (recipes.name_lines (name_meant name.now) ++ recipes.file_lines path.now))) }
 {
     let lines = name_lines(alloc, name)?;
-    let named = Reading::new(alloc, config.copy(alloc)?).lines(alloc, lines.as_slice())?;
+    let named = Reading::new(alloc, config.top(alloc)?).lines(alloc, lines.as_slice())?;
     at_file(alloc, named, path)
 }

@@ -12,7 +12,7 @@ use crate::entries::{at_file, start_of};
 use crate::fault::out_of_memory;
 use crate::names::FileName;
 use class_inherit::{LoadFault, Reading};
-use datastore::Datastore;
+use datastore::SharedStore;
 use meta_model::Kind;
 use outside_traits::Layers;
 use std::alloc::Global;
@@ -106,7 +106,7 @@ fn with_files<L: Layers>(
 pub(crate) fn loaded<L: Layers>(
     alloc: Global,
     layers: &mut L,
-    config: &Datastore,
+    config: &SharedStore,
     path: &str,
     name: &FileName,
     appends: &[Text],

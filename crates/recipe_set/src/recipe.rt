@@ -15,7 +15,7 @@ use crate::fault::{SetFault, bad_name, data_told, load_told};
 use crate::loaded::loaded;
 use crate::names::{FileName, is_pn};
 use class_inherit::Reading;
-use datastore::Datastore;
+use datastore::{Datastore, SharedStore};
 use outside_traits::Layers;
 use recipe_facts::{Recipe, text_of};
 use std::alloc::Global;
@@ -134,7 +134,7 @@ fn recipe_from(alloc: Global, path: &str, reading: Reading) -> Result<Recipe, Se
 /// What is known before recipes are read: the configuration, and the appends with their names.
 #[derive(Drop)]
 pub(crate) struct Known<'a> {
-    pub(crate) config: &'a Datastore,
+    pub(crate) config: &'a SharedStore,
     pub(crate) appends: &'a [Text],
     pub(crate) index: &'a Appends,
 }

@@ -12,5 +12,5 @@ returns c =
     let names = name_lines (name_meant c.args.name.now) in
     let named : c.in_ok-named.named ≡ with_lines names (starting_with c.args.config.now) =
     c.in_ok-named.ensures ∙ ap (λ l. with_lines l c.new.result) (c.as_slice.ensures.value ∙ c.in_ok-lines.ensures)
-    ∙ ap (with_lines names) (c.new.ensures ∙ ap starting_with c.in_ok-copy.ensures) in
+    ∙ ap (with_lines names) (c.new.ensures ∙ ap starting_with c.in_ok-top.ensures) in
     if_ok_same c.at_file.result (with_lines files c.in_ok-named.named) _ (ap (with_lines files) named ∙ start_same c.args.config.now names files) c.at_file.ensures

@@ -1,18 +1,12 @@
-use Rattle.std.proofs.Common.{◌≡◌, ◌∙◌, ap, filter, take, ◌++◌, ◌∷◌, [], if◌then◌else◌, arith}
-use Rattle.std.proofs.lemmas.Grind.{common_steps}
-use Rattle.meta_model.specs.Base.{is_left}
-use Rattle.datastore.proofs.Naming.{names_are, filter_turn}
+use Rattle.std.proofs.Common.{◌≡◌, ◌∙◌, ap, filter}
+use Rattle.std.proofs.lemmas.Result.{IfOk-weaker}
+use Rattle.meta_model.specs.Base.{is_left, names}
+use Rattle.datastore.proofs.Naming.{names_are}
 use Rattle.datastore.proofs.maps.Maps.names.Goals as goal
-
-pub loop-name-preserved : goal.loop-name-preserved
-loop-name-preserved c = λ list keeps.
-    let xs = c.as_slice-name-items.result.now in
-    let i = c.loop-name.name-index in
-    c.in_ok-push_if.ensures ∙ ap (λ m. m ++ (if c.is_left.result then c.name-item.result ∷ [] else [])) (c.loop-name.invariant list keeps)
-    ∙ ap (λ b. filter (is_left list) (take i xs) ++ (if b then c.name-item.result ∷ [] else [])) (c.is_left.ensures list keeps ∙ ap (is_left list) c.as_str.ensures)
-    ∙ filter_turn (is_left list) xs i c.name-item.result c.name-item.is c.loop-name-test.true
 
 pub returns : goal.returns
 returns c = λ list keeps.
-    let all : c.loop-name.made ≡ filter (is_left list) c.as_slice-name-items.result.now = grind (arith, common_steps, c.loop-name.invariant list keeps) in
-    all ∙ names_are list c.args.self.now c.as_slice-name-items.result.now keeps c.in_ok-keys.ensures.ordered (c.as_slice-name-items.ensures ∙ c.in_ok-keys.ensures.names)
+    let keys = c.as_slice.result.now in
+    IfOk-weaker c.left_among.result (λ made. made ≡ filter (is_left list) keys) (λ made. made ≡ names list)
+    (λ made e. e ∙ ap (filter (is_left list)) c.as_slice.ensures ∙ names_are list c.args.self.now c.in_ok-keys.keys keeps c.in_ok-keys.ensures)
+    (c.left_among.ensures list keeps)

@@ -1,5 +1,6 @@
+use Rattle.datastore.specs.Store.{all_entries}
 use Rattle.datastore.proofs.Looking.{settled_is}
 use Rattle.datastore.proofs.store.Datastore.resolved.Goals as goal
 
 pub resolved_over-requires : goal.resolved_over-requires
-resolved_over-requires c = settled_is c.self.inside.entries.items c.args.self.now c.self.inside.settled c.in-Some.overrides c.self.view_is c.in-Some.is c.self.invariant.settles
+resolved_over-requires c = settled_is (all_entries c.self.inside.maps c.self.inside.past.items c.self.inside.entries.items) c.args.self.now c.self.inside.settled c.in-Some.overrides c.self.view_is c.in-Some.is c.self.invariant.settles
