@@ -20,6 +20,7 @@ use Rattle.run_core.proofs.Marking.{fate_kept, fate_set}
 use Rattle.setscene_plan.specs.declared.replan.Replan.{Replan}
 use Rattle.setscene_plan.specs.Replans.{IsCurrent, avail_in, need_in, told_in}
 use Rattle.setscene_plan.specs.View.{View}
+use Rattle.run_tests.specs.Index.{no_objects}
 use Rattle.run_tests.specs.declared.playing.Play.{Play}
 use Rattle.run_tests.specs.Playing.{CanBegin, IsSound, Stands, TellsChanges}
 
@@ -77,7 +78,7 @@ changes_told old new fates told is tells t waits = elim (tells t) [
 
 -- ---- runs
 
-pub begun : (view : View) (replan : Replan) (front : Front) (board : List Fate) (count : ℕ) → IsSound view.plan → IsCurrent view replan → board ≡ replicate count Waiting → count ≡ length view.plan.tasks → ((need : List Bool) (avail : List Avail) (fates : List Fate) → length need ≡ length view.plan.tasks → Covers view.plan.tasks need avail fates front) → Stands view (record { replan = replan; front = front; board = board })
+pub begun : (view : View) (replan : Replan) (front : Front) (board : List Fate) (count : ℕ) → IsSound view.plan → IsCurrent no_objects view replan → board ≡ replicate count Waiting → count ≡ length view.plan.tasks → ((need : List Bool) (avail : List Avail) (fates : List Fate) → length need ≡ length view.plan.tasks → Covers view.plan.tasks need avail fates front) → Stands view (record { replan = replan; front = front; board = board })
 begun view replan front board count sound current is all covers = record {
   sound = sound;
   current = current;
@@ -86,7 +87,7 @@ begun view replan front board count sound current is all covers = record {
   rests = λ t e. none_begun count t (ap (λ (fs : List Fate). is_running (fate_at fs t)) (sym is) ∙ e);
 }
 
-pub stood : (view : View) (replan : Replan) (front : Front) (fates board : List Fate) → IsSound view.plan → IsCurrent view replan → length fates ≡ length view.plan.tasks → Covers view.plan.tasks (need_in replan) (avail_in replan) fates front → NoneRuns fates → board ≡ fates → Stands view (record { replan = replan; front = front; board = board })
+pub stood : (view : View) (replan : Replan) (front : Front) (fates board : List Fate) → IsSound view.plan → IsCurrent no_objects view replan → length fates ≡ length view.plan.tasks → Covers view.plan.tasks (need_in replan) (avail_in replan) fates front → NoneRuns fates → board ≡ fates → Stands view (record { replan = replan; front = front; board = board })
 stood view replan front fates board sound current long covers rests is = record {
   sound = sound;
   current = current;

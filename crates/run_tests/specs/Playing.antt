@@ -10,6 +10,7 @@ use Rattle.setscene_plan.specs.declared.replan.Replan.{Replan}
 use Rattle.setscene_plan.specs.Asked.{SameAt}
 use Rattle.setscene_plan.specs.Replans.{IsCurrent, avail_in, need_in, told_in}
 use Rattle.setscene_plan.specs.View.{View}
+use Rattle.run_tests.specs.Index.{no_objects}
 use Rattle.run_tests.specs.declared.playing.Play.{Play}
 
 -- a plan that a run may have
@@ -21,7 +22,7 @@ pub record IsSound (plan : Plan) : Type 0 where
 -- Between two steps: what is kept is up to date, each task that can go on is listed, and none runs.
 pub record Stands (view : View) (play : Play) : Type 0 where
   pub sound : IsSound view.plan
-  pub current : IsCurrent view play.replan
+  pub current : IsCurrent no_objects view play.replan
   pub long : length play.board ≡ length view.plan.tasks
   pub covers : Covers view.plan.tasks (need_in play.replan) (avail_in play.replan) play.board play.front
   pub rests : NoneRuns play.board

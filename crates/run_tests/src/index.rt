@@ -98,9 +98,15 @@ fn is_signed(row: &Row, sig: &[u8]) -> bool
 }
 
 impl Probe for Index<'_> {
-    ghost use Rattle.run_tests.specs.Index.{view_of};
+    ghost use Rattle.std.specs.Prelude.{◌≡◌, refl};
+    ghost use Rattle.std.proofs.Common.{◌∙◌};
+    ghost use Rattle.run_tests.specs.Index.{no_objects, view_of};
 
     ghost view = { view_of };
+
+    ghost says = { λ _. no_objects };
+
+    ghost Stays = { λ a b. view_of b ≡ view_of a };
 
     ghost asked = { λ i. i.asked };
 
@@ -131,7 +137,7 @@ impl Probe for Index<'_> {
         }
     }
 
-    fn avail(&mut self, task: u32, sig: &SigRecord) -> Result<Avail, ProbeFault> {
+    fn avail(&mut self, _plan: &Plan, _task: u32, sig: &SigRecord) -> Result<Avail, ProbeFault> {
         self.asked = self.asked.saturating_add(1);
         if self.has(sig)? {
             Ok(Avail::Work)
@@ -139,4 +145,12 @@ impl Probe for Index<'_> {
             Ok(Avail::Missing)
         }
     }
+
+    ghost stays_itself = { λ p. refl };
+
+    ghost stays_on = { λ a b c first second. second ∙ first };
+
+    ghost says_stays = { λ a b same t sig there says. says };
+
+    ghost says_still = { λ a b same t sig there says. says };
 }

@@ -4,7 +4,7 @@ ghost use Rattle.run_core.specs.Choice.{MayAnswer};
 ghost use Rattle.setscene_plan.specs.Replans.{IsCurrent, IsSettled, avail_in, need_in};
 ghost use Rattle.sig_gen.specs.Signing.{signature_by};
 ghost use Rattle.store_model.specs.Spelling.{name_of, signature_bytes};
-ghost use Rattle.run_tests.specs.Index.{view_of};
+ghost use Rattle.run_tests.specs.Index.{no_objects, view_of};
 ghost use Rattle.run_tests.specs.Playing.{CanBegin, IsSound, Stands, TellsChanges};
 
 use crate::index::Index;
@@ -116,9 +116,9 @@ fn record(
     unihash: Option<Hash>,
 ) -> Result<(), ProbeFault>
     requires task { task < length index.old.plan.now.tasks }
-    requires current { IsCurrent (view_of index.old) replan.now }
+    requires current { IsCurrent no_objects (view_of index.old) replan.now }
     ensures plan { index.new.plan.now ≡ index.old.plan.now }
-    ensures settled { OnOk result (IsSettled (view_of index.new) task replan.now) }
+    ensures settled { OnOk result (IsSettled no_objects (view_of index.new) task replan.now) }
 {
     let (name, bytes) = sign(alloc, index.plan, task, replan.unihashes())?;
     index.put(name, bytes, unihash.unwrap_or(name))?;
@@ -135,14 +135,15 @@ fn settle(
 ) -> Result<(), ProbeFault>
     requires sound { IsSound index.old.plan.now }
     requires task { task < length index.old.plan.now.tasks }
-    requires current { IsCurrent (view_of index.old) replan.old }
+    requires current { IsCurrent no_objects (view_of index.old) replan.old }
     ensures plan { OnOk result (index.new.plan.now ≡ index.old.plan.now) }
-    ensures current { OnOk result (IsCurrent (view_of index.new) replan.new) }
+    ensures current { OnOk result (IsCurrent no_objects (view_of index.new) replan.new) }
     ensures told { OnOk result (TellsChanges replan.old replan.new) }
 {
     record(alloc, index, replan, task, unihash)?;
     let plan = index.plan;
-    replan.settled(alloc, plan, index, task)
+    replan.settled(alloc, plan, index, task)?;
+    Ok(())
 }
 
 /// A task was started and ended.

@@ -10,7 +10,7 @@ use Rattle.meta_model.specs.declared.plan.Plan.{Plan}
 use Rattle.run_core.specs.Need.{AreOrdered, IsIn, IsNeed}
 use Rattle.setscene_plan.specs.Sets.{Adds, IsBelow}
 use Rattle.tree_model.specs.declared.hash.Hash.{Hash}
-use Rattle.setscene_plan.specs.View.{IsKnown, View}
+use Rattle.setscene_plan.specs.View.{IsKnown, Says, View}
 use Rattle.setscene_plan.specs.Asked.{AreNeeds, AsksAll, AsksOne, Knows, SameAt, SameMissing, TakesOut, asks_from, asks_once, members_among, members_of_either, once_of_either}
 use Rattle.setscene_plan.proofs.Sweeping.{IsSwept, swept_next, swept_all}
 
@@ -26,15 +26,15 @@ asks_more set more known place (suc n) within = omega (arith, once_more (slice_g
 
 -- The sweep so far: what was found needed is known from this place on, what was known before still is, and no more was asked
 -- than was needed and not known.
-pub record IsAsked (view : View) (unihashes : List Hash) (known : List Bool) (before : ℕ) (set : List Bool) (avail : List Avail) (asked : ℕ) (place : ℕ) : Type 0 where
+pub record IsAsked (says : Says) (view : View) (unihashes : List Hash) (known : List Bool) (before : ℕ) (set : List Bool) (avail : List Avail) (asked : ℕ) (place : ℕ) : Type 0 where
   pub swept : IsSwept view.plan avail set place
   pub wide : length avail ≡ length view.plan.tasks
-  pub learnt : (t : ℕ) → place ≤ t → IsIn set t → IsKnown view unihashes t (slice_get avail t)
-  pub right : (t : ℕ) → t < place → IsIn known t → IsKnown view unihashes t (slice_get avail t)
+  pub learnt : (t : ℕ) → place ≤ t → IsIn set t → IsKnown says view unihashes t (slice_get avail t)
+  pub right : (t : ℕ) → t < place → IsIn known t → IsKnown says view unihashes t (slice_get avail t)
   pub bound : asked ≤ before + asks_from set known place (length view.plan.tasks - place)
 
-pub asked_first : (view : View) (unihashes : List Hash) (known : List Bool) (before : ℕ) (set : List Bool) (avail : List Avail) → IsSwept view.plan avail set (length view.plan.tasks) → length avail ≡ length view.plan.tasks → Knows view unihashes avail known → IsAsked view unihashes known before set avail before (length view.plan.tasks)
-asked_first view unihashes known before set avail swept wide right = record {
+pub asked_first : (says : Says) (view : View) (unihashes : List Hash) (known : List Bool) (before : ℕ) (set : List Bool) (avail : List Avail) → IsSwept view.plan avail set (length view.plan.tasks) → length avail ≡ length view.plan.tasks → Knows says view unihashes avail known → IsAsked says view unihashes known before set avail before (length view.plan.tasks)
+asked_first says view unihashes known before set avail swept wide right = record {
   swept = swept;
   wide = wide;
   learnt = λ t past member. absurd (omega (arith, past, slice_get_within set t true member, swept.long));
@@ -42,12 +42,12 @@ asked_first view unihashes known before set avail swept wide right = record {
   bound = omega arith;
 }
 
-pub asked_next : (view : View) (unihashes : List Hash) (known : List Bool) (before : ℕ) (set new : List Bool) (avail next : List Avail) (asked then : ℕ) (place : ℕ) → AreOrdered view.plan.tasks → place < length view.plan.tasks → IsAsked view unihashes known before set avail asked (suc place) → Adds (IsBelow view.plan.tasks next set place) set new → (IsIn set place → IsKnown view unihashes place (slice_get next place)) → length next ≡ length avail → ((t : ℕ) → t ≢ place → slice_get next t ≡ slice_get avail t) → then ≤ asked + asks_once (slice_get set place) (slice_get known place) → IsAsked view unihashes known before new next then place
-asked_next view unihashes known before set new avail next asked then place ordered lt is adds here wide elsewhere rise = record {
+pub asked_next : (says : Says) (view : View) (unihashes : List Hash) (known : List Bool) (before : ℕ) (set new : List Bool) (avail next : List Avail) (asked then : ℕ) (place : ℕ) → AreOrdered view.plan.tasks → place < length view.plan.tasks → IsAsked says view unihashes known before set avail asked (suc place) → Adds (IsBelow view.plan.tasks next set place) set new → (IsIn set place → IsKnown says view unihashes place (slice_get next place)) → length next ≡ length avail → ((t : ℕ) → t ≢ place → slice_get next t ≡ slice_get avail t) → then ≤ asked + asks_once (slice_get set place) (slice_get known place) → IsAsked says view unihashes known before new next then place
+asked_next says view unihashes known before set new avail next asked then place ordered lt is adds here wide elsewhere rise = record {
   swept = swept_next view.plan avail next set new place ordered is.swept elsewhere adds;
   wide = wide ∙ is.wide;
   learnt = λ t from member. by_place t from member (cases_eq t place);
-  right = λ t lt member. subst (IsKnown view unihashes t) (sym (elsewhere t (λ e. omega (arith, e, lt)))) (is.right t (omega (arith, lt)) member);
+  right = λ t lt member. subst (IsKnown says view unihashes t) (sym (elsewhere t (λ e. omega (arith, e, lt)))) (is.right t (omega (arith, lt)) member);
   bound = omega (arith, rise, is.bound, counted, asks_more set new known place (length view.plan.tasks - place) adds.kept);
 }
   where
@@ -59,9 +59,9 @@ asked_next view unihashes known before set new avail next asked then place order
           absurd (omega (arith, small, from))
     ]
 
-    by_place : (t : ℕ) → place ≤ t → IsIn new t → (t ≡ place) ⊎ (t ≢ place) → IsKnown view unihashes t (slice_get next t)
-    by_place t from member (inl same) = subst (λ x. IsKnown view unihashes x (slice_get next x)) (sym same) (here (subst (IsIn set) same (before_it t from member)))
-    by_place t from member (inr other) = subst (IsKnown view unihashes t) (sym (elsewhere t other)) (is.learnt t (past t from other) (before_it t from member))
+    by_place : (t : ℕ) → place ≤ t → IsIn new t → (t ≡ place) ⊎ (t ≢ place) → IsKnown says view unihashes t (slice_get next t)
+    by_place t from member (inl same) = subst (λ x. IsKnown says view unihashes x (slice_get next x)) (sym same) (here (subst (IsIn set) same (before_it t from member)))
+    by_place t from member (inr other) = subst (IsKnown says view unihashes t) (sym (elsewhere t other)) (is.learnt t (past t from other) (before_it t from member))
       where
         past : (u : ℕ) → place ≤ u → u ≢ place → suc place ≤ u
         past u le ne = elim (cases_lt place u) [ inl lt ↦ omega (arith, lt) | inr ge ↦ absurd (ne (omega (arith, le, ge))) ]
@@ -69,15 +69,15 @@ asked_next view unihashes known before set new avail next asked then place order
     counted : asks_from set known place (length view.plan.tasks - place) ≡ asks_once (slice_get set place) (slice_get known place) + asks_from set known (suc place) (length view.plan.tasks - suc place)
     counted = ap (asks_from set known place) (let e : length view.plan.tasks - place ≡ suc (length view.plan.tasks - suc place) = omega (arith, lt) in e)
 
-pub asked_all : (view : View) (unihashes : List Hash) (known : List Bool) (before : ℕ) (set : List Bool) (avail : List Avail) (asked : ℕ) → IsAsked view unihashes known before set avail asked 0 → AreNeeds view unihashes set avail
-asked_all view unihashes known before set avail asked is = record {
+pub asked_all : (says : Says) (view : View) (unihashes : List Hash) (known : List Bool) (before : ℕ) (set : List Bool) (avail : List Avail) (asked : ℕ) → IsAsked says view unihashes known before set avail asked 0 → AreNeeds says view unihashes set avail
+asked_all says view unihashes known before set avail asked is = record {
   least = swept_all view.plan avail set is.swept;
   long = is.wide;
   known = λ t member. is.learnt t (omega arith) member;
 }
 
-pub asked_count : (view : View) (unihashes : List Hash) (known : List Bool) (before : ℕ) (set : List Bool) (avail : List Avail) (asked : ℕ) → IsAsked view unihashes known before set avail asked 0 → asked ≤ before + asks_from set known 0 (length set)
-asked_count view unihashes known before set avail asked is =
+pub asked_count : (says : Says) (view : View) (unihashes : List Hash) (known : List Bool) (before : ℕ) (set : List Bool) (avail : List Avail) (asked : ℕ) → IsAsked says view unihashes known before set avail asked 0 → asked ≤ before + asks_from set known 0 (length set)
+asked_count says view unihashes known before set avail asked is =
     let same : length view.plan.tasks - 0 ≡ length set = omega (arith, is.swept.long) in
     subst (λ n. asked ≤ before + asks_from set known 0 n) same is.bound
 
@@ -188,27 +188,27 @@ need_missing plan avail next need same is = record {
   });
 }
 
-pub still_needs : (view : View) (unihashes : List Hash) (need : List Bool) (avail next : List Avail) (tasks told : List ℕ) → IsNeed view.plan avail need → length next ≡ length view.plan.tasks → SameMissing avail next → AsksAll view unihashes need tasks 0 avail next told → AreNeeds view unihashes need next
-still_needs view unihashes need avail next tasks told is long same asks = record {
+pub still_needs : (says : Says) (view : View) (unihashes : List Hash) (need : List Bool) (avail next : List Avail) (tasks told : List ℕ) → IsNeed view.plan avail need → length next ≡ length view.plan.tasks → SameMissing avail next → AsksAll says view unihashes need tasks 0 avail next told → AreNeeds says view unihashes need next
+still_needs says view unihashes need avail next tasks told is long same asks = record {
   least = need_missing view.plan avail next need same is;
   long = long;
   known = λ t member. elim (asks.right t member) [ inl held ↦ absurd (omega (arith, held.1)) | inr e ↦ e ];
 }
 
 -- the questions one after another
-pub all_asked_first : (view : View) (unihashes : List Hash) (need : List Bool) (tasks : List ℕ) (place : ℕ) (avail : List Avail) (told : List ℕ) → length tasks ≤ place → ((t : ℕ) → IsIn need t → Contains tasks t ⊎ IsKnown view unihashes t (slice_get avail t)) → AsksAll view unihashes need tasks place avail avail told
-all_asked_first view unihashes need tasks place avail told le others = record {
+pub all_asked_first : (says : Says) (view : View) (unihashes : List Hash) (need : List Bool) (tasks : List ℕ) (place : ℕ) (avail : List Avail) (told : List ℕ) → length tasks ≤ place → ((t : ℕ) → IsIn need t → Contains tasks t ⊎ IsKnown says view unihashes t (slice_get avail t)) → AsksAll says view unihashes need tasks place avail avail told
+all_asked_first says view unihashes need tasks place avail told le others = record {
   right = λ t member. elim (others t member) [ inl held ↦ inl (subst (λ xs. Contains xs t) (sym (take_all place tasks le)) held) | inr e ↦ inr e ];
   told_all = λ t. inr refl;
 }
 
-pub all_asked_next : (view : View) (unihashes : List Hash) (need : List Bool) (tasks : List ℕ) (place task : ℕ) (avail mid next : List Avail) (told more : List ℕ) (turned : Bool) → place < length tasks → get_or tasks place 0 ≡ task → AsksAll view unihashes need tasks (suc place) avail mid told → AsksOne view unihashes need task mid next told more turned → AsksAll view unihashes need tasks place avail next more
-all_asked_next view unihashes need tasks place task avail mid next told more turned lt at all one = record {
+pub all_asked_next : (says : Says) (view : View) (unihashes : List Hash) (need : List Bool) (tasks : List ℕ) (place task : ℕ) (avail mid next : List Avail) (told more : List ℕ) (turned : Bool) → place < length tasks → get_or tasks place 0 ≡ task → AsksAll says view unihashes need tasks (suc place) avail mid told → AsksOne says view unihashes need task mid next told more turned → AsksAll says view unihashes need tasks place avail next more
+all_asked_next says view unihashes need tasks place task avail mid next told more turned lt at all one = record {
   right = λ t member. elim (cases_eq t task) [
-    | inl same ↦ inr (subst (λ x. IsKnown view unihashes x (slice_get next x)) (sym same) (one.here (subst (IsIn need) same member)))
+    | inl same ↦ inr (subst (λ x. IsKnown says view unihashes x (slice_get next x)) (sym same) (one.here (subst (IsIn need) same member)))
     | inr ne ↦ elim (all.right t member) [
       | inl held ↦ elim (Contains-push_cases (take place tasks) task t (subst (λ xs. Contains xs t) grown held)) [ inl front ↦ inl front | inr same ↦ absurd (ne (sym same)) ]
-      | inr e ↦ inr (subst (IsKnown view unihashes t) (sym (one.elsewhere t ne)) e)
+      | inr e ↦ inr (subst (IsKnown says view unihashes t) (sym (one.elsewhere t ne)) e)
     ]
   ];
   told_all = λ t. elim (cases_eq t task) [
@@ -259,10 +259,10 @@ either_asks old new (t ∷ ts) (suc place) = omega (arith, either_new (slice_get
 pub whole : {X : Type 0} (new old : List X) (n : ℕ) → length new ≡ n → take n (new ++ drop (length new) old) ≡ new
 whole new old n e = take_at new (drop (length new) old) n e
 
-pub none_needs : (view : View) (unihashes : List Hash) (need read : List Bool) (avail given next : List Avail) (tasks told : List ℕ) (turned : Option ℕ) → IsNeed view.plan avail need → length next ≡ length view.plan.tasks → read ≡ need → given ≡ avail → turned ≡ None → (turned ≡ None → SameMissing given next) → AsksAll view unihashes read tasks (unwrap_or turned 0) given next told → AreNeeds view unihashes need next
-none_needs view unihashes need read avail given next tasks told turned is long r a none same asks = still_needs view unihashes need avail next tasks told is long
+pub none_needs : (says : Says) (view : View) (unihashes : List Hash) (need read : List Bool) (avail given next : List Avail) (tasks told : List ℕ) (turned : Option ℕ) → IsNeed view.plan avail need → length next ≡ length view.plan.tasks → read ≡ need → given ≡ avail → turned ≡ None → (turned ≡ None → SameMissing given next) → AsksAll says view unihashes read tasks (unwrap_or turned 0) given next told → AreNeeds says view unihashes need next
+none_needs says view unihashes need read avail given next tasks told turned is long r a none same asks = still_needs says view unihashes need avail next tasks told is long
     (subst (λ xs. SameMissing xs next) a (same none))
-    (subst (λ xs. AsksAll view unihashes need tasks 0 xs next told) a (subst (λ ns. AsksAll view unihashes ns tasks 0 given next told) r (subst (λ o. AsksAll view unihashes read tasks (unwrap_or o 0) given next told) none asks)))
+    (subst (λ xs. AsksAll says view unihashes need tasks 0 xs next told) a (subst (λ ns. AsksAll says view unihashes ns tasks 0 given next told) r (subst (λ o. AsksAll says view unihashes read tasks (unwrap_or o 0) given next told) none asks)))
 
 pub none_asked : (need read new : List Bool) (tasks : List ℕ) (turned : Option ℕ) (asked then more : ℕ) → read ≡ need → turned ≡ None → then ≤ asked + members_among read (drop (unwrap_or turned 0) tasks) → then ≤ asked + (more + members_of_either need new tasks)
 none_asked need read new tasks turned asked then more r none le =
@@ -291,6 +291,12 @@ some_told need new avail given next written final told more slice all a w m e fi
   where
     joined : all ≡ told ++ more
     joined = e ∙ ap (λ xs. told ++ xs) m
+
+pub some_others : (says : Says) (view now : View) (unihashes : List Hash) (need read : List Bool) (given next written : List Avail) (tasks told : List ℕ) (turned : Option ℕ) (left : ℕ) → read ≡ need → written ≡ next → turned ≡ Some left → now ≡ view → AsksAll says view unihashes read tasks (unwrap_or turned 0) given next told → (t : ℕ) → IsIn need t → Contains (take left tasks) t ⊎ IsKnown says now unihashes t (slice_get written t)
+some_others says view now unihashes need read given next written tasks told turned left r w some n asks t member = elim (asks.right t (subst (λ ns. IsIn ns t) (sym r) member)) [
+  | inl held ↦ inl (subst (λ o. Contains (take (unwrap_or o 0) tasks) t) some held)
+  | inr known ↦ inr (subst (λ (v : View). IsKnown says v unihashes t (slice_get written t)) (sym n) (subst (λ xs. IsKnown says view unihashes t (slice_get xs t)) (sym w) known))
+]
 
 pub among_tail : (need : List Bool) (tasks : List ℕ) (place : ℕ) → members_among need (drop place tasks) ≤ members_among need tasks
 among_tail need tasks zero = omega arith

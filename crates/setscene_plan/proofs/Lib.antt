@@ -8,3 +8,4 @@ pub mod Working
 pub mod StepLemmas
 pub mod Updating
 pub mod Settling
+pub mod Meanings

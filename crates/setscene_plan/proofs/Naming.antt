@@ -68,36 +68,42 @@ module _ (rows : List EquivRow) (tasks : List PlanTask) (names unihashes : List 
   abbrev All_signed : List Signed
   All_signed = signatures rows tasks
 
-  task_at : (n : ℕ) (s : Signed) → slice_get All_signed n ≡ Some s → slice_get tasks n ≡ Some s.task
+  pub task_at : (n : ℕ) (s : Signed) → slice_get All_signed n ≡ Some s → slice_get tasks n ≡ Some s.task
   task_at n s is =
       sym (ap (λ l. slice_get l n) (signed_tasks rows [] tasks)) ∙ slice_get-map (λ (x : Signed). x.task) All_signed n ∙ ap (λ o. option_map (λ (x : Signed). x.task) o) is
 
-  named_below : (k n : ℕ) → n < k → (s : Signed) → slice_get All_signed n ≡ Some s → slice_get names n ≡ Some (name_of s.sig)
-  named_below zero n lt s is = absurd (omega (arith, lt))
-  named_below (suc k) n lt s is =
-      are.named n s.task (task_at n s is)
-      ∙ ap (λ g. Some (name_of g)) (sig_is (λ m lower. named_below k m (omega (arith, lower, lt))))
+  -- the names of all tasks before a place are those of their signatures
+  abbrev NamedBefore : ℕ → Type 0
+  NamedBefore n = (m : ℕ) → m < n → (x : Signed) → slice_get All_signed m ≡ Some x → slice_get names m ≡ Some (name_of x.sig)
+
+  hashed_is : (n : ℕ) (s : Signed) → slice_get All_signed n ≡ Some s → NamedBefore n → (d : ℕ) → d < n → hashed_at tasks unihashes d ≡ slice_get (map (hashed rows) All_signed) d
+  hashed_is n s is earlier d lower = elim (some_at All_signed d) [
+    | inl none ↦
+        let long : length All_signed ≤ d = none_past All_signed d none in
+        let has : n < length All_signed = slice_get_within All_signed n s is in
+        absurd (omega (arith, long, has, lower))
+    | inr found ↦
+        let name = earlier d lower found.0 found.1 in
+        let unihash = are.hashed d (name_of found.0.sig) name in
+        (λ i. paired (task_at d found.0 found.1 i) (unihash i))
+        ∙ sym (slice_get-map (hashed rows) All_signed d ∙ ap (λ o. option_map (hashed rows) o) found.1)
+  ]
+
+  sig_is : (n : ℕ) (s : Signed) → slice_get All_signed n ≡ Some s → NamedBefore n → signature_by tasks unihashes s.task ≡ s.sig
+  sig_is n s is earlier =
+      signature_gathered tasks unihashes s.task (slice_get (map (hashed rows) All_signed)) (recursion_from_All (λ d. hashed_at tasks unihashes d ≡ slice_get (map (hashed rows) All_signed) d) s.task.deps (λ k d inside. hashed_is n s is earlier (get_or s.task.deps k d) (below k d inside)))
+      ∙ sym (signature_by_unihashes rows tasks n s is below)
     where
       below : All (λ d. d < n) s.task.deps
       below = subst (λ o. All (λ d. d < n) (deps_in o)) (task_at n s is) (ordered n)
 
-      hashed_is : ((m : ℕ) → m < n → (x : Signed) → slice_get All_signed m ≡ Some x → slice_get names m ≡ Some (name_of x.sig)) → (d : ℕ) → d < n → hashed_at tasks unihashes d ≡ slice_get (map (hashed rows) All_signed) d
-      hashed_is earlier d lower = elim (some_at All_signed d) [
-        | inl none ↦
-            let long : length All_signed ≤ d = none_past All_signed d none in
-            let has : n < length All_signed = slice_get_within All_signed n s is in
-            absurd (omega (arith, long, has, lower))
-        | inr found ↦
-            let name = earlier d lower found.0 found.1 in
-            let unihash = are.hashed d (name_of found.0.sig) name in
-            (λ i. paired (task_at d found.0 found.1 i) (unihash i))
-            ∙ sym (slice_get-map (hashed rows) All_signed d ∙ ap (λ o. option_map (hashed rows) o) found.1)
-      ]
+  named_below : (k n : ℕ) → n < k → (s : Signed) → slice_get All_signed n ≡ Some s → slice_get names n ≡ Some (name_of s.sig)
+  named_below zero n lt s is = absurd (omega (arith, lt))
+  named_below (suc k) n lt s is = are.named n s.task (task_at n s is) ∙ ap (λ g. Some (name_of g)) (sig_is n s is (λ m lower. named_below k m (omega (arith, lower, lt))))
 
-      sig_is : ((m : ℕ) → m < n → (x : Signed) → slice_get All_signed m ≡ Some x → slice_get names m ≡ Some (name_of x.sig)) → signature_by tasks unihashes s.task ≡ s.sig
-      sig_is earlier =
-          signature_gathered tasks unihashes s.task (slice_get (map (hashed rows) All_signed)) (recursion_from_All (λ d. hashed_at tasks unihashes d ≡ slice_get (map (hashed rows) All_signed) d) s.task.deps (λ k d inside. hashed_is earlier (get_or s.task.deps k d) (below k d inside)))
-          ∙ sym (signature_by_unihashes rows tasks n s is below)
+  -- the signature of a task by the unihashes that are kept is that from scratch
+  pub signed_is : (n : ℕ) (s : Signed) → slice_get All_signed n ≡ Some s → signature_by tasks unihashes s.task ≡ s.sig
+  signed_is n s is = sig_is n s is (λ m lower. named_below (suc m) m (omega arith))
 
 pub names_are_over : NamesAreOver
 names_are_over rows tasks names unihashes ordered are = same_items names (names_over rows tasks) (λ n. by n (some_at (signatures rows tasks) n))

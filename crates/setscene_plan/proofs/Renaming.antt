@@ -1,7 +1,7 @@
 -- What stays of names, unihashes and signatures when one task is named anew.
-use Rattle.std.proofs.Common.{◌≡◌, ◌≢◌, ◌∙◌, sym, ap, subst, ℕ, ◌+◌, ◌<◌, ◌≤◌, arith, List, length, get_or, set, length-set, get_or-set_same, All, Some, slice_get, inl, inr}
+use Rattle.std.proofs.Common.{◌≡◌, ◌≢◌, ◌∙◌, sym, ap, subst, ℕ, ◌+◌, ◌<◌, ◌≤◌, arith, List, length, get_or, set, length-set, get_or-set_same, All, IfSome, Some, slice_get, inl, inr}
 use Rattle.std.proofs.lemmas.Bool.{cases_lt}
-use Rattle.std.proofs.lemmas.Option.{same_Some, slice_get-get_or, slice_get_within}
+use Rattle.std.proofs.lemmas.Option.{same_Some, slice_get-get_or, slice_get_cases, slice_get_within}
 use Rattle.tree_model.specs.declared.hash.Hash.{Hash}
 use Rattle.meta_model.specs.declared.plan.PlanTask.{PlanTask}
 use Rattle.run_core.specs.Need.{AreOrdered, deps_in, deps_of}
@@ -10,7 +10,7 @@ use Rattle.store_model.specs.declared.signature.SigRecord.{SigRecord}
 use Rattle.store_model.specs.Rows.{uni}
 use Rattle.store_model.specs.Spelling.{name_of, signature_bytes}
 use Rattle.sig_gen.specs.Signing.{signature_by}
-use Rattle.setscene_plan.specs.View.{IsClear}
+use Rattle.setscene_plan.specs.View.{IsClear, IsNamedBy}
 use Rattle.setscene_plan.specs.Names.{AreNamed, IsClearAt, IsHashed, IsNamed}
 use Rattle.setscene_plan.proofs.Learning.{else_where}
 use Rattle.setscene_plan.proofs.Naming.{signature_local}
@@ -69,3 +69,15 @@ named_all rows tasks names us place past long wide before = record {
   named = λ t task at. (before t (omega (arith, slice_get_within tasks t task at, past))).0 task at;
   hashed = λ t name at. (before t (omega (arith, slice_get_within names t name at, past, long))).1 name at;
 }
+
+-- a task's signature has the name that was worked out, and the bytes
+pub named_by : (tasks : List PlanTask) (us : List Hash) (place : ℕ) (name : Hash) (given bytes : List ℕ) → place < length tasks → given ≡ bytes → IfSome (slice_get tasks place) (λ own. name ≡ name_of (signature_by tasks us own))
+    → IfSome (slice_get tasks place) (λ own. bytes ≡ signature_bytes (signature_by tasks us own)) → IsNamedBy name given
+named_by tasks us place name given bytes lt same names spells = elim (slice_get_cases tasks place).1 [
+  | inl found ↦ record {
+    sig = signature_by tasks us found.0;
+    spelled = same ∙ subst (λ o. IfSome o (λ own. bytes ≡ signature_bytes (signature_by tasks us own))) found.2 spells;
+    named = subst (λ o. IfSome o (λ own. name ≡ name_of (signature_by tasks us own))) found.2 names;
+  }
+  | inr past ↦ absurd (omega (arith, lt, past.0))
+]

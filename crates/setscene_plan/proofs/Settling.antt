@@ -6,13 +6,13 @@ use Rattle.store_model.specs.Rows.{unihash_or}
 use Rattle.store_model.specs.Spelling.{name_of}
 use Rattle.sig_gen.specs.Signing.{signature_by}
 use Rattle.setscene_plan.specs.declared.replan.Replan.{Replan}
-use Rattle.setscene_plan.specs.View.{View}
+use Rattle.setscene_plan.specs.View.{Says, View}
 use Rattle.setscene_plan.specs.Names.{IsClearAt}
 use Rattle.setscene_plan.specs.Reworks.{HaveOneName}
 use Rattle.setscene_plan.specs.Replans.{AreSettling, IsCurrent, IsSettled, names_in, unihashes_in}
 
-pub settles : (view : View) (rows : List EquivRow) (task : ℕ) (kept : Replan) → IsCurrent view kept → AreSettling view rows task kept → IsSettled (record view { rows = rows }) task kept
-settles view rows task kept is grown = record {
+pub settles : (says : Says) (view : View) (rows : List EquivRow) (task : ℕ) (kept : Replan) → IsCurrent says view kept → AreSettling view rows task kept → IsSettled says (record view { rows = rows }) task kept
+settles says view rows task kept is grown = record {
   made = is.made;
   hashed = λ t apart name at. is.hashed t name at ∙ ap (λ r. Some (unihash_or name r)) (sym (grown.others name (λ own. apart (at ∙ sym own))));
   clear = λ t apart. elim (cases_eq t task) [

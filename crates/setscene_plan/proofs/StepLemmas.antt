@@ -59,6 +59,7 @@ pub record IsWorking (rows : List EquivRow) (tasks : List PlanTask) (first now :
   pub once : Ascend changed
   pub later : (t : ℕ) → next_in changed ≤ t → slice_get now.unihashes.items t ≡ slice_get first.unihashes.items t
   pub whole : (t : ℕ) → Contains dirty t ⊎ (Contains changed t ⊎ IsUntouched tasks first.unihashes.items now.unihashes.items t)
+  pub all : (t : ℕ) → Contains start t → Contains dirty t ⊎ Contains changed t
   pub why : (t : ℕ) → Contains dirty t → Contains start t ⊎ IsTouched tasks first.unihashes.items now.unihashes.items t
   pub each : (t : ℕ) → Contains changed t → Contains start t ⊎ IsTouched tasks first.unihashes.items now.unihashes.items t
 
@@ -73,6 +74,7 @@ working_first rows tasks kept dirty is = record {
   once = tt;
   later = λ t le. refl;
   whole = λ t. inr (inr (λ k d lt. refl));
+  all = λ t h. inl h;
   why = λ t h. inl h;
   each = λ t h. absurd (omega (arith, h.1));
 }
@@ -161,6 +163,10 @@ module _ (rows : List EquivRow) (tasks : List PlanTask) (above : List (List ℕ)
       | inl left ↦ elim (in_rest t left) [ inl same ↦ inr (inl (subst (Contains (changed ++ place ∷ [])) (sym same) (Contains-push changed place))) | inr r ↦ inl (s.puts.kept t r) ]
       | inr u ↦ elim u [ inl done ↦ inr (inl (Contains-append_left changed (place ∷ []) t done)) | inr free ↦ untouched_on t free ]
     ];
+    all = λ t h. elim (is.all t h) [
+      | inl left ↦ elim (in_rest t left) [ inl same ↦ inr (subst (Contains (changed ++ place ∷ [])) (sym same) (Contains-push changed place)) | inr r ↦ inl (s.puts.kept t r) ]
+      | inr done ↦ inr (Contains-append_left changed (place ∷ []) t done)
+    ];
     why = λ t h. elim (s.puts.only t h) [
       | inl r ↦ why_on t (is.why t (Contains-append_right (place ∷ []) rest t r))
       | inr up ↦ let n = needs_it t up in inr (touched_by t n.1 n.0)
@@ -181,6 +187,7 @@ worked rows tasks first now start dirty changed none is = record {
   right = λ t. elim (is.right t) [ inl left ↦ absurd (none t left) | inr right ↦ right ];
   found = is.found;
   once = is.once;
+  all = λ t h. elim (is.all t h) [ inl left ↦ absurd (none t left) | inr done ↦ done ];
   within = λ t h. (is.done t h).1;
   each = is.each;
   whole = λ t. elim (is.whole t) [ inl left ↦ absurd (none t left) | inr u ↦ u ];

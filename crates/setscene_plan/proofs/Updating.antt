@@ -9,16 +9,17 @@ use Rattle.meta_model.specs.declared.plan.PlanTask.{PlanTask}
 use Rattle.meta_model.proofs.Bools.{either_way}
 use Rattle.run_core.specs.Above.{IsAbove}
 use Rattle.run_core.specs.Need.{AreOrdered, IsIn, IsNeed, deps_in}
+use Rattle.store_model.specs.declared.signature.SigRecord.{SigRecord}
 use Rattle.store_model.specs.Rows.{hash_eq, row_at}
 use Rattle.store_model.specs.Spelling.{name_of}
 use Rattle.store_model.proofs.Listing.{hash_itself, hash_same}
 use Rattle.sig_gen.specs.Signing.{signature_by}
 use Rattle.setscene_plan.specs.declared.replan.Replan.{Replan}
-use Rattle.setscene_plan.specs.View.{IsKnown, IsTold, View, told_by, told_for}
+use Rattle.setscene_plan.specs.View.{IsKnown, Says, View}
 use Rattle.setscene_plan.specs.Names.{IsClearAt, IsHashed, IsNamed, names_over}
 use Rattle.setscene_plan.specs.Asked.{AreNeeds, SameAt, members_beyond, members_of_either}
 use Rattle.setscene_plan.specs.Reworks.{Ascend, HaveOneName, IsFound, IsRightAt, IsTouched, IsUntouched, IsWorkable, IsWorked}
-use Rattle.setscene_plan.specs.Replans.{AreReworked, AsksNeeds, IsAskable, IsCurrent, IsSettled, ReworksNames, avail_in, names_in, need_in, unihashes_in}
+use Rattle.setscene_plan.specs.Replans.{AreReworked, AsksNeeds, IsAskable, IsCurrent, IsSettled, ReworksNames, avail_in, names_in, need_in, reworked_in, unihashes_in}
 use Rattle.setscene_plan.proofs.Naming.{names_are_over, signature_local}
 use Rattle.setscene_plan.proofs.Working.{alone, right_past}
 
@@ -41,14 +42,14 @@ one_name names t u = one_option (slice_get names t) (slice_get names u)
 
 -- ---- from scratch
 
-pub names_current : (view : View) (replan : Replan) → AreOrdered view.plan.tasks → IsCurrent view replan → names_in replan ≡ names_over view.rows view.plan.tasks
-names_current view replan ordered is = names_are_over view.rows view.plan.tasks (names_in replan) (unihashes_in replan) ordered (record { long = is.made.long; wide = is.made.wide; named = is.made.named; hashed = is.hashed })
+pub names_current : (says : Says) (view : View) (replan : Replan) → AreOrdered view.plan.tasks → IsCurrent says view replan → names_in replan ≡ names_over view.rows view.plan.tasks
+names_current says view replan ordered is = names_are_over view.rows view.plan.tasks (names_in replan) (unihashes_in replan) ordered (record { long = is.made.long; wide = is.made.wide; named = is.made.named; hashed = is.hashed })
 
 -- ---- a task was settled
 
 -- what isn't to be worked out anew is right
-pub settled_workable : (view : View) (task : ℕ) (replan : Replan) (dirty : List ℕ) → IsSettled view task replan → ((t : ℕ) → Contains dirty t → t < length (names_in replan)) → ((t : ℕ) → t < length (names_in replan) → HaveOneName (names_in replan) t task → Contains dirty t) → IsWorkable view.rows view.plan.tasks replan.names dirty
-settled_workable view task replan dirty is within whole = record {
+pub settled_workable : (says : Says) (view : View) (task : ℕ) (replan : Replan) (dirty : List ℕ) → IsSettled says view task replan → ((t : ℕ) → Contains dirty t → t < length (names_in replan)) → ((t : ℕ) → t < length (names_in replan) → HaveOneName (names_in replan) t task → Contains dirty t) → IsWorkable view.rows view.plan.tasks replan.names dirty
+settled_workable says view task replan dirty is within whole = record {
   long = is.made.long;
   wide = is.made.wide;
   within = λ t h. omega (arith, within t h, is.made.long);
@@ -63,8 +64,8 @@ settled_workable view task replan dirty is within whole = record {
 }
 
 -- where names differ and the unihash is the one that is kept, nothing changes
-pub kept_current : (view : View) (task : ℕ) (replan : Replan) → task < length view.plan.tasks → IsSettled view task replan → replan.names.distinct ≡ true → IsHashed view.rows (names_in replan) (unihashes_in replan) task → IsCurrent view replan
-kept_current view task replan lt is distinct hashed = record {
+pub kept_current : (says : Says) (view : View) (task : ℕ) (replan : Replan) → task < length view.plan.tasks → IsSettled says view task replan → replan.names.distinct ≡ true → IsHashed view.rows (names_in replan) (unihashes_in replan) task → IsCurrent says view replan
+kept_current says view task replan lt is distinct hashed = record {
   made = is.made;
   hashed = λ t. elim (one_name (names_in replan) t task) [
     | inl one ↦ subst (IsHashed view.rows (names_in replan) (unihashes_in replan)) (sym (same t one)) hashed
@@ -88,33 +89,29 @@ kept_current view task replan lt is distinct hashed = record {
 
 -- ---- what is known stays known where no unihash changed
 
-pub known_on : (view : View) (us vs : List Hash) (t : ℕ) (kept : Option Avail) → IsUntouched view.plan.tasks us vs t → IsKnown view us t kept → IsKnown view vs t kept
-known_on view us vs t kept free is = record {
-  told = by (slice_get view.plan.tasks t) refl;
-  stored = λ task at there. subst (λ (g : _). row_at view.rows (name_of g) ≢ None) (sym (one task at)) (is.stored task at there);
+pub known_on : (says : Says) (view : View) (us vs : List Hash) (t : ℕ) (kept : Option Avail) → IsUntouched view.plan.tasks us vs t → IsKnown says view us t kept → IsKnown says view vs t kept
+known_on says view us vs t kept free is = record {
+  told = λ task there at e. subst (λ (g : SigRecord). says t g there) (sym (one task at)) (is.told task there at e);
+  stored = λ task at there. subst (λ (g : SigRecord). row_at view.rows (name_of g) ≢ None) (sym (one task at)) (is.stored task at there);
 }
   where
     one : (task : PlanTask) → slice_get view.plan.tasks t ≡ Some task → signature_by view.plan.tasks vs task ≡ signature_by view.plan.tasks us task
     one task at = signature_local view.plan.tasks vs us task (subst (λ ds. All (λ d. slice_get vs d ≡ slice_get us d) ds) (ap deps_in at) free)
 
-    by : (o : Option PlanTask) → slice_get view.plan.tasks t ≡ o → IsTold (told_by view vs t) kept
-    by None e = subst (λ p. IsTold (told_for view vs t p) kept) (sym e) tt
-    by (Some task) e = subst (λ p. IsTold (told_for view vs t p) kept) (sym e) (subst (λ g. IsTold (view.told t g) kept) (sym (one task e)) (subst (λ p. IsTold (told_for view us t p) kept) e is.told))
-
-pub askable : (view : View) (task : ℕ) (old new : Replan) → IsSettled view task old → ReworksNames view task old new → IsAskable view new
-askable view task old new is r = record {
+pub askable : (says : Says) (view : View) (task : ℕ) (old new : Replan) → IsSettled says view task old → ReworksNames view task old new → IsAskable says view new
+askable says view task old new is r = record {
   wide = r.wide;
   need = subst (λ n. IsNeed view.plan n.avail.items n.need.items) (sym r.needs) is.needs.least;
   long = ap (λ n. length n.avail.items) r.needs ∙ is.needs.long;
   within = r.within;
   others = λ t member. elim (r.whole t) [
     | inl changed ↦ inl changed
-    | inr free ↦ inr (subst (λ n. IsKnown view (unihashes_in new) t (slice_get n.avail.items t)) (sym r.needs) (known_on view (unihashes_in old) (unihashes_in new) t (slice_get (avail_in old) t) free (is.needs.known t (subst (λ n. IsIn n.need.items t) r.needs member))))
+    | inr free ↦ inr (subst (λ n. IsKnown says view (unihashes_in new) t (slice_get n.avail.items t)) (sym r.needs) (known_on says view (unihashes_in old) (unihashes_in new) t (slice_get (avail_in old) t) free (is.needs.known t (subst (λ n. IsIn n.need.items t) r.needs member))))
   ];
 }
 
-pub asked_current : (view : View) (task : ℕ) (old mid new : Replan) → IsSettled view task old → ReworksNames view task old mid → AsksNeeds view mid new → IsCurrent view new
-asked_current view task old mid new is r a = record {
+pub asked_current : (says : Says) (view : View) (task : ℕ) (old mid new : Replan) → IsSettled says view task old → ReworksNames view task old mid → AsksNeeds says view mid new → IsCurrent says view new
+asked_current says view task old mid new is r a = record {
   made = record {
     long = ap (λ n. length n.names.items) a.names ∙ r.long;
     wide = ap (λ n. length n.unihashes.items) a.names ∙ r.wide;
@@ -127,26 +124,30 @@ asked_current view task old mid new is r a = record {
   needs = a.needs;
 }
 
-pub asked_reworked : (view : View) (task : ℕ) (old mid new : Replan) → ReworksNames view task old mid → AsksNeeds view mid new → AreReworked view.plan.tasks task old new
-asked_reworked view task old mid new r a = record {
+pub asked_reworked : (says : Says) (view : View) (task : ℕ) (old mid new : Replan) → ReworksNames view task old mid → AsksNeeds says view mid new → AreReworked view.plan.tasks task old new
+asked_reworked says view task old mid new r a = record {
   once = subst (λ v. Ascend v.items) (sym a.changed) r.reworked.once;
   each = λ t h. subst (λ n. HaveOneName (names_in old) t task ⊎ IsTouched view.plan.tasks (unihashes_in old) n.unihashes.items t) (sym a.names) (r.reworked.each t (subst (λ v. Contains v.items t) a.changed h));
 }
 
-pub asked_told : (view : View) (task : ℕ) (old mid new : Replan) → ReworksNames view task old mid → AsksNeeds view mid new → (t : ℕ) → Contains new.told.items t ⊎ SameAt (need_in old) (need_in new) (avail_in old) (avail_in new) t
-asked_told view task old mid new r a t = subst (λ n. Contains new.told.items t ⊎ SameAt n.need.items (need_in new) n.avail.items (avail_in new) t) r.needs (a.told t)
+-- the task itself was worked out anew
+pub asked_own : (says : Says) (view : View) (task : ℕ) (old mid new : Replan) → ReworksNames view task old mid → AsksNeeds says view mid new → Contains (reworked_in new) task
+asked_own says view task old mid new r a = subst (λ v. Contains v.items task) (sym a.changed) r.own
 
-pub asked_bound : (view : View) (task : ℕ) (old mid new : Replan) (before then : ℕ) → ReworksNames view task old mid → AsksNeeds view mid new →
+pub asked_told : (says : Says) (view : View) (task : ℕ) (old mid new : Replan) → ReworksNames view task old mid → AsksNeeds says view mid new → (t : ℕ) → Contains new.told.items t ⊎ SameAt (need_in old) (need_in new) (avail_in old) (avail_in new) t
+asked_told says view task old mid new r a t = subst (λ n. Contains new.told.items t ⊎ SameAt n.need.items (need_in new) n.avail.items (avail_in new) t) r.needs (a.told t)
+
+pub asked_bound : (says : Says) (view : View) (task : ℕ) (old mid new : Replan) (before then : ℕ) → ReworksNames view task old mid → AsksNeeds says view mid new →
     then ≤ before + (members_beyond (need_in new) (need_in mid) + members_of_either (need_in mid) (need_in new) mid.changed.items) → then ≤ before + (members_beyond (need_in new) (need_in old) + members_of_either (need_in old) (need_in new) new.changed.items)
-asked_bound view task old mid new before then r a le =
+asked_bound says view task old mid new before then r a le =
     let by_needs = subst (λ n. then ≤ before + (members_beyond (need_in new) n.need.items + members_of_either n.need.items (need_in new) mid.changed.items)) r.needs le in
     subst (λ v. then ≤ before + (members_beyond (need_in new) (need_in old) + members_of_either (need_in old) (need_in new) v.items)) (sym a.changed) by_needs
 
 -- ---- a value that is made
 
-pub new_current : (view : View) (plan : Plan) (replan : Replan) → view.plan ≡ plan → length (names_in replan) ≡ length plan.tasks → length (unihashes_in replan) ≡ length plan.tasks → ((t : ℕ) → IsRightAt view.rows plan.tasks replan.names t) → ((t : ℕ) → IsFound replan.names t) →
-    IsAbove plan.tasks replan.above.items → AreNeeds view (unihashes_in replan) (need_in replan) (avail_in replan) → IsCurrent view replan
-new_current view plan replan is long wide right found above needs = record {
+pub new_current : (says : Says) (view : View) (plan : Plan) (replan : Replan) → view.plan ≡ plan → length (names_in replan) ≡ length plan.tasks → length (unihashes_in replan) ≡ length plan.tasks → ((t : ℕ) → IsRightAt view.rows plan.tasks replan.names t) → ((t : ℕ) → IsFound replan.names t) →
+    IsAbove plan.tasks replan.above.items → AreNeeds says view (unihashes_in replan) (need_in replan) (avail_in replan) → IsCurrent says view replan
+new_current says view plan replan is long wide right found above needs = record {
   made = record {
     long = long ∙ ap (λ (p : Plan). length p.tasks) (sym is);
     wide = wide ∙ ap (λ (p : Plan). length p.tasks) (sym is);
@@ -161,8 +162,8 @@ new_current view plan replan is long wide right found above needs = record {
 
 -- ---- values that differ in what was worked out last alone
 
-pub settled_alike : (view : View) (task : ℕ) (old new : Replan) → new.names ≡ old.names → new.above ≡ old.above → new.needs ≡ old.needs → IsSettled view task old → IsSettled view task new
-settled_alike view task old new names above needs is = record {
+pub settled_alike : (says : Says) (view : View) (task : ℕ) (old new : Replan) → new.names ≡ old.names → new.above ≡ old.above → new.needs ≡ old.needs → IsSettled says view task old → IsSettled says view task new
+settled_alike says view task old new names above needs is = record {
   made = record {
     long = ap (λ n. length n.names.items) names ∙ is.made.long;
     wide = ap (λ n. length n.unihashes.items) names ∙ is.made.wide;
@@ -175,11 +176,11 @@ settled_alike view task old new names above needs is = record {
   needs = needs_alike;
 }
   where
-    by_needs : AreNeeds view (unihashes_in old) (need_in new) (avail_in new)
-    by_needs = subst (λ n. AreNeeds view (unihashes_in old) n.need.items n.avail.items) (sym needs) is.needs
+    by_needs : AreNeeds says view (unihashes_in old) (need_in new) (avail_in new)
+    by_needs = subst (λ n. AreNeeds says view (unihashes_in old) n.need.items n.avail.items) (sym needs) is.needs
 
-    needs_alike : AreNeeds view (unihashes_in new) (need_in new) (avail_in new)
-    needs_alike = subst (λ n. AreNeeds view n.unihashes.items (need_in new) (avail_in new)) (sym names) by_needs
+    needs_alike : AreNeeds says view (unihashes_in new) (need_in new) (avail_in new)
+    needs_alike = subst (λ n. AreNeeds says view n.unihashes.items (need_in new) (avail_in new)) (sym names) by_needs
 
 pub reworked_alike : (tasks : List PlanTask) (task : ℕ) (old cleared new : Replan) → cleared.names ≡ old.names → AreReworked tasks task cleared new → AreReworked tasks task old new
 reworked_alike tasks task old cleared new names is = record {
@@ -194,20 +195,21 @@ none_reworked tasks task old new none = record {
 }
 
 -- what the work on names did
-pub reworks_names : (view : View) (task : ℕ) (old new : Replan) (dirty : List ℕ) → IsWorked view.rows view.plan.tasks old.names new.names dirty new.changed.items → ((t : ℕ) → Contains dirty t → HaveOneName (names_in old) t task) → new.above ≡ old.above → new.needs ≡ old.needs → ReworksNames view task old new
-reworks_names view task old new dirty w only above needs = record {
+pub reworks_names : (view : View) (task : ℕ) (old new : Replan) (dirty : List ℕ) → IsWorked view.rows view.plan.tasks old.names new.names dirty new.changed.items → ((t : ℕ) → Contains dirty t → HaveOneName (names_in old) t task) → Contains dirty task → new.above ≡ old.above → new.needs ≡ old.needs → ReworksNames view task old new
+reworks_names view task old new dirty w only own above needs = record {
   long = w.long;
   wide = w.wide;
   right = w.right;
   found = w.found;
   within = w.within;
   whole = w.whole;
+  own = w.all task own;
   reworked = record { once = w.once; each = λ t h. elim (w.each t h) [ inl s ↦ inl (only t s) | inr u ↦ inr u ] };
   above = above;
   needs = needs;
 }
 
 -- the names that are kept are those from scratch
-pub names_scratch : (view : View) (plan : Plan) (replan : Replan) → view.plan ≡ plan → AreOrdered plan.tasks → IsCurrent view replan → names_in replan ≡ names_over view.rows plan.tasks
-names_scratch view plan replan is ordered current =
-    subst (λ (p : Plan). names_in replan ≡ names_over view.rows p.tasks) is (names_current view replan (subst (λ (p : Plan). AreOrdered p.tasks) (sym is) ordered) current)
+pub names_scratch : (says : Says) (view : View) (plan : Plan) (replan : Replan) → view.plan ≡ plan → AreOrdered plan.tasks → IsCurrent says view replan → names_in replan ≡ names_over view.rows plan.tasks
+names_scratch says view plan replan is ordered current =
+    subst (λ (p : Plan). names_in replan ≡ names_over view.rows p.tasks) is (names_current says view replan (subst (λ (p : Plan). AreOrdered p.tasks) (sym is) ordered) current)

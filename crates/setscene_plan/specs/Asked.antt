@@ -5,17 +5,17 @@ use Rattle.tree_model.specs.declared.hash.Hash.{Hash}
 use Rattle.meta_model.specs.declared.event.Avail.{Avail}
 use Rattle.meta_model.specs.declared.event.Avail.TheVariants.{Missing}
 use Rattle.run_core.specs.Need.{IsIn, IsNeed}
-use Rattle.setscene_plan.specs.View.{IsKnown, View}
+use Rattle.setscene_plan.specs.View.{IsKnown, Says, View}
 
 -- what is kept of each member of a set is known
-abbrev pub Knows : View → List Hash → List Avail → List Bool → Type 0
-Knows view unihashes avail set = (t : ℕ) → IsIn set t → IsKnown view unihashes t (slice_get avail t)
+abbrev pub Knows : Says → View → List Hash → List Avail → List Bool → Type 0
+Knows says view unihashes avail set = (t : ℕ) → IsIn set t → IsKnown says view unihashes t (slice_get avail t)
 
 -- What a run needs, by what is kept of outputs; and of each needed task it is known.
-pub record AreNeeds (view : View) (unihashes : List Hash) (need : List Bool) (avail : List Avail) : Type 0 where
+pub record AreNeeds (says : Says) (view : View) (unihashes : List Hash) (need : List Bool) (avail : List Avail) : Type 0 where
   pub least : IsNeed view.plan avail need
   pub long : length avail ≡ length view.plan.tasks
-  pub known : Knows view unihashes avail need
+  pub known : Knows says view unihashes avail need
 
 -- 1 for a task that belongs to a set and isn't known
 abbrev pub asks_once : Option Bool → Option Bool → ℕ
@@ -60,16 +60,16 @@ SameMissing avail next = (t : ℕ) → (slice_get avail t ≡ Some Missing → s
 
 -- What one question does: if the task is needed, its output is known; nothing else changes; it is told if it changed; and unless
 -- it turned, the same outputs are missing.
-pub record AsksOne (view : View) (unihashes : List Hash) (need : List Bool) (task : ℕ) (avail next : List Avail) (told more : List ℕ) (turned : Bool) : Type 0 where
-  pub here : IsIn need task → IsKnown view unihashes task (slice_get next task)
+pub record AsksOne (says : Says) (view : View) (unihashes : List Hash) (need : List Bool) (task : ℕ) (avail next : List Avail) (told more : List ℕ) (turned : Bool) : Type 0 where
+  pub here : IsIn need task → IsKnown says view unihashes task (slice_get next task)
   pub elsewhere : (t : ℕ) → (t ≡ task → ⊥) → slice_get next t ≡ slice_get avail t
   pub stays : turned ≡ false → SameMissing avail next
   pub told_on : (t : ℕ) → Contains told t → Contains more t
   pub told_it : Contains more task ⊎ (slice_get next task ≡ slice_get avail task)
 
 -- What the questions for all tasks of a list from a place on did so far.
-pub record AsksAll (view : View) (unihashes : List Hash) (need : List Bool) (tasks : List ℕ) (place : ℕ) (avail next : List Avail) (told : List ℕ) : Type 0 where
-  pub right : (t : ℕ) → IsIn need t → Contains (take place tasks) t ⊎ IsKnown view unihashes t (slice_get next t)
+pub record AsksAll (says : Says) (view : View) (unihashes : List Hash) (need : List Bool) (tasks : List ℕ) (place : ℕ) (avail next : List Avail) (told : List ℕ) : Type 0 where
+  pub right : (t : ℕ) → IsIn need t → Contains (take place tasks) t ⊎ IsKnown says view unihashes t (slice_get next t)
   pub told_all : (t : ℕ) → Contains told t ⊎ (slice_get next t ≡ slice_get avail t)
 
 -- two lists have the same at a place, and so have two others

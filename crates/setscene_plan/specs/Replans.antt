@@ -1,5 +1,5 @@
 -- What is kept of a plan's tasks along a run, and when it is up to date.
-use Rattle.std.specs.Prelude.{◌≡◌, ◌≢◌, ℕ, ◌<◌, ◌⊎◌, Bool, List, Some, None, length, Contains}
+use Rattle.std.specs.Prelude.{◌≡◌, ◌≢◌, ℕ, ◌<◌, ◌⊎◌, Bool, List, [], Some, None, length, Contains}
 use Rattle.std.specs.List.{slice_get}
 use Rattle.tree_model.specs.declared.hash.Hash.{Hash}
 use Rattle.meta_model.specs.declared.event.Avail.{Avail}
@@ -9,7 +9,7 @@ use Rattle.run_core.specs.Need.{IsIn, IsNeed}
 use Rattle.store_model.specs.declared.signature.EquivRow.{EquivRow}
 use Rattle.store_model.specs.Rows.{row_at}
 use Rattle.setscene_plan.specs.declared.replan.Replan.{Replan}
-use Rattle.setscene_plan.specs.View.{IsKnown, View}
+use Rattle.setscene_plan.specs.View.{IsKnown, Says, View}
 use Rattle.setscene_plan.specs.Names.{IsClearAt, IsHashed, IsNamed}
 use Rattle.setscene_plan.specs.Asked.{AreNeeds, SameAt}
 use Rattle.setscene_plan.specs.Reworks.{Ascend, HaveOneName, IsFound, IsRightAt, IsTouched, IsUntouched}
@@ -48,20 +48,20 @@ pub record IsMadeFor (tasks : List PlanTask) (replan : Replan) : Type 0 where
   pub found : (t : ℕ) → IsFound replan.names t
 
 -- It is up to date: each task has its unihash over the rows, no row of a task's name has another signature, and what is needed is
--- so by what the probe answers.
-pub record IsCurrent (view : View) (replan : Replan) : Type 0 where
+-- so by what is kept of outputs, of which the answers of needed tasks are so as answers mean.
+pub record IsCurrent (says : Says) (view : View) (replan : Replan) : Type 0 where
   pub made : IsMadeFor view.plan.tasks replan
   pub hashed : (t : ℕ) → IsHashed view.rows (names_in replan) (unihashes_in replan) t
   pub clear : (t : ℕ) → IsClearAt view.rows view.plan.tasks (unihashes_in replan) t
-  pub needs : AreNeeds view (unihashes_in replan) (need_in replan) (avail_in replan)
+  pub needs : AreNeeds says view (unihashes_in replan) (need_in replan) (avail_in replan)
 
 -- After a task was settled: what is kept is right but for the unihash of its name, and for whether the row of that name, if
 -- another task has it too, has that one's signature.
-pub record IsSettled (view : View) (task : ℕ) (replan : Replan) : Type 0 where
+pub record IsSettled (says : Says) (view : View) (task : ℕ) (replan : Replan) : Type 0 where
   pub made : IsMadeFor view.plan.tasks replan
   pub hashed : (t : ℕ) → (HaveOneName (names_in replan) t task → ⊥) → IsHashed view.rows (names_in replan) (unihashes_in replan) t
   pub clear : (t : ℕ) → (t ≢ task → HaveOneName (names_in replan) t task → ⊥) → IsClearAt view.rows view.plan.tasks (unihashes_in replan) t
-  pub needs : AreNeeds view (unihashes_in replan) (need_in replan) (avail_in replan)
+  pub needs : AreNeeds says view (unihashes_in replan) (need_in replan) (avail_in replan)
 
 -- Rows that an index may have once a task was settled: none is gone, those of other names than the task's are as they were, and
 -- where there is one of its name, it has the task's own signature.
@@ -75,7 +75,16 @@ pub record AreReworked (tasks : List PlanTask) (task : ℕ) (old new : Replan) :
   pub once : Ascend (reworked_in new)
   pub each : (t : ℕ) → Contains (reworked_in new) t → HaveOneName (names_in old) t task ⊎ IsTouched tasks (unihashes_in old) (unihashes_in new) t
 
--- The names are worked out anew, and nothing else is changed.
+-- Nothing was worked out anew, and nothing is changed.
+pub record IsAsBefore (old new : Replan) : Type 0 where
+  pub names : names_in new ≡ names_in old
+  pub unihashes : unihashes_in new ≡ unihashes_in old
+  pub need : need_in new ≡ need_in old
+  pub avail : avail_in new ≡ avail_in old
+  pub reworked : reworked_in new ≡ []
+  pub told : told_in new ≡ []
+
+-- The names are worked out anew, the settled task's among them, and nothing else is changed.
 pub record ReworksNames (view : View) (task : ℕ) (old new : Replan) : Type 0 where
   pub long : length (names_in new) ≡ length view.plan.tasks
   pub wide : length (unihashes_in new) ≡ length view.plan.tasks
@@ -83,21 +92,22 @@ pub record ReworksNames (view : View) (task : ℕ) (old new : Replan) : Type 0 w
   pub found : (t : ℕ) → IsFound new.names t
   pub within : (t : ℕ) → Contains new.changed.items t → t < length view.plan.tasks
   pub whole : (t : ℕ) → Contains new.changed.items t ⊎ IsUntouched view.plan.tasks (unihashes_in old) (unihashes_in new) t
+  pub own : Contains new.changed.items task
   pub reworked : AreReworked view.plan.tasks task old new
   pub above : new.above ≡ old.above
   pub needs : new.needs ≡ old.needs
 
 -- What is needed is so by what is kept, and of each needed task that was not worked out anew the output is known.
-pub record IsAskable (view : View) (replan : Replan) : Type 0 where
+pub record IsAskable (says : Says) (view : View) (replan : Replan) : Type 0 where
   pub wide : length (unihashes_in replan) ≡ length view.plan.tasks
   pub need : IsNeed view.plan (avail_in replan) (need_in replan)
   pub long : length (avail_in replan) ≡ length view.plan.tasks
   pub within : (t : ℕ) → Contains replan.changed.items t → t < length view.plan.tasks
-  pub others : (t : ℕ) → IsIn (need_in replan) t → Contains replan.changed.items t ⊎ IsKnown view (unihashes_in replan) t (slice_get (avail_in replan) t)
+  pub others : (t : ℕ) → IsIn (need_in replan) t → Contains replan.changed.items t ⊎ IsKnown says view (unihashes_in replan) t (slice_get (avail_in replan) t)
 
 -- The outputs are asked for anew, and nothing else is changed; what changed by it is told.
-pub record AsksNeeds (view : View) (old new : Replan) : Type 0 where
-  pub needs : AreNeeds view (unihashes_in new) (need_in new) (avail_in new)
+pub record AsksNeeds (says : Says) (view : View) (old new : Replan) : Type 0 where
+  pub needs : AreNeeds says view (unihashes_in new) (need_in new) (avail_in new)
   pub told : (t : ℕ) → Contains new.told.items t ⊎ SameAt (need_in old) (need_in new) (avail_in old) (avail_in new) t
   pub names : new.names ≡ old.names
   pub above : new.above ≡ old.above

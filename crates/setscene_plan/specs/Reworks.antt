@@ -62,7 +62,7 @@ pub record IsWorkable (rows : List EquivRow) (tasks : List PlanTask) (kept : Nam
   pub right : (t : ℕ) → Contains dirty t ⊎ IsRightAt rows tasks kept t
   pub found : (t : ℕ) → IsFound kept t
 
--- After the work: all are right. Those that were worked out anew ascend; each was among the first ones, or needs one directly whose
+-- After the work: all are right. Those that were worked out anew ascend and have the first ones; each was among these, or needs one directly whose
 -- unihash changed; and no other task needs such a one.
 pub record IsWorked (rows : List EquivRow) (tasks : List PlanTask) (old new : Names) (first changed : List ℕ) : Type 0 where
   pub long : length new.names.items ≡ length tasks
@@ -70,6 +70,7 @@ pub record IsWorked (rows : List EquivRow) (tasks : List PlanTask) (old new : Na
   pub right : (t : ℕ) → IsRightAt rows tasks new t
   pub found : (t : ℕ) → IsFound new t
   pub once : Ascend changed
+  pub all : (t : ℕ) → Contains first t → Contains changed t
   pub within : (t : ℕ) → Contains changed t → t < length tasks
   pub each : (t : ℕ) → Contains changed t → Contains first t ⊎ IsTouched tasks old.unihashes.items new.unihashes.items t
   pub whole : (t : ℕ) → Contains changed t ⊎ IsUntouched tasks old.unihashes.items new.unihashes.items t

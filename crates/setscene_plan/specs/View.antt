@@ -10,22 +10,35 @@ use Rattle.meta_model.specs.declared.plan.PlanTask.{PlanTask}
 use Rattle.store_model.specs.declared.signature.EquivRow.{EquivRow}
 use Rattle.store_model.specs.declared.signature.SigRecord.{SigRecord}
 use Rattle.store_model.specs.Rows.{row_at}
-use Rattle.store_model.specs.Spelling.{name_of}
+use Rattle.store_model.specs.Spelling.{name_of, signature_bytes}
 use Rattle.sig_gen.specs.Signing.{signature_by}
 use Rattle.setscene_plan.specs.declared.probe.ProbeFault.{ProbeFault}
 use Rattle.setscene_plan.specs.declared.probe.ProbeFault.TheVariants as faults
 
--- What a probe stands for: a plan, the rows of an index, and, where it tells, what it answers for each task and signature.
+-- What answers of outputs mean: for the number of a task, a signature and an answer a fact.
+abbrev pub Says : Type 1
+Says = ℕ → SigRecord → Avail → Type 0
+
+-- by the one meaning an answer means what it means by the other, and maybe more
+abbrev pub Follows : Says → Says → Type 0
+Follows says other = (t : ℕ) (sig : SigRecord) (there : Avail) → says t sig there → other t sig there
+
+-- What a probe stands for: a plan, and the rows of an index.
 pub record View : Type 0 where
   pub plan : Plan
   pub rows : List EquivRow
-  pub told : ℕ → SigRecord → Option Avail
 
 -- the signature is one of the task of this number, by some unihashes
 pub record IsSignedBy (tasks : List PlanTask) (n : ℕ) (sig : SigRecord) : Type 0 where
   pub unihashes : List Hash
   pub long : length unihashes ≡ length tasks
   pub is : (task : PlanTask) → slice_get tasks n ≡ Some task → sig ≡ signature_by tasks unihashes task
+
+-- the bytes are those of a signature, and the name is that of it
+pub record IsNamedBy (name : Hash) (bytes : List ℕ) : Type 0 where
+  pub sig : SigRecord
+  pub spelled : bytes ≡ signature_bytes sig
+  pub named : name ≡ name_of sig
 
 -- no row of this name has other bytes as its signature
 abbrev pub IsClear : List EquivRow → Hash → List ℕ → Type 0
@@ -37,22 +50,9 @@ pub record HasOther (rows : List EquivRow) (name : Hash) (bytes : List ℕ) : Ty
   pub is_row : row_at rows name ≡ Some row
   pub differs : row.sig ≢ bytes
 
--- what was kept is what is told, if it is
-abbrev pub IsTold : Option Avail → Option Avail → Type 0
-IsTold None kept = Unit {0}
-IsTold (Some there) kept = kept ≡ Some there
-
-abbrev pub told_for : View → List Hash → ℕ → Option PlanTask → Option Avail
-told_for view unihashes t None = None
-told_for view unihashes t (Some task) = view.told t (signature_by view.plan.tasks unihashes task)
-
--- what is told of a task's output, for its signature by these unihashes
-abbrev pub told_by : View → List Hash → ℕ → Option Avail
-told_by view unihashes t = told_for view unihashes t (slice_get view.plan.tasks t)
-
--- What is kept of a task's output is what the probe answers for its signature; and unless it is missing, a row has its name.
-pub record IsKnown (view : View) (unihashes : List Hash) (t : ℕ) (kept : Option Avail) : Type 0 where
-  pub told : IsTold (told_by view unihashes t) kept
+-- What is kept of a task's output is so, as such an answer for its signature means; and unless it is missing, a row has its name.
+pub record IsKnown (says : Says) (view : View) (unihashes : List Hash) (t : ℕ) (kept : Option Avail) : Type 0 where
+  pub told : (task : PlanTask) (there : Avail) → slice_get view.plan.tasks t ≡ Some task → kept ≡ Some there → says t (signature_by view.plan.tasks unihashes task) there
   pub stored : (task : PlanTask) → slice_get view.plan.tasks t ≡ Some task → kept ≢ Some Missing → row_at view.rows (name_of (signature_by view.plan.tasks unihashes task)) ≢ None
 
 -- whether the answer is that the probe failed

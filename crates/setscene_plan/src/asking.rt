@@ -33,13 +33,14 @@ fn ask<P: Probe>(
     requires plan { (P.view probe.old).plan ≡ plan.now }
     requires task { task < length plan.now.tasks }
     requires unihashes { length unihashes.now ≡ length plan.now.tasks }
-    ensures known { IfOk result (λ there. IsKnown (P.view probe.old) unihashes.now task (Some there)) }
+    ensures known { IfOk result (λ there. IsKnown (P.says probe.old) (P.view probe.old) unihashes.now task (Some there)) }
     ensures same { P.view probe.new ≡ P.view probe.old }
+    ensures stays { P.Stays probe.old probe.new }
     ensures asked { P.asked probe.new ≤ P.asked probe.old + 1 }
     ensures cause { Counts (P.faults probe.old) (P.faults probe.new) (probe_failed result) }
 {
     let sig = sig_of(alloc, plan, task, unihashes)?;
-    probe.avail(task, &sig)
+    probe.avail(plan, task, &sig)
 }
 
 /// Whether the output of a task is there, asked where it isn't known.
@@ -58,11 +59,12 @@ fn learn<P: Probe>(
     requires unihashes { length unihashes.now ≡ length plan.now.tasks }
     requires avail { length avail.old ≡ length plan.now.tasks }
     requires long { length known.now ≡ length plan.now.tasks }
-    requires known { IsIn known.now place → IsKnown (P.view probe.old) unihashes.now place (slice_get avail.old place) }
-    ensures here { OnOk result (IsKnown (P.view probe.old) unihashes.now place (slice_get avail.new place)) }
+    requires known { IsIn known.now place → IsKnown (P.says probe.old) (P.view probe.old) unihashes.now place (slice_get avail.old place) }
+    ensures here { OnOk result (IsKnown (P.says probe.old) (P.view probe.old) unihashes.now place (slice_get avail.new place)) }
     ensures there { IfOk result (λ there. slice_get avail.new place ≡ Some there) }
     ensures elsewhere { (t : ℕ) → t ≢ place → slice_get avail.new t ≡ slice_get avail.old t }
     ensures same { P.view probe.new ≡ P.view probe.old }
+    ensures stays { P.Stays probe.old probe.new }
     ensures asked { P.asked probe.new ≤ P.asked probe.old + asks_once (Some true) (slice_get known.now place) }
     ensures cause { Counts (P.faults probe.old) (P.faults probe.new) (probe_failed result) }
 {
@@ -94,11 +96,12 @@ fn visit<P: Probe>(
     requires set { length set.old ≡ length plan.now.tasks }
     requires avail { length avail.old ≡ length plan.now.tasks }
     requires long { length known.now ≡ length plan.now.tasks }
-    requires known { IsIn known.now place → IsKnown (P.view probe.old) unihashes.now place (slice_get avail.old place) }
+    requires known { IsIn known.now place → IsKnown (P.says probe.old) (P.view probe.old) unihashes.now place (slice_get avail.old place) }
     ensures set { OnOk result (Adds (IsBelow plan.now.tasks avail.new set.old place) set.old set.new) }
-    ensures here { OnOk result (IsIn set.old place → IsKnown (P.view probe.old) unihashes.now place (slice_get avail.new place)) }
+    ensures here { OnOk result (IsIn set.old place → IsKnown (P.says probe.old) (P.view probe.old) unihashes.now place (slice_get avail.new place)) }
     ensures elsewhere { (t : ℕ) → t ≢ place → slice_get avail.new t ≡ slice_get avail.old t }
     ensures same { P.view probe.new ≡ P.view probe.old }
+    ensures stays { P.Stays probe.old probe.new }
     ensures asked { P.asked probe.new ≤ P.asked probe.old + asks_once (slice_get set.old place) (slice_get known.now place) }
     ensures cause { Counts (P.faults probe.old) (P.faults probe.new) (probe_failed result) }
 {
@@ -131,10 +134,11 @@ fn sweep_asking<P: Probe>(
     requires unihashes { length unihashes.now ≡ length plan.now.tasks }
     requires avail { length avail.old ≡ length plan.now.tasks }
     requires long { length known.now ≡ length plan.now.tasks }
-    requires known { Knows (P.view probe.old) unihashes.now avail.old known.now }
+    requires known { Knows (P.says probe.old) (P.view probe.old) unihashes.now avail.old known.now }
     requires empty { set.old ≡ replicate (length plan.now.tasks) false }
-    ensures needs { OnOk result (AreNeeds (P.view probe.old) unihashes.now set.new avail.new) }
+    ensures needs { OnOk result (AreNeeds (P.says probe.old) (P.view probe.old) unihashes.now set.new avail.new) }
     ensures same { P.view probe.new ≡ P.view probe.old }
+    ensures stays { P.Stays probe.old probe.new }
     ensures asked { OnOk result (P.asked probe.new ≤ P.asked probe.old + members_beyond set.new known.now) }
     ensures cause { Counts (P.faults probe.old) (P.faults probe.new) (probe_failed result) }
 {
@@ -159,8 +163,9 @@ pub(crate) fn plan_need<P: Probe>(
     requires ordered { AreOrdered plan.now.tasks }
     requires targets { All (λ t. t < length plan.now.tasks) plan.now.targets }
     requires unihashes { length unihashes.now ≡ length plan.now.tasks }
-    ensures needs { IfOk result (λ made. AreNeeds (P.view probe.old) unihashes.now made.need.items made.avail.items) }
+    ensures needs { IfOk result (λ made. AreNeeds (P.says probe.old) (P.view probe.old) unihashes.now made.need.items made.avail.items) }
     ensures same { P.view probe.new ≡ P.view probe.old }
+    ensures stays { P.Stays probe.old probe.new }
     ensures asked { IfOk result (λ made. P.asked probe.new ≤ P.asked probe.old + members made.need.items) }
     ensures cause { Counts (P.faults probe.old) (P.faults probe.new) (probe_failed result) }
 {
@@ -277,9 +282,10 @@ fn sweep_again<P: Probe>(
     requires need { length needs.old.need.items ≡ length plan.now.tasks }
     requires avail { length needs.old.avail.items ≡ length plan.now.tasks }
     requires within { All (λ t. t < length plan.now.tasks) changed.now }
-    requires others { (t : ℕ) → IsIn needs.old.need.items t → Contains changed.now t ⊎ IsKnown (P.view probe.old) unihashes.now t (slice_get needs.old.avail.items t) }
-    ensures needs { OnOk result (AreNeeds (P.view probe.old) unihashes.now needs.new.need.items needs.new.avail.items) }
+    requires others { (t : ℕ) → IsIn needs.old.need.items t → Contains changed.now t ⊎ IsKnown (P.says probe.old) (P.view probe.old) unihashes.now t (slice_get needs.old.avail.items t) }
+    ensures needs { OnOk result (AreNeeds (P.says probe.old) (P.view probe.old) unihashes.now needs.new.need.items needs.new.avail.items) }
     ensures same { P.view probe.new ≡ P.view probe.old }
+    ensures stays { P.Stays probe.old probe.new }
     ensures asked { OnOk result (P.asked probe.new ≤ P.asked probe.old + (members_beyond needs.new.need.items needs.old.need.items + members_among needs.new.need.items changed.now)) }
     ensures told { IfOk result (λ told. (t : ℕ) → Contains told.items t ⊎ SameAt needs.old.need.items needs.new.need.items needs.old.avail.items needs.new.avail.items t) }
     ensures refused { OnErr result (needs.new ≡ needs.old) }
@@ -326,8 +332,9 @@ fn ask_one<P: Probe>(
     requires unihashes { length unihashes.now ≡ length plan.now.tasks }
     requires need { length need.now ≡ length plan.now.tasks }
     requires long { length avail.old ≡ length need.now }
-    ensures one { IfOk result (λ turned. AsksOne (P.view probe.old) unihashes.now need.now task avail.old avail.new told.old.items told.new.items turned) }
+    ensures one { IfOk result (λ turned. AsksOne (P.says probe.old) (P.view probe.old) unihashes.now need.now task avail.old avail.new told.old.items told.new.items turned) }
     ensures same { P.view probe.new ≡ P.view probe.old }
+    ensures stays { P.Stays probe.old probe.new }
     ensures asked { P.asked probe.new ≤ P.asked probe.old + asks_once (slice_get need.now task) None }
     ensures cause { Counts (P.faults probe.old) (P.faults probe.new) (probe_failed result) }
 {
@@ -369,11 +376,12 @@ fn ask_again<P: Probe>(
     requires need { length need.now ≡ length plan.now.tasks }
     requires within { All (λ t. t < length plan.now.tasks) changed.now }
     requires long { length avail.old ≡ length need.now }
-    requires others { (t : ℕ) → IsIn need.now t → Contains changed.now t ⊎ IsKnown (P.view probe.old) unihashes.now t (slice_get avail.old t) }
-    ensures all { IfOk result (λ turned. AsksAll (P.view probe.old) unihashes.now need.now changed.now (unwrap_or turned 0) avail.old avail.new told.new.items) }
-    ensures stays { IfOk result (λ turned. turned ≡ None → SameMissing avail.old avail.new) }
+    requires others { (t : ℕ) → IsIn need.now t → Contains changed.now t ⊎ IsKnown (P.says probe.old) (P.view probe.old) unihashes.now t (slice_get avail.old t) }
+    ensures all { IfOk result (λ turned. AsksAll (P.says probe.old) (P.view probe.old) unihashes.now need.now changed.now (unwrap_or turned 0) avail.old avail.new told.new.items) }
+    ensures missing { IfOk result (λ turned. turned ≡ None → SameMissing avail.old avail.new) }
     ensures within { IfOk result (λ turned. unwrap_or turned 0 ≤ length changed.now) }
     ensures same { P.view probe.new ≡ P.view probe.old }
+    ensures stays { P.Stays probe.old probe.new }
     ensures asked { IfOk result (λ turned. P.asked probe.new ≤ P.asked probe.old + members_among need.now (drop (unwrap_or turned 0) changed.now)) }
     ensures cause { Counts (P.faults probe.old) (P.faults probe.new) (probe_failed result) }
 {
@@ -412,9 +420,10 @@ pub(crate) fn after_change<P: Probe>(
     requires own { IsNeed plan.now needs.old.avail.items needs.old.need.items }
     requires avail { length needs.old.avail.items ≡ length plan.now.tasks }
     requires within { All (λ t. t < length plan.now.tasks) changed.now }
-    requires others { (t : ℕ) → IsIn needs.old.need.items t → Contains changed.now t ⊎ IsKnown (P.view probe.old) unihashes.now t (slice_get needs.old.avail.items t) }
-    ensures needs { OnOk result (AreNeeds (P.view probe.old) unihashes.now needs.new.need.items needs.new.avail.items) }
+    requires others { (t : ℕ) → IsIn needs.old.need.items t → Contains changed.now t ⊎ IsKnown (P.says probe.old) (P.view probe.old) unihashes.now t (slice_get needs.old.avail.items t) }
+    ensures needs { OnOk result (AreNeeds (P.says probe.old) (P.view probe.old) unihashes.now needs.new.need.items needs.new.avail.items) }
     ensures same { P.view probe.new ≡ P.view probe.old }
+    ensures stays { P.Stays probe.old probe.new }
     ensures asked { OnOk result (P.asked probe.new ≤ P.asked probe.old + (members_beyond needs.new.need.items needs.old.need.items + members_of_either needs.old.need.items needs.new.need.items changed.now)) }
     ensures told { IfOk result (λ told. (t : ℕ) → Contains told.items t ⊎ SameAt needs.old.need.items needs.new.need.items needs.old.avail.items needs.new.avail.items t) }
     ensures cause { Counts (P.faults probe.old) (P.faults probe.new) (probe_failed result) }

@@ -1,7 +1,7 @@
 //! The names of a plan's tasks, and which of them a run needs, kept up to date along a run.
 //!
 //! A `Probe` is asked what an index of records and a store have of a plan's tasks. Contracts see what it stands for (`specs/View`):
-//! the plan, the rows of the index, and, where it tells, what it answers for each task and signature.
+//! the plan and the rows of the index; and what its answers of outputs mean, as a relation, which no question changes.
 //!
 //! - `hashes` gives the names of all tasks over the rows: those of the definitions, from scratch.
 //! - `needed` gives the least set that has the targets, the tasks that run in each run, and with each member whose output is missing
@@ -24,7 +24,7 @@ mod replan;
 mod sweep;
 mod work;
 
-pub use laws::{names_law, need_law, settling_law};
+pub use laws::{Meaning, names_law, need_law, settling_law};
 pub use names::hashes;
 pub use probe::{Probe, ProbeFault};
 pub use replan::Replan;

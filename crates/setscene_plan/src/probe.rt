@@ -2,7 +2,7 @@
 ghost use Rattle.setscene_plan.specs.declared.probe.ProbeFault.TheVariants as faults_of;
 ghost use Rattle.std.specs.Prelude.{◌≡◌};
 
-use meta_model::Avail;
+use meta_model::{Avail, Plan};
 use std::alloc::{AllocError, AllocFailed};
 use store_model::SigRecord;
 use tree_model::{Hash, Mem};
@@ -40,18 +40,24 @@ impl<T: Drop> From<AllocFailed<T>> for ProbeFault {
     }
 }
 
-/// Answers what an index of records and a store have of the tasks of one plan. It tells which plan it stands for and which rows
-/// the index has; what it answers of outputs it tells only where it can. No question changes an answer.
+/// Answers what an index of records and a store have of the tasks of one plan. It tells which plan it stands for, which rows the
+/// index has, and what its answers of outputs mean. No question changes any of that.
 pub trait Probe {
-    ghost use Rattle.std.specs.Prelude.{◌≡◌, ◌≢◌, ◌<◌, ◌≤◌, ◌+◌, ℕ, None, Some, IfOk, IsErrOf, OnOk, length};
+    ghost use Rattle.std.specs.Prelude.{◌≡◌, ◌≢◌, ◌<◌, ◌≤◌, ◌+◌, ℕ, None, IfOk, IsErrOf, OnOk, length};
     ghost use Rattle.std.specs.Option.{option_map};
     ghost use Rattle.meta_model.specs.declared.event.Avail.TheVariants as avails;
     ghost use Rattle.store_model.specs.Rows.{row_at};
     ghost use Rattle.store_model.specs.Spelling.{name_of};
-    ghost use Rattle.setscene_plan.specs.View.{Counts, HasOther, IsClear, IsSignedBy, IsTold, View, probe_failed};
+    ghost use Rattle.setscene_plan.specs.View.{Counts, Follows, HasOther, IsClear, IsNamedBy, IsSignedBy, Says, View, probe_failed};
 
-    /// The plan and the rows that it stands for, and what it answers of outputs.
+    /// The plan and the rows that it stands for.
     ghost view: { Self → View };
+
+    /// What its answers of outputs mean.
+    ghost says: { Self → Says };
+
+    /// All but what questions cost is the same.
+    ghost Stays: { Self → Self → Type 0 };
 
     /// How often it was asked for an output.
     ghost asked: { Self → ℕ };
@@ -67,20 +73,33 @@ pub trait Probe {
     ///
     /// `Store` comes only where that row has another signature.
     fn compare(&mut self, name: &Hash, sig: &[u8]) -> Result<(), ProbeFault>
+        requires { IsNamedBy name.now sig.now }
         ensures clear { OnOk result (IsClear (view self.old).rows name.now sig.now) }
         ensures other { IsErrOf result ProbeFault.Store → HasOther (view self.old).rows name.now sig.now }
         ensures same { view self.new ≡ view self.old }
+        ensures stays { Stays self.old self.new }
         ensures asked { asked self.new ≡ asked self.old }
         ensures cause { Counts (faults self.old) (faults self.new) (probe_failed result) };
 
-    /// Whether the output of a task, which has this signature, is there. It is in a store only where a row has the signature's
-    /// name.
-    fn avail(&mut self, task: u32, sig: &SigRecord) -> Result<Avail, ProbeFault>
+    /// Whether the output of a task of this plan, which has this signature, is there. It is in a store only where a row has the
+    /// signature's name.
+    fn avail(&mut self, plan: &Plan, task: u32, sig: &SigRecord) -> Result<Avail, ProbeFault>
+        requires plan { (view self.old).plan ≡ plan.now }
         requires task { task < length (view self.old).plan.tasks }
         requires sig { IsSignedBy (view self.old).plan.tasks task sig.now }
-        ensures told { IfOk result (λ there. IsTold ((view self.old).told task sig.now) (Some there)) }
+        ensures told { IfOk result (λ there. says self.old task sig.now there) }
         ensures stored { IfOk result (λ there. there ≢ avails.Missing → row_at (view self.old).rows (name_of sig.now) ≢ None) }
         ensures same { view self.new ≡ view self.old }
+        ensures stays { Stays self.old self.new }
         ensures asked { asked self.new ≤ asked self.old + 1 }
         ensures cause { Counts (faults self.old) (faults self.new) (probe_failed result) };
+
+    ghost stays_itself: { (p : Self) → Stays p p };
+
+    ghost stays_on: { (a b c : Self) → Stays a b → Stays b c → Stays a c };
+
+    /// Answers mean the same, whatever was asked between.
+    ghost says_stays: { (a b : Self) → Stays a b → Follows (says b) (says a) };
+
+    ghost says_still: { (a b : Self) → Stays a b → Follows (says a) (says b) };
 }

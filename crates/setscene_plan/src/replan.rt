@@ -1,5 +1,5 @@
 // What a run knows of a plan's tasks, kept up to date.
-ghost use Rattle.std.specs.Prelude.{◌≡◌, ◌<◌, ◌≤◌, ◌+◌, ◌⊎◌, ℕ, [], All, Contains, IfOk, OnOk, length};
+ghost use Rattle.std.specs.Prelude.{◌≡◌, ◌<◌, ◌≤◌, ◌+◌, ◌⊎◌, ℕ, [], true, false, All, Contains, IfOk, OnOk, length};
 ghost use Rattle.run_core.specs.Need.{AreOrdered};
 ghost use Rattle.setscene_plan.specs.Names.{names_over};
 ghost use Rattle.setscene_plan.specs.View.{Counts, probe_failed};
@@ -28,7 +28,7 @@ pub struct Replan {
 }
 
 impl Replan {
-    ghost use Rattle.setscene_plan.specs.Replans.{AreReworked, AsksNeeds, IsAskable, IsCurrent, IsSettled, ReworksNames, avail_in, names_in, need_in, reworked_in, told_in, unihashes_in};
+    ghost use Rattle.setscene_plan.specs.Replans.{AreReworked, AsksNeeds, IsAsBefore, IsAskable, IsCurrent, IsSettled, ReworksNames, avail_in, names_in, need_in, reworked_in, told_in, unihashes_in};
 
     /// What a run that begins knows. The probe is asked for the outputs of needed tasks alone, for each at most once.
     ///
@@ -38,10 +38,11 @@ impl Replan {
         requires few { length plan.now.tasks ≤ 65536 }
         requires ordered { AreOrdered plan.now.tasks }
         requires targets { All (λ t. t < length plan.now.tasks) plan.now.targets }
-        ensures current { IfOk result (IsCurrent (P.view probe.old)) }
+        ensures current { IfOk result (IsCurrent (P.says probe.old) (P.view probe.old)) }
         ensures names { IfOk result (λ made. names_in made ≡ names_over (P.view probe.old).rows plan.now.tasks) }
         ensures asked { IfOk result (λ made. P.asked probe.new ≤ P.asked probe.old + members (need_in made)) }
         ensures same { P.view probe.new ≡ P.view probe.old }
+        ensures stays { P.Stays probe.old probe.new }
         ensures cause { Counts (P.faults probe.old) (P.faults probe.new) (probe_failed result) }
     {
         let names = Names::of_plan(alloc, plan, probe)?;
@@ -104,10 +105,11 @@ impl Replan {
         requires few { length plan.now.tasks ≤ 65536 }
         requires ordered { AreOrdered plan.now.tasks }
         requires task { task < length plan.now.tasks }
-        requires settled { IsSettled (P.view probe.old) task self.old }
+        requires settled { IsSettled (P.says probe.old) (P.view probe.old) task self.old }
         requires empty { self.old.changed.items ≡ [] }
         ensures reworks { OnOk result (ReworksNames (P.view probe.old) task self.old self.new) }
         ensures same { P.view probe.new ≡ P.view probe.old }
+        ensures stays { P.Stays probe.old probe.new }
         ensures asked { P.asked probe.new ≡ P.asked probe.old }
         ensures cause { Counts (P.faults probe.old) (P.faults probe.new) (probe_failed result) }
     {
@@ -134,9 +136,10 @@ impl Replan {
         requires few { length plan.now.tasks ≤ 65536 }
         requires ordered { AreOrdered plan.now.tasks }
         requires targets { All (λ t. t < length plan.now.tasks) plan.now.targets }
-        requires askable { IsAskable (P.view probe.old) self.old }
-        ensures asks { OnOk result (AsksNeeds (P.view probe.old) self.old self.new) }
+        requires askable { IsAskable (P.says probe.old) (P.view probe.old) self.old }
+        ensures asks { OnOk result (AsksNeeds (P.says probe.old) (P.view probe.old) self.old self.new) }
         ensures same { P.view probe.new ≡ P.view probe.old }
+        ensures stays { P.Stays probe.old probe.new }
         ensures asked { OnOk result (P.asked probe.new ≤ P.asked probe.old + (members_beyond (need_in self.new) (need_in self.old) + members_of_either (need_in self.old) (need_in self.new) (reworked_in self.old))) }
         ensures cause { Counts (P.faults probe.old) (P.faults probe.new) (probe_failed result) }
     {
@@ -155,7 +158,8 @@ impl Replan {
     /// Brings it up to date after a task was settled: after an event by which the row of the task's name, and no other, may have
     /// come to be. It works out anew the names of the tasks that have that name, where its unihash changed or another task has it,
     /// and of the tasks above those whose unihash changed. It asks for the outputs of those of them that are needed, and of the
-    /// tasks that come to be needed. Where no unihash changed it looks at no other task, and asks for nothing.
+    /// tasks that come to be needed. Where no unihash changed it looks at no other task, and asks for nothing. It answers whether
+    /// anything was worked out anew; else all is as before.
     ///
     /// `Store` comes only where the probe answered a fault. After a refusal the value has to be made anew.
     pub fn settled<P: Probe>(
@@ -164,28 +168,31 @@ impl Replan {
         plan: &Plan,
         probe: &mut P,
         task: u32,
-    ) -> Result<(), ProbeFault>
+    ) -> Result<bool, ProbeFault>
         requires plan { (P.view probe.old).plan ≡ plan.now }
         requires few { length plan.now.tasks ≤ 65536 }
         requires ordered { AreOrdered plan.now.tasks }
         requires targets { All (λ t. t < length plan.now.tasks) plan.now.targets }
         requires task { task < length plan.now.tasks }
-        requires settled { IsSettled (P.view probe.old) task self.old }
-        ensures current { OnOk result (IsCurrent (P.view probe.old) self.new) }
+        requires settled { IsSettled (P.says probe.old) (P.view probe.old) task self.old }
+        ensures current { OnOk result (IsCurrent (P.says probe.old) (P.view probe.old) self.new) }
         ensures names { OnOk result (names_in self.new ≡ names_over (P.view probe.old).rows plan.now.tasks) }
         ensures reworked { OnOk result (AreReworked plan.now.tasks task self.old self.new) }
         ensures asked { OnOk result (P.asked probe.new ≤ P.asked probe.old + (members_beyond (need_in self.new) (need_in self.old) + members_of_either (need_in self.old) (need_in self.new) (reworked_in self.new))) }
+        ensures kept { IfOk result (λ anew. anew ≡ false → IsAsBefore self.old self.new) }
+        ensures anew { IfOk result (λ anew. anew ≡ true → Contains (reworked_in self.new) task) }
         ensures told { OnOk result ((t : ℕ) → Contains (told_in self.new) t ⊎ SameAt (need_in self.old) (need_in self.new) (avail_in self.old) (avail_in self.new) t) }
         ensures same { P.view probe.new ≡ P.view probe.old }
+        ensures stays { P.Stays probe.old probe.new }
         ensures cause { Counts (P.faults probe.old) (P.faults probe.new) (probe_failed result) }
     {
         self.changed.clear();
         self.told.clear();
         if self.names.is_kept(probe, task) {
-            return Ok(());
+            return Ok(false);
         }
         self.rework(alloc, plan, probe, task)?;
         self.ask_changed(alloc, plan, probe)?;
-        Ok(())
+        Ok(true)
     }
 }

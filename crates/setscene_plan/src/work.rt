@@ -135,6 +135,7 @@ impl Names {
         ensures renamed { OnOk result (Renames (P.view probe.old).rows plan.now.tasks place self.old self.new) }
         ensures changed { IfOk result (λ changed. Changes place self.old self.new changed) }
         ensures same { P.view probe.new ≡ P.view probe.old }
+        ensures stays { P.Stays probe.old probe.new }
         ensures asked { P.asked probe.new ≡ P.asked probe.old }
         ensures cause { Counts (P.faults probe.old) (P.faults probe.new) (probe_failed result) }
     {
@@ -157,6 +158,7 @@ impl Names {
         ensures names { IfOk result (λ made. length made.names.items ≡ length plan.now.tasks) }
         ensures unihashes { IfOk result (λ made. length made.unihashes.items ≡ length plan.now.tasks) }
         ensures same { P.view probe.new ≡ P.view probe.old }
+        ensures stays { P.Stays probe.old probe.new }
         ensures asked { P.asked probe.new ≡ P.asked probe.old }
         ensures cause { Counts (P.faults probe.old) (P.faults probe.new) (probe_failed result) }
     {
@@ -232,6 +234,7 @@ impl Names {
         requires unihashes { length self.old.unihashes.items ≡ length plan.now.tasks }
         ensures steps { OnOk result (Steps (P.view probe.old).rows plan.now.tasks above.now place self.old self.new dirty.old.keys dirty.new.keys) }
         ensures same { P.view probe.new ≡ P.view probe.old }
+        ensures stays { P.Stays probe.old probe.new }
         ensures asked { P.asked probe.new ≡ P.asked probe.old }
         ensures cause { Counts (P.faults probe.old) (P.faults probe.new) (probe_failed result) }
     {
@@ -260,6 +263,7 @@ impl Names {
         requires empty { changed.old.items ≡ [] }
         ensures worked { OnOk result (IsWorked (P.view probe.old).rows plan.now.tasks self.old self.new dirty.old.keys changed.new.items) }
         ensures same { P.view probe.new ≡ P.view probe.old }
+        ensures stays { P.Stays probe.old probe.new }
         ensures asked { P.asked probe.new ≡ P.asked probe.old }
         ensures cause { Counts (P.faults probe.old) (P.faults probe.new) (probe_failed result) }
     {

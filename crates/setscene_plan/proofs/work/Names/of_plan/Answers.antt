@@ -16,6 +16,7 @@ loop-place-preserved g c =
       right = renamed_more rows tasks c.loop-place.place c.loop-place.made c.rename.new.self c.requires.ordered renamed c.loop-place.invariant.right;
       found = found_more rows tasks c.loop-place.place c.loop-place.made c.rename.new.self c.requires.ordered renamed c.loop-place.invariant.found;
       same = c.in_ok-rename.ensures.same ∙ same;
+      stays = g.met.P.Probe.stays_on c.args.probe.now c.loop-place.probe c.rename.new.probe c.loop-place.invariant.stays c.rename.ensures.stays;
       asked = c.in_ok-rename.ensures.asked ∙ c.loop-place.invariant.asked;
       still = c.in_ok-rename.ensures.cause.stayed ∙ c.loop-place.invariant.still;
     }
@@ -29,3 +30,9 @@ pub returns-clause-found : goal.returns-clause-found
 returns-clause-found g c =
     let past : length c.args.plan.now.tasks ≤ c.loop-place.place = omega (arith, c.loop-place-test.false, c.len-count.ensures, c.requires.few) in
     found_all c.args.plan.now.tasks c.loop-place.made c.loop-place.place c.loop-place.invariant.long past c.loop-place.invariant.found
+
+pub returns-clause-stays : goal.returns-clause-stays
+returns-clause-stays g c = c.loop-place.invariant.stays
+
+pub returns-in_err-rename-clause-stays : goal.returns-in_err-rename-clause-stays
+returns-in_err-rename-clause-stays g c = g.met.P.Probe.stays_on c.args.probe.now c.loop-place.probe c.rename.new.probe c.loop-place.invariant.stays c.rename.ensures.stays

@@ -9,6 +9,7 @@ invariant-loop-place g l = record {
   right : (t : ℕ) → t < l.place → IsRightAt (g.P.Probe.view l.fn.probe).rows l.plan.tasks l.made t;
   found : (t : ℕ) → t < l.place → IsFound l.made t;
   same : g.P.Probe.view l.probe ≡ g.P.Probe.view l.fn.probe;
+  stays : g.P.Probe.Stays l.fn.probe l.probe;
   asked : g.P.Probe.asked l.probe ≡ g.P.Probe.asked l.fn.probe;
   still : g.P.Probe.faults l.probe ≡ g.P.Probe.faults l.fn.probe;
 }

@@ -12,6 +12,7 @@ pub loop-place-init : goal.loop-place-init
 loop-place-init g c = record {
   working = subst (λ (xs : List ℕ). IsWorking (g.P.Probe.view c.args.probe.now).rows c.args.plan.now.tasks c.args.self.now c.args.self.now c.args.dirty.now.keys c.args.dirty.now.keys xs) (sym c.requires.empty) (working_first (g.P.Probe.view c.args.probe.now).rows c.args.plan.now.tasks c.args.self.now c.args.dirty.now.keys c.requires.workable);
   same = refl;
+  stays = g.met.P.Probe.stays_itself c.args.probe.now;
   asked = refl;
   still = refl;
 }
@@ -40,6 +41,7 @@ loop-place-preserved g c =
     record {
       working = subst (λ (xs : List ℕ). IsWorking view.rows tasks c.args.self.now c.step.new.self c.args.dirty.now.keys c.step.new.dirty.keys xs) (sym c.in_ok-push.ensures.items) next;
       same = c.in_ok-step.ensures.same ∙ same;
+      stays = g.met.P.Probe.stays_on c.args.probe.now c.loop-place.probe c.step.new.probe c.loop-place.invariant.stays c.step.ensures.stays;
       asked = c.in_ok-step.ensures.asked ∙ c.loop-place.invariant.asked;
       still = c.in_ok-step.ensures.cause.stayed ∙ c.loop-place.invariant.still;
     }
@@ -48,3 +50,6 @@ pub returns-clause-worked : goal.returns-clause-worked
 returns-clause-worked g c =
     worked (g.P.Probe.view c.args.probe.now).rows c.args.plan.now.tasks c.args.self.now c.loop-place.self c.args.dirty.now.keys c.loop-place.dirty.keys c.loop-place.changed.items
     (λ t h. let e : false ≡ true = c.in_default.ensures.variant.1 (omega (arith, h.1)) in absurd (cc)) c.loop-place.invariant.working
+
+pub returns-in_err-step-clause-stays : goal.returns-in_err-step-clause-stays
+returns-in_err-step-clause-stays g c = g.met.P.Probe.stays_on c.args.probe.now c.loop-place.probe c.step.new.probe c.loop-place.invariant.stays c.step.ensures.stays

@@ -6,6 +6,7 @@ abbrev pub invariant-loop-place : goal.invariant-loop-place
 invariant-loop-place g l = record {
   working : IsWorking (g.P.Probe.view l.fn.probe).rows l.plan.tasks l.fn.self l.self l.fn.dirty.keys l.dirty.keys l.changed.items;
   same : g.P.Probe.view l.probe ≡ g.P.Probe.view l.fn.probe;
+  stays : g.P.Probe.Stays l.fn.probe l.probe;
   asked : g.P.Probe.asked l.probe ≡ g.P.Probe.asked l.fn.probe;
   still : g.P.Probe.faults l.probe ≡ g.P.Probe.faults l.fn.probe;
 }
