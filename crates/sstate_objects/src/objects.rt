@@ -1,7 +1,7 @@
 // Objects.
 ghost use Rattle.std.specs.Prelude.{◌≡◌, ◌≤◌, IfOk, OnOk, All, length};
 ghost use Rattle.tree_model.specs.Path.{IsClean, inside};
-ghost use Rattle.outside_traits.specs.Store.{AgreesApart, HoldsTree};
+ghost use Rattle.outside_traits.specs.Store.{AgreesApart, AgreesRound, HoldsTree};
 ghost use Rattle.outside_traits.specs.Passes.{Passes, Same};
 ghost use Rattle.outside_traits.specs.Fault.{Counts, disk_failed};
 ghost use Rattle.store_model.specs.Available.{object_folder};
@@ -54,6 +54,7 @@ pub fn put_object<D: Disk>(
 
     // Whatever it answers.
     ensures others { D.tells → Passes (D.story disk.old) (D.story disk.new) (AgreesApart (object_folder name.now)) }
+    ensures round { D.tells → Passes (D.story disk.old) (D.story disk.new) (AgreesRound (object_folder name.now) (D.story disk.old).held) }
     ensures cause { Counts (D.faults disk.old) (D.faults disk.new) (disk_failed result) }
 {
     let folder = object_folder(alloc, name)?;

@@ -1,0 +1,225 @@
+-- What the phases of a publication do to a store.
+use Rattle.std.proofs.Common.{◌≡◌, ◌≢◌, ◌∙◌, sym, ap, subst, refl, ℕ, ◌⊎◌, inl, inr, ⊎_elim, List, [], ◌∷◌, ◌++◌, Option, Some, None, Result, Ok, Err, OnOk, arith, get_or}
+use Rattle.std.specs.Prelude.{codes, IsSome}
+use Rattle.std.specs.Option.{is_some}
+use Rattle.std.proofs.lemmas.Bool.{false≢true}
+use Rattle.tree_model.specs.declared.entry.Entry.{Entry}
+use Rattle.tree_model.specs.declared.hash.Hash.{Hash}
+use Rattle.tree_model.specs.Hash.{hash_text}
+use Rattle.tree_model.specs.Path.{IsBelow, inside}
+use Rattle.outside_traits.specs.declared.fault.DiskFault.{DiskFault}
+use Rattle.outside_traits.specs.Store.{AgreesApart, ChangesAt, HoldsTree, Moves, Store}
+use Rattle.outside_traits.proofs.Folders.{under_same}
+use Rattle.outside_traits.proofs.Held.{none_unless}
+use Rattle.outside_traits.proofs.Puts.{path_cases}
+use Rattle.store_model.specs.Available.{object_folder}
+use Rattle.stamp_store.specs.Stamp.{old_path, stamp_path, staged_path}
+use Rattle.build_store.specs.Named.{IsName}
+use Rattle.build_store.specs.Paths.{IsLaidOut, IsTemporary, record_path, slashes, staged_record_path}
+use Rattle.build_store.specs.Phases.{IsApartFrom, Lays, Settles, Shares, Stages}
+use Rattle.build_store.specs.Publication.{HoldsObject, SameObjects, work_at}
+use Rattle.build_store.proofs.Areas.{apart_by_first, differ, heads_differ}
+use Rattle.build_store.proofs.Clean.{name_slashes}
+use Rattle.build_store.proofs.Slashes.{slashes_inside}
+
+-- a path under `rec/`, `stamp/` or `tmp/` at which the store may put something
+pub IsWell : List ℕ → Type 0
+IsWell q =
+    ((p : List ℕ) × (q ≡ inside (codes "rec") p) × (slashes p ≡ 0))
+    ⊎ (((p : List ℕ) × (q ≡ inside (codes "stamp") p) × (slashes p ≡ 1))
+    ⊎ ((p : List ℕ) × (q ≡ inside (codes "tmp") p) × IsTemporary p))
+
+-- where nothing comes to be held but at such paths, what is held stays laid out
+laid_after : (i j : Store) → ((q : List ℕ) → IsSome (j q) → IsSome (i q) ⊎ IsWell q) → IsLaidOut i → IsLaidOut j
+unfolding IsWell
+laid_after i j comes was = record {
+  records = λ path some. by_rec path (comes (inside (codes "rec") path) some);
+  stamps = λ path some. by_stamp path (comes (inside (codes "stamp") path) some);
+  temporary = λ path some. by_tmp path (comes (inside (codes "tmp") path) some);
+  at_records = none_unless (j (codes "rec")) (λ some. at_rec (comes (codes "rec") some));
+  at_stamps = none_unless (j (codes "stamp")) (λ some. at_stamp (comes (codes "stamp") some));
+  at_temporary = none_unless (j (codes "tmp")) (λ some. at_tmp (comes (codes "tmp") some));
+}
+  where
+    plain : (top folder p : List ℕ) → slashes top ≡ 0 → top ≡ inside folder p → ⊥
+    plain top folder p none e = let m = ap slashes e ∙ slashes_inside folder p in omega (arith, m, none)
+
+    held_none : {o : Option Entry} → o ≡ None → IsSome o → ⊥
+    held_none none some = false≢true (sym (ap is_some none) ∙ some)
+
+    by_rec : (path : List ℕ) → IsSome (i (inside (codes "rec") path)) ⊎ (((p : List ℕ) × (inside (codes "rec") path ≡ inside (codes "rec") p) × (slashes p ≡ 0)) ⊎ (((p : List ℕ) × (inside (codes "rec") path ≡ inside (codes "stamp") p) × (slashes p ≡ 1)) ⊎ ((p : List ℕ) × (inside (codes "rec") path ≡ inside (codes "tmp") p) × IsTemporary p))) → slashes path ≡ 0
+    by_rec path (inl some) = was.records path some
+    by_rec path (inr (inl w)) = ap slashes (under_same (codes "rec") path w.0 w.1) ∙ w.2
+    by_rec path (inr (inr (inl w))) = absurd (heads_differ (differ 114 115 refl) w.1)
+    by_rec path (inr (inr (inr w))) = absurd (heads_differ (differ 114 116 refl) w.1)
+
+    by_stamp : (path : List ℕ) → IsSome (i (inside (codes "stamp") path)) ⊎ (((p : List ℕ) × (inside (codes "stamp") path ≡ inside (codes "rec") p) × (slashes p ≡ 0)) ⊎ (((p : List ℕ) × (inside (codes "stamp") path ≡ inside (codes "stamp") p) × (slashes p ≡ 1)) ⊎ ((p : List ℕ) × (inside (codes "stamp") path ≡ inside (codes "tmp") p) × IsTemporary p))) → slashes path ≡ 1
+    by_stamp path (inl some) = was.stamps path some
+    by_stamp path (inr (inl w)) = absurd (heads_differ (differ 115 114 refl) w.1)
+    by_stamp path (inr (inr (inl w))) = ap slashes (under_same (codes "stamp") path w.0 w.1) ∙ w.2
+    by_stamp path (inr (inr (inr w))) = absurd (heads_differ (differ 115 116 refl) w.1)
+
+    by_tmp : (path : List ℕ) → IsSome (i (inside (codes "tmp") path)) ⊎ (((p : List ℕ) × (inside (codes "tmp") path ≡ inside (codes "rec") p) × (slashes p ≡ 0)) ⊎ (((p : List ℕ) × (inside (codes "tmp") path ≡ inside (codes "stamp") p) × (slashes p ≡ 1)) ⊎ ((p : List ℕ) × (inside (codes "tmp") path ≡ inside (codes "tmp") p) × IsTemporary p))) → IsTemporary path
+    by_tmp path (inl some) = was.temporary path some
+    by_tmp path (inr (inl w)) = absurd (heads_differ (differ 116 114 refl) w.1)
+    by_tmp path (inr (inr (inl w))) = absurd (heads_differ (differ 116 115 refl) w.1)
+    by_tmp path (inr (inr (inr w))) = subst IsTemporary (sym (under_same (codes "tmp") path w.0 w.1)) w.2
+
+    at_rec : IsSome (i (codes "rec")) ⊎ (((p : List ℕ) × (codes "rec" ≡ inside (codes "rec") p) × (slashes p ≡ 0)) ⊎ (((p : List ℕ) × (codes "rec" ≡ inside (codes "stamp") p) × (slashes p ≡ 1)) ⊎ ((p : List ℕ) × (codes "rec" ≡ inside (codes "tmp") p) × IsTemporary p))) → ⊥
+    at_rec (inl some) = held_none was.at_records some
+    at_rec (inr (inl w)) = plain (codes "rec") (codes "rec") w.0 refl w.1
+    at_rec (inr (inr (inl w))) = plain (codes "rec") (codes "stamp") w.0 refl w.1
+    at_rec (inr (inr (inr w))) = plain (codes "rec") (codes "tmp") w.0 refl w.1
+
+    at_stamp : IsSome (i (codes "stamp")) ⊎ (((p : List ℕ) × (codes "stamp" ≡ inside (codes "rec") p) × (slashes p ≡ 0)) ⊎ (((p : List ℕ) × (codes "stamp" ≡ inside (codes "stamp") p) × (slashes p ≡ 1)) ⊎ ((p : List ℕ) × (codes "stamp" ≡ inside (codes "tmp") p) × IsTemporary p))) → ⊥
+    at_stamp (inl some) = held_none was.at_stamps some
+    at_stamp (inr (inl w)) = plain (codes "stamp") (codes "rec") w.0 refl w.1
+    at_stamp (inr (inr (inl w))) = plain (codes "stamp") (codes "stamp") w.0 refl w.1
+    at_stamp (inr (inr (inr w))) = plain (codes "stamp") (codes "tmp") w.0 refl w.1
+
+    at_tmp : IsSome (i (codes "tmp")) ⊎ (((p : List ℕ) × (codes "tmp" ≡ inside (codes "rec") p) × (slashes p ≡ 0)) ⊎ (((p : List ℕ) × (codes "tmp" ≡ inside (codes "stamp") p) × (slashes p ≡ 1)) ⊎ ((p : List ℕ) × (codes "tmp" ≡ inside (codes "tmp") p) × IsTemporary p))) → ⊥
+    at_tmp (inl some) = held_none was.at_temporary some
+    at_tmp (inr (inl w)) = plain (codes "tmp") (codes "rec") w.0 refl w.1
+    at_tmp (inr (inr (inl w))) = plain (codes "tmp") (codes "stamp") w.0 refl w.1
+    at_tmp (inr (inr (inr w))) = plain (codes "tmp") (codes "tmp") w.0 refl w.1
+
+well_record : (name : Hash) → IsName name → IsWell (record_path name)
+unfolding IsWell
+well_record name is = inl (hash_text name, refl, name_slashes name is)
+
+well_staged_record : (name : Hash) → IsName name → IsWell (staged_record_path name)
+unfolding IsWell
+well_staged_record name is = inr (inr (inside (codes "rec") (hash_text name), refl, inl (hash_text name, refl, name_slashes name is)))
+
+well_stamp : (folder : List ℕ) → slashes folder ≡ 1 → IsWell (stamp_path folder)
+unfolding IsWell
+well_stamp folder one = inr (inl (folder, refl, one))
+
+well_staged : (folder : List ℕ) → slashes folder ≡ 1 → IsWell (staged_path folder)
+unfolding IsWell
+well_staged folder one = inr (inr (inside (codes "stamp") folder, refl, inr (inl (folder, refl, one))))
+
+well_old : (folder : List ℕ) → slashes folder ≡ 1 → IsWell (old_path folder)
+unfolding IsWell
+well_old folder one = inr (inr (inside (codes "old") folder, refl, inr (inr (folder, refl, one))))
+
+laid_change : (p : List ℕ) (i j : Store) → IsWell p → ChangesAt p i j → IsLaidOut i → IsLaidOut j
+laid_change p i j well change was = laid_after i j (λ q some. elim (path_cases q p) [
+  | inl same ↦ inr (subst IsWell (sym same) well)
+  | inr other ↦ inl (subst IsSome (change.others q other) some)
+]) was
+
+pub laid_move : (p r : List ℕ) (x : Option Entry) (i j : Store) → IsWell r → Moves p r x i j → IsLaidOut i → IsLaidOut j
+laid_move p r x i j well move was = laid_after i j (λ q some. elim (path_cases q r) [
+  | inl same ↦ inr (subst IsWell (sym same) well)
+  | inr other ↦ elim (path_cases q p) [
+    | inl same ↦ inl (⊎_elim (λ e. subst IsSome (ap j same ∙ e ∙ ap i (sym same)) some) (λ e. absurd (false≢true (sym (ap is_some (ap j same ∙ e)) ∙ some))) move.source)
+    | inr differs ↦ inl (subst IsSome (move.others q differs other) some)
+  ]
+]) was
+
+pub laid_aside : (folder : List ℕ) (x : Option Entry) (i j : Store) → slashes folder ≡ 1 → Moves (stamp_path folder) (old_path folder) x i j → IsLaidOut i → IsLaidOut j
+laid_aside folder x i j one move was = laid_move (stamp_path folder) (old_path folder) x i j (well_old folder one) move was
+
+pub laid_stamped : (folder : List ℕ) (x : Option Entry) (i j : Store) → slashes folder ≡ 1 → Moves (staged_path folder) (stamp_path folder) x i j → IsLaidOut i → IsLaidOut j
+laid_stamped folder x i j one move was = laid_move (staged_path folder) (stamp_path folder) x i j (well_stamp folder one) move was
+
+-- ---- the work folder and the object
+
+object_by_first : (object : Option Hash) (c : ℕ) (ps : List ℕ) → c ≢ 111 → IsApartFrom object (c ∷ ps)
+object_by_first object c ps ne unihash is = apart_by_first ps (98 ∷ 106 ∷ 47 ∷ hash_text unihash) ne
+
+pub laid_lays : (folder : List ℕ) (object : Option Hash) (i j : Store) → Lays folder object i j → IsLaidOut i → IsLaidOut j
+laid_lays folder object i j lays was = record {
+  records = λ path some. was.records path (subst IsSome (same 114 (101 ∷ 99 ∷ 47 ∷ path) (differ 114 119 refl) (differ 114 111 refl)) some);
+  stamps = λ path some. was.stamps path (subst IsSome (same 115 (116 ∷ 97 ∷ 109 ∷ 112 ∷ 47 ∷ path) (differ 115 119 refl) (differ 115 111 refl)) some);
+  temporary = λ path some. was.temporary path (subst IsSome (same 116 (109 ∷ 112 ∷ 47 ∷ path) (differ 116 119 refl) (differ 116 111 refl)) some);
+  at_records = same 114 (101 ∷ 99 ∷ []) (differ 114 119 refl) (differ 114 111 refl) ∙ was.at_records;
+  at_stamps = same 115 (116 ∷ 97 ∷ 109 ∷ 112 ∷ []) (differ 115 119 refl) (differ 115 111 refl) ∙ was.at_stamps;
+  at_temporary = same 116 (109 ∷ 112 ∷ []) (differ 116 119 refl) (differ 116 111 refl) ∙ was.at_temporary;
+}
+  where
+    same : (c : ℕ) (ps : List ℕ) → c ≢ 119 → c ≢ 111 → j (c ∷ ps) ≡ i (c ∷ ps)
+    same c ps work obj = lays.others (c ∷ ps) (apart_by_first ps (111 ∷ 114 ∷ 107 ∷ 47 ∷ folder) work) (object_by_first object c ps obj)
+
+-- other areas stay
+pub lays_elsewhere : (folder : List ℕ) (object : Option Hash) (i j : Store) (c : ℕ) (ps : List ℕ) → c ≢ 119 → c ≢ 111 → Lays folder object i j → j (c ∷ ps) ≡ i (c ∷ ps)
+lays_elsewhere folder object i j c ps work obj lays = lays.others (c ∷ ps) (apart_by_first ps (111 ∷ 114 ∷ 107 ∷ 47 ∷ folder) work) (object_by_first object c ps obj)
+
+pub lays_by_work : (folder : List ℕ) (object : Option Hash) (i j : Store) → AgreesApart (work_at folder) i j → Lays folder object i j
+lays_by_work folder object i j agrees = record { others = λ q work obj. agrees.apart q work }
+
+pub lays_by_object : (folder : List ℕ) (object : Option Hash) (i j : Store) → Shares object i j → Lays folder object i j
+lays_by_object folder object i j shares = record { others = λ q work obj. shares.others q obj }
+
+pub lays_joins : (folder : List ℕ) (object : Option Hash) (i j k : Store) → Lays folder object i j → Lays folder object j k → Lays folder object i k
+lays_joins folder object i j k first second = record { others = λ q work obj. second.others q work obj ∙ first.others q work obj }
+
+pub shares_by : (object : Option Hash) (unihash : Hash) (i j : Store) → object ≡ Some unihash → AgreesApart (object_folder unihash) i j → Shares object i j
+shares_by object unihash i j is agrees = record { others = λ q obj. agrees.apart q (obj unihash is) }
+
+-- a tree stays where its folder and what is above it does
+pub tree_stays : (c : ℕ) (ps : List ℕ) (tree : List (List ℕ × Entry)) (i j : Store) → c ≢ 47 → ((qs : List ℕ) → j (c ∷ qs) ≡ i (c ∷ qs)) → HoldsTree (c ∷ ps) tree i → HoldsTree (c ∷ ps) tree j
+tree_stays c ps tree i j ne stays was = record {
+  entries = λ path. stays (ps ++ 47 ∷ path) ∙ was.entries path;
+  outside = record { at = stays ps ∙ was.outside.at; above = above };
+}
+  where
+    above : (q : List ℕ) → IsBelow q (c ∷ ps) → j q ≡ None
+    above [] up = absurd (ne (ap (λ (l : List ℕ). get_or l 0 0) up.1))
+    above (x ∷ q) up =
+        let head : c ≡ x = ap (λ (l : List ℕ). get_or l 0 0) up.1 in
+        ap (λ (y : ℕ). j (y ∷ q)) (sym head) ∙ stays q ∙ ap (λ (y : ℕ). i (y ∷ q)) head ∙ was.outside.above (x ∷ q) up
+
+-- the object's folder is apart from the work folder, so its tree stays there
+pub tree_lays : {T : Type 0} (folder : List ℕ) (object : Option Hash) (tree : List (List ℕ × Entry)) (i j : Store) (r : Result T DiskFault) → Shares object i j → HoldsTree (work_at folder) tree i → OnOk r (HoldsTree (work_at folder) tree j)
+tree_lays folder object tree i j (Ok v) shares was = tree_stays 119 (111 ∷ 114 ∷ 107 ∷ 47 ∷ folder) tree i j (differ 119 47 refl) (λ qs. shares.others (119 ∷ qs) (object_by_first object 119 qs (differ 119 111 refl))) was
+tree_lays folder object tree i j (Err e) shares was = tt
+
+pub objects_by_work : (folder : List ℕ) (i j : Store) → AgreesApart (work_at folder) i j → SameObjects i j
+objects_by_work folder i j agrees = record { same = λ path. agrees.apart (inside (codes "obj") path) (apart_by_first (98 ∷ 106 ∷ 47 ∷ path) (111 ∷ 114 ∷ 107 ∷ 47 ∷ folder) (differ 111 119 refl)) }
+
+pub object_lays : (folder : List ℕ) (object : Option Hash) (tree : List (List ℕ × Entry)) (i j : Store) → AgreesApart (work_at folder) i j → HoldsObject i object tree → HoldsObject j object tree
+object_lays folder object tree i j agrees was unihash is = tree_stays 111 (98 ∷ 106 ∷ 47 ∷ hash_text unihash) tree i j (differ 111 47 refl)
+    (λ qs. agrees.apart (111 ∷ qs) (apart_by_first qs (111 ∷ 114 ∷ 107 ∷ 47 ∷ folder) (differ 111 119 refl))) (was unihash is)
+
+-- ---- records and stamps that are staged
+
+module _ (name : Hash) (file : Option Entry) where
+  pub stages_same : (i : Store) → Stages name file i i
+  stages_same i = record { others = λ q tmp own. refl; stored = inl refl; laid_out = λ l. l }
+
+  pub stages_joins : (i j k : Store) → Stages name file i j → Stages name file j k → Stages name file i k
+  stages_joins i j k first second = record {
+    others = λ q tmp own. second.others q tmp own ∙ first.others q tmp own;
+    stored = ⊎_elim (λ same. ⊎_elim (λ as_was. inl (same ∙ as_was)) (λ new. inr (new.0, new.1, same ∙ new.2)) first.stored) (λ new. inr new) second.stored;
+    laid_out = λ l. second.laid_out (first.laid_out l);
+  }
+
+  -- a path under `tmp/` changes
+  by_temporary : (path : List ℕ) (i j : Store) → IsWell (inside (codes "tmp") path) → ChangesAt (inside (codes "tmp") path) i j → Stages name file i j
+  by_temporary path i j well change = record {
+    others = λ q tmp own. change.others q (λ same. tmp (path, same));
+    stored = inl (change.others (record_path name) (heads_differ (differ 114 116 refl)));
+    laid_out = λ l. laid_change (inside (codes "tmp") path) i j well change l;
+  }
+
+  pub stages_by_record : (i j : Store) → IsName name → ChangesAt (staged_record_path name) i j → Stages name file i j
+  stages_by_record i j is change = by_temporary (inside (codes "rec") (hash_text name)) i j (well_staged_record name is) change
+
+  pub stages_by_stamp : (folder : List ℕ) (i j : Store) → slashes folder ≡ 1 → ChangesAt (staged_path folder) i j → Stages name file i j
+  stages_by_stamp folder i j one change = by_temporary (inside (codes "stamp") folder) i j (well_staged folder one) change
+
+  pub settles_same : (i : Store) → Settles name file i i
+  settles_same i = record { others = λ q staged own. refl; stages = stages_same i }
+
+  -- the record comes to its place
+  pub settles_by_move : (e : Entry) (x : Option Entry) (i j : Store) → IsName name → file ≡ Some e → x ≡ Some e → Moves (staged_record_path name) (record_path name) x i j → Settles name file i j
+  settles_by_move e x i j is some at move = record {
+    others = λ q staged own. move.others q staged (own (subst IsSome (sym some) refl));
+    stages = record {
+      others = λ q tmp own. move.others q (λ same. tmp (inside (codes "rec") (hash_text name), same)) (own (subst IsSome (sym some) refl));
+      stored = ⊎_elim (λ same. inl same) (λ new. inr (e, some, new ∙ at)) move.target;
+      laid_out = λ l. laid_move (staged_record_path name) (record_path name) x i j (well_record name is) move l;
+    };
+  }

@@ -1,0 +1,37 @@
+use Rattle.build_store.proofs.Restored.{row_name, object_is, back_run, back_published, back_same}
+use Rattle.std.proofs.Common.{None}
+use Rattle.store_model.specs.Available.{task_folder}
+use Rattle.build_store.proofs.Rounding.{leaves_behind, leaves_same}
+use Rattle.build_store.proofs.restoring.restore_by.Goals as goal
+
+pub put_task-requires-clause-name : goal.put_task-requires-clause-name
+put_task-requires-clause-name g c = row_name c.args.row.now c.requires.row
+
+pub returns-in_err-put_task-in-Ok-Some-clause-images : goal.returns-in_err-put_task-in-Ok-Some-clause-images
+returns-in_err-put_task-in-Ok-Some-clause-images g c told f at =
+    let object = object_is c.args.row.now (g.D.Disk.story c.args.disk.now).held c.in-Ok-Some.tree (rw c.in-Ok-Some.field-0-is at (c.in-Ok-Some.ensures.found told)) in
+    back_run c.args.task.now c.args.row.now (g.D.Disk.story c.args.disk.now) (g.D.Disk.story c.object_of.new.disk) (g.D.Disk.story c.put_task.new.disk) f at (c.object_of.ensures.others told) c.in-Ok-Some.tree object (c.put_task.ensures.others told)
+
+pub returns-in_ok-put_task-in-Ok-Some-clause-images : goal.returns-in_ok-put_task-in-Ok-Some-clause-images
+returns-in_ok-put_task-in-Ok-Some-clause-images g c told f at =
+    let object = object_is c.args.row.now (g.D.Disk.story c.args.disk.now).held c.in-Ok-Some.tree (rw c.in-Ok-Some.field-0-is at (c.in-Ok-Some.ensures.found told)) in
+    back_run c.args.task.now c.args.row.now (g.D.Disk.story c.args.disk.now) (g.D.Disk.story c.object_of.new.disk) (g.D.Disk.story c.put_task.new.disk) f at (c.object_of.ensures.others told) c.in-Ok-Some.tree object (c.put_task.ensures.others told)
+
+pub returns-in_ok-put_task-in-Ok-Some-clause-restored : goal.returns-in_ok-put_task-in-Ok-Some-clause-restored
+returns-in_ok-put_task-in-Ok-Some-clause-restored g c told f at =
+    let object = object_is c.args.row.now (g.D.Disk.story c.args.disk.now).held c.in-Ok-Some.tree (rw c.in-Ok-Some.field-0-is at (c.in-Ok-Some.ensures.found told)) in
+    back_published c.args.task.now c.args.row.now (g.D.Disk.story c.args.disk.now) (g.D.Disk.story c.object_of.new.disk) (g.D.Disk.story c.put_task.new.disk) f at (c.object_of.ensures.others told) c.in-Ok-Some.tree object (c.in_ok-put_task-in-Ok-Some.ensures.published told)
+
+pub returns-in-Ok-None-clause-images : goal.returns-in-Ok-None-clause-images
+returns-in-Ok-None-clause-images g c told f at = back_same c.args.task.now c.args.row.now (g.D.Disk.story c.args.disk.now) (g.D.Disk.story c.object_of.new.disk) f (c.object_of.ensures.others told)
+
+pub returns-in_err-put_task-in-Ok-Some-clause-round : goal.returns-in_err-put_task-in-Ok-Some-clause-round
+returns-in_err-put_task-in-Ok-Some-clause-round g c told =
+    leaves_behind (task_folder c.args.task.now) None (c.object_of.ensures.others told) (c.put_task.ensures.round told)
+
+pub returns-in_ok-put_task-in-Ok-Some-clause-round : goal.returns-in_ok-put_task-in-Ok-Some-clause-round
+returns-in_ok-put_task-in-Ok-Some-clause-round g c told =
+    leaves_behind (task_folder c.args.task.now) None (c.object_of.ensures.others told) (c.put_task.ensures.round told)
+
+pub returns-in-Ok-None-clause-round : goal.returns-in-Ok-None-clause-round
+returns-in-Ok-None-clause-round g c told = leaves_same (task_folder c.args.task.now) None (c.object_of.ensures.others told)

@@ -1,0 +1,7 @@
+use Rattle.build_store.proofs.store.Store.publish.Goals as goal
+
+pub returns-clause-published : goal.returns-clause-published
+returns-clause-published g c told = rw (← c.self.view_is) (c.publish.ensures.published told)
+
+pub returns-clause-unwritten : goal.returns-clause-unwritten
+returns-clause-unwritten g c told = rw (← c.self.view_is) (c.publish.ensures.unwritten told)

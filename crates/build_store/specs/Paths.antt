@@ -1,0 +1,47 @@
+-- Where a store keeps what, and which tasks have a place in it. (Own rules.)
+use Rattle.std.specs.Prelude.{◌≡◌, ◌⊎◌, ℕ, suc, List, [], ◌∷◌, ◌==◌, codes, None, IsSome, if◌then◌else◌}
+use Rattle.tree_model.specs.declared.hash.Hash.{Hash}
+use Rattle.tree_model.specs.Hash.{hash_text}
+use Rattle.tree_model.specs.Path.{IsPart, inside}
+use Rattle.outside_traits.specs.Store.{Store}
+use Rattle.meta_model.specs.declared.plan.PlanTask.{PlanTask}
+
+-- how many slashes a text has
+abbrev pub slashes : List ℕ → ℕ
+slashes [] = 0
+slashes (b ∷ bs) = if b == 47 then suc (slashes bs) else slashes bs
+
+-- a text that is one part of a path
+pub record IsOnePart (text : List ℕ) : Type 0 where
+  pub part : IsPart text
+  pub alone : slashes text ≡ 0
+
+-- A task has a place in a store: its PN and its name are each one part of a path. So they are of every sound plan.
+pub record HasPlace (of : PlanTask) : Type 0 where
+  pub pn : IsOnePart of.id.pn
+  pub task : IsOnePart of.id.task
+
+-- where a stored record stands: `rec/NAME`
+abbrev pub record_path : Hash → List ℕ
+record_path name = inside (codes "rec") (hash_text name)
+
+-- where it is written first: `tmp/rec/NAME`
+abbrev pub staged_record_path : Hash → List ℕ
+staged_record_path name = inside (codes "tmp/rec") (hash_text name)
+
+-- what stands under `tmp/`: records and stamps that are written there first, and stamps that were taken away
+abbrev pub IsTemporary : List ℕ → Type 0
+IsTemporary path =
+    ((rest : List ℕ) × (path ≡ inside (codes "rec") rest) × (slashes rest ≡ 0))
+    ⊎ (((rest : List ℕ) × (path ≡ inside (codes "stamp") rest) × (slashes rest ≡ 1))
+    ⊎ ((rest : List ℕ) × (path ≡ inside (codes "old") rest) × (slashes rest ≡ 1)))
+
+-- What is held under `rec/`, `stamp/` and `tmp/` stands where records, stamps and temporary files do, and nothing is held at these
+-- three.
+pub record IsLaidOut (held : Store) : Type 0 where
+  pub records : (path : List ℕ) → IsSome (held (inside (codes "rec") path)) → slashes path ≡ 0
+  pub stamps : (path : List ℕ) → IsSome (held (inside (codes "stamp") path)) → slashes path ≡ 1
+  pub temporary : (path : List ℕ) → IsSome (held (inside (codes "tmp") path)) → IsTemporary path
+  pub at_records : held (codes "rec") ≡ None
+  pub at_stamps : held (codes "stamp") ≡ None
+  pub at_temporary : held (codes "tmp") ≡ None

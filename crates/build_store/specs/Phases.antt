@@ -1,0 +1,56 @@
+-- The phases of a publication.
+use Rattle.std.specs.Prelude.{◌≡◌, ◌≢◌, ◌⊎◌, ℕ, List, codes, Option, Some, None, IsSome}
+use Rattle.std.specs.Option.{is_some}
+use Rattle.tree_model.specs.declared.entry.Entry.{Entry}
+use Rattle.tree_model.specs.declared.hash.Hash.{Hash}
+use Rattle.tree_model.specs.Path.{IsBelow}
+use Rattle.outside_traits.specs.Store.{IsApart, Store}
+use Rattle.meta_model.specs.CleanBuild.{Entries}
+use Rattle.store_model.specs.Available.{object_folder}
+use Rattle.build_store.specs.Paths.{IsLaidOut, record_path, staged_record_path}
+use Rattle.build_store.specs.Publication.{Publication, work_at}
+
+-- the path is apart from the folder of the object, if there is one
+abbrev pub IsApartFrom : Option Hash → List ℕ → Type 0
+IsApartFrom object q = (unihash : Hash) → object ≡ Some unihash → IsApart (object_folder unihash) q
+
+-- the object's folder changes, if there is an object
+pub record Shares (object : Option Hash) (old new : Store) : Type 0 where
+  pub others : (q : List ℕ) → IsApartFrom object q → new q ≡ old q
+
+-- the object's folder changes, if there is an object; and above it nothing does where this store holds nothing
+pub record SharesRound (object : Option Hash) (held old new : Store) : Type 0 where
+  pub others : (q : List ℕ) → IsApartFrom object q → new q ≡ old q
+  pub above : (unihash : Hash) → object ≡ Some unihash → (q : List ℕ) → IsBelow q (object_folder unihash) → held q ≡ None → new q ≡ old q
+
+-- the work folder changes, and that of the object, if there is one
+pub record Lays (folder : List ℕ) (object : Option Hash) (old new : Store) : Type 0 where
+  pub others : (q : List ℕ) → IsApart (work_at folder) q → IsApartFrom object q → new q ≡ old q
+
+-- Temporary files come and go; and a new record comes to stand under its name.
+pub record Stages (name : Hash) (file : Option Entry) (old new : Store) : Type 0 where
+  pub others : (q : List ℕ) → (IsBelow (codes "tmp") q → ⊥) → (IsSome file → q ≢ record_path name) → new q ≡ old q
+  pub stored : (new (record_path name) ≡ old (record_path name)) ⊎ ((e : Entry) × (file ≡ Some e) × (new (record_path name) ≡ Some e))
+  pub laid_out : IsLaidOut old → IsLaidOut new
+
+-- the record's file is staged, if it is new
+abbrev pub IsStagedFile : Hash → Option Entry → Store → Type 0
+IsStagedFile name file held = (e : Entry) → file ≡ Some e → held (staged_record_path name) ≡ Some e
+
+-- the record's file is stored, if it is new
+abbrev pub IsStoredFile : Hash → Option Entry → Store → Type 0
+IsStoredFile name file held = (e : Entry) → file ≡ Some e → held (record_path name) ≡ Some e
+
+-- what is put: a record's file is written just where there is one
+abbrev pub put_of : List ℕ → Hash → Entries → Option Hash → Option Entry → Entry → Publication
+put_of folder name tree object file f = record { folder = folder; name = name; file = f; is_new = is_some file; tree = tree; object = object }
+
+-- this is the record's file: the one that is written, or else what stands there
+pub record IsFileOf (name : Hash) (file : Option Entry) (held : Store) (f : Entry) : Type 0 where
+  pub new : (e : Entry) → file ≡ Some e → e ≡ f
+  pub old : file ≡ None → held (record_path name) ≡ Some f
+
+-- A new record comes to stand under its name; what is staged besides stays.
+pub record Settles (name : Hash) (file : Option Entry) (old new : Store) : Type 0 where
+  pub others : (q : List ℕ) → q ≢ staged_record_path name → (IsSome file → q ≢ record_path name) → new q ≡ old q
+  pub stages : Stages name file old new

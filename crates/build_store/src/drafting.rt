@@ -1,0 +1,258 @@
+// What a publication is to put, worked out in memory.
+ghost use Rattle.std.specs.Prelude.{◌≡◌, IfErr, IfOk, None, OnOk, false};
+ghost use Rattle.tree_model.specs.Manifest.{manifest_lines};
+ghost use Rattle.store_model.specs.Rows.{new_unihash};
+ghost use Rattle.store_model.specs.Spelling.{name_of, record_bytes, signature_bytes};
+ghost use Rattle.sig_gen.specs.Sound.{Spells};
+ghost use Rattle.sig_gen.specs.Stored.{IsInOrder, SpellsStored};
+ghost use Rattle.build_store.specs.Drafts.{IsKnownFault, IsNew, IsNewFor, IsUnsteadyOf, new_stored};
+ghost use Rattle.build_store.specs.Faults.{IsRefusal, store_failed};
+ghost use Rattle.build_store.specs.Publication.{IsAgreed, record_file, unihash_for};
+ghost use Rattle.build_store.specs.Sound.{IsRow, row_of_stored};
+ghost use Rattle.build_store.specs.View.{signed_by};
+ghost use Rattle.std.specs.List.{AllByRecursion};
+ghost use Rattle.store_model.specs.Spelled.{IsSpelled};
+
+use crate::comparing::compare_row;
+use crate::fault::StoreFault;
+use crate::naming::{Named, name_of_sig};
+use hash_equiv::Index;
+use meta_model::PlanTask;
+use sig_gen::{SigFault, decode, encode_stored};
+use std::alloc::Global;
+use store_model::{EquivRow, SigRecord, StoredSig};
+use tree_model::{Bytes, Entry, Hash, Manifest, ManifestLine, Mem, Tree, manifest_of, matches};
+
+/// The same line again.
+fn line_again(line: &ManifestLine) -> Result<ManifestLine, Mem>
+    ensures { IfOk result (λ made. made ≡ line.now) }
+{
+    Ok(ManifestLine {
+        path: line.path.copy()?,
+        kind: line.kind,
+        length: line.length,
+        hash: line.hash,
+    })
+}
+
+/// The same manifest again.
+pub(crate) fn manifest_again(alloc: Global, manifest: &Manifest) -> Result<Manifest, Mem>
+    ensures { IfOk result (λ made. made ≡ manifest.now) }
+{
+    let mut lines = Vec::new(alloc);
+    for line in manifest.lines() {
+        lines.push(line_again(line)?)?;
+    }
+    Ok(Manifest::from_lines(lines))
+}
+
+/// The same signature again, read from its bytes.
+fn signature_again(alloc: Global, sig: &SigRecord, bytes: &[u8]) -> Result<SigRecord, Mem>
+    requires { Spells bytes.now sig.now }
+    ensures { IfOk result (λ made. made ≡ sig.now) }
+{
+    match decode(alloc, bytes) {
+        Ok(made) => Ok(made),
+        Err(SigFault::Memory) => Err(Mem),
+        Err(SigFault::BadRecord) => unreachable!(),
+    }
+}
+
+/// What tells that a task gave another output than its record says.
+fn unsteady(alloc: Global, task: &PlanTask, row: &EquivRow, tree: &Tree) -> Result<StoreFault, Mem>
+    ensures { IfOk result (IsUnsteadyOf task.now row.now tree.now) }
+{
+    Ok(StoreFault::Unsteady {
+        pn: task.id.pn.copy()?,
+        task: task.id.task.copy()?,
+        held: manifest_again(alloc, &row.manifest)?,
+        given: manifest_of(alloc, tree)?,
+    })
+}
+
+/// The unihash of a task whose record is stored, where that has its signature and its output.
+fn known_unihash(
+    alloc: Global,
+    task: &PlanTask,
+    row: &EquivRow,
+    sig: &[u8],
+    tree: &Tree,
+) -> Result<Hash, StoreFault>
+    ensures ok { IfOk result (λ unihash. (unihash ≡ row.now.unihash) × (row.now.sig ≡ sig.now) × (row.now.manifest ≡ manifest_lines tree.now)) }
+    ensures err { IfErr result (IsKnownFault task.now row.now sig.now tree.now) }
+    ensures inside { store_failed result ≡ false }
+{
+    compare_row(alloc, row, sig)?;
+    if matches(tree, &row.manifest) {
+        return Ok(row.unihash);
+    }
+    Err(unsteady(alloc, task, row, tree)?)
+}
+
+/// A record that is to be stored.
+#[derive(Drop)]
+pub(crate) struct NewRecord {
+    pub(crate) file: Entry,
+    pub(crate) row: EquivRow,
+}
+
+/// The unihash of a new record.
+fn new_unihash(index: &Index, sig: &SigRecord, name: &Hash, manifest: &Manifest) -> Hash
+    ensures { result ≡ new_unihash index.now name.now sig.now.pn sig.now.task manifest.now }
+{
+    match index.first_for(sig.pn.as_str(), sig.task.as_str(), manifest.lines()) {
+        Some(unihash) => unihash,
+        None => *name,
+    }
+}
+
+/// The file and the row of a record.
+fn record_of(alloc: Global, own: Named, stored: StoredSig) -> Result<NewRecord, Mem>
+    requires name { own.name ≡ name_of stored.sig }
+    requires bytes { own.bytes ≡ signature_bytes stored.sig }
+    ensures file { IfOk result (λ made. made.file ≡ record_file stored) }
+    ensures row { IfOk result (λ made. made.row ≡ row_of_stored stored) }
+    ensures spells { IfOk result (λ made. IsInOrder stored → SpellsStored (record_bytes stored) stored) }
+{
+    let bytes = encode_stored(alloc, &stored)?;
+    let StoredSig {
+        sig,
+        manifest,
+        unihash,
+    } = stored;
+    let SigRecord {
+        pn,
+        task,
+        key: _,
+        files: _,
+        deps: _,
+    } = sig;
+    Ok(NewRecord {
+        file: Entry::File { exec: false, bytes },
+        row: EquivRow {
+            name: own.name,
+            pn,
+            task,
+            sig: own.bytes,
+            manifest,
+            unihash,
+        },
+    })
+}
+
+/// The record of a task that none is stored of.
+fn new_record(
+    alloc: Global,
+    index: &Index,
+    sig: &SigRecord,
+    own: Named,
+    tree: &Tree,
+) -> Result<NewRecord, Mem>
+    requires spells { Spells own.bytes sig.now }
+    requires name { own.name ≡ name_of sig.now }
+    ensures file { IfOk result (λ made. made.file ≡ record_file (new_stored index.now sig.now tree.now)) }
+    ensures row { IfOk result (λ made. made.row ≡ row_of_stored (new_stored index.now sig.now tree.now)) }
+    ensures spelled { IfOk result (λ made. IsInOrder (new_stored index.now sig.now tree.now) → SpellsStored (record_bytes (new_stored index.now sig.now tree.now)) (new_stored index.now sig.now tree.now)) }
+{
+    let manifest = manifest_of(alloc, tree)?;
+    let unihash = new_unihash(index, sig, &own.name, &manifest);
+    let sig = signature_again(alloc, sig, own.bytes.as_slice())?;
+    record_of(
+        alloc,
+        own,
+        StoredSig {
+            sig,
+            manifest,
+            unihash,
+        },
+    )
+}
+
+/// What a publication is to put, besides the tree.
+#[derive(Drop)]
+pub(crate) struct Draft {
+    /// The name of the task's record.
+    pub(crate) name: Hash,
+    /// The bytes of its signature.
+    pub(crate) bytes: Bytes,
+    /// The task's unihash.
+    pub(crate) unihash: Hash,
+    /// The record's file and its row, where none is stored.
+    pub(crate) new: Option<NewRecord>,
+}
+
+/// What is put for a task whose record is stored.
+fn known_draft(
+    alloc: Global,
+    task: &PlanTask,
+    row: &EquivRow,
+    own: Named,
+    tree: &Tree,
+) -> Result<Draft, StoreFault>
+    ensures name { IfOk result (λ draft. draft.name ≡ own.name) }
+    ensures bytes { IfOk result (λ draft. draft.bytes ≡ own.bytes) }
+    ensures known { IfOk result (λ draft. (draft.unihash ≡ row.now.unihash) × (draft.new ≡ None)) }
+    ensures agrees { OnOk result ((row.now.sig ≡ own.bytes) × (row.now.manifest ≡ manifest_lines tree.now)) }
+    ensures err { IfErr result (IsKnownFault task.now row.now own.bytes tree.now) }
+    ensures inside { store_failed result ≡ false }
+{
+    let unihash = known_unihash(alloc, task, row, own.bytes.as_slice(), tree)?;
+    Ok(Draft {
+        name: own.name,
+        bytes: own.bytes,
+        unihash,
+        new: None,
+    })
+}
+
+/// What is put for a task of which no record is stored.
+fn new_draft(
+    alloc: Global,
+    index: &Index,
+    sig: &SigRecord,
+    own: Named,
+    tree: &Tree,
+) -> Result<Draft, Mem>
+    requires spells { Spells own.bytes sig.now }
+    requires name { own.name ≡ name_of sig.now }
+    ensures name { IfOk result (λ draft. draft.name ≡ own.name) }
+    ensures bytes { IfOk result (λ draft. draft.bytes ≡ own.bytes) }
+    ensures unihash { IfOk result (λ draft. draft.unihash ≡ (new_stored index.now sig.now tree.now).unihash) }
+    ensures new { IfOk result (λ draft. IsNew draft.new (new_stored index.now sig.now tree.now)) }
+{
+    let bytes = own.bytes.copy()?;
+    let name = own.name;
+    let new = new_record(alloc, index, sig, own, tree)?;
+    Ok(Draft {
+        name,
+        bytes,
+        unihash: new.row.unihash,
+        new: Some(new),
+    })
+}
+
+/// What a publication of a task is to put.
+pub(crate) fn draft_of(
+    alloc: Global,
+    index: &Index,
+    task: &PlanTask,
+    sig: &SigRecord,
+    tree: &Tree,
+) -> Result<Draft, StoreFault>
+    requires spelled { IsSpelled sig.now }
+    requires rows { AllByRecursion IsRow index.now }
+    ensures name { IfOk result (λ draft. draft.name ≡ name_of sig.now) }
+    ensures bytes { IfOk result (λ draft. draft.bytes ≡ signature_bytes sig.now) }
+    ensures unihash { IfOk result (λ draft. draft.unihash ≡ unihash_for index.now (signed_by task.now sig.now) tree.now) }
+    ensures new { IfOk result (λ draft. IsNewFor index.now (signed_by task.now sig.now) tree.now draft.new) }
+    ensures spells { OnOk result (Spells (signature_bytes sig.now) sig.now) }
+    ensures agrees { OnOk result (IsAgreed index.now (signed_by task.now sig.now) tree.now) }
+    ensures refused { IfErr result (IsRefusal index.now (signed_by task.now sig.now) tree.now) }
+    ensures inside { store_failed result ≡ false }
+{
+    let own = name_of_sig(alloc, sig)?;
+    match index.row(&own.name) {
+        Some(row) => known_draft(alloc, task, row, own, tree),
+        None => Ok(new_draft(alloc, index, sig, own, tree)?),
+    }
+}

@@ -1,0 +1,14 @@
+// Signatures that a store keeps of tasks whose publication wanted memory.
+use tree_model::{Bytes, Text};
+
+/// The signature of a task whose publication wanted memory once the disk was touched: the record may be there, though the index has no
+/// row of it.
+#[derive(Debug, Drop)]
+pub struct KeptSig {
+    /// The PN of the task's recipe.
+    pub pn: Text,
+    /// The task.
+    pub task: Text,
+    /// Its encoded signature.
+    pub sig: Bytes,
+}

@@ -1,0 +1,47 @@
+//! The store of a run: what runs of plans left on a disk, and what this one puts there.
+//!
+//! A store is seen as its disk, the rows of its index, in the order in which they were added, and the signatures that it keeps of tasks
+//! whose publication wanted memory (`specs/View`). `specs/Opening` says what opening a disk makes of it, `specs/Finding` what is found of
+//! a task, `specs/Publication` what publishing and restoring do, and `specs/Faults` why a call is refused.
+//!
+//! Promised of each call, whatever it answers, want of memory and a failed disk included: what it did to each image that a crash left
+//! since its entry (`Passes`). A publication changes just its own paths (the task's work folder, stamp and record, the object of its
+//! unihash, and what is under `tmp/`), takes no record away, and its stamp never lies: nothing of the task was touched, or no stamp is
+//! held, or all that it tells of is there (`Publishes`). So a valid store stays valid, with the same book or with the publication's
+//! line behind it (`published_is_valid`). After `Ok` of `publish` and `true` of `restore` the folders hold exactly the tree, in every
+//! image, and the stamp names the record. What other tasks have stays, and what was available of them stays so (`KeepsOthers`,
+//! `others_stay`).
+//!
+//! Opening keeps a valid store valid where its records can be read, with the same lines in an order that what is held decides
+//! (`opened_is_valid`), all that is available (`opened_stays`), and what a plan may reuse (`reuse_again`). The records that `publish`
+//! stores can be read.
+//!
+//! A fault of the disk comes only where its count of faults rose; a collision or an unsteady task only with the two values that differ.
+//! Want of memory is free. (The Yocto Project Overview and Concepts Manual, "Shared State Cache" and "Hash Equivalence"; formats and
+//! protocol are own rules.)
+#![tactic(auto)]
+
+mod comparing;
+mod drafting;
+mod fault;
+mod finding;
+mod keeping;
+mod kept;
+mod laws;
+mod naming;
+mod opening;
+mod places;
+mod publication;
+mod publishing;
+mod records;
+mod refused;
+mod restoring;
+mod stamps;
+mod store;
+mod survey;
+
+pub use fault::StoreFault;
+pub use kept::KeptSig;
+pub use laws::{opened_is_valid, opened_stays, others_stay, published_is_valid, reuse_again};
+pub use refused::OpenRefused;
+pub use store::{Store, open_store};

@@ -1,0 +1,44 @@
+// Signatures with their bytes and their names.
+ghost use Rattle.std.specs.Prelude.{◌≡◌, ◌↔◌, IfOk, IsTrue};
+ghost use Rattle.store_model.specs.declared.signature.SigRecord.{SigRecord as Signature};
+ghost use Rattle.store_model.specs.Spelled.{IsSpelled};
+ghost use Rattle.store_model.specs.Spelling.{name_of, signature_bytes};
+ghost use Rattle.sig_gen.specs.Sound.{Spells};
+
+use sig_gen::encode;
+use std::alloc::Global;
+use store_model::SigRecord;
+use tree_model::{Bytes, Hash, Mem};
+
+/// A signature's bytes, and the name of its record.
+#[derive(Drop)]
+pub(crate) struct Named {
+    pub(crate) bytes: Bytes,
+    pub(crate) name: Hash,
+}
+
+/// The name by a signature's bytes.
+#[tactic(auto, unfolding(store_model::specs::Spelling::name_of))]
+pub(crate) fn name_by(bytes: &[u8]) -> Hash
+    ensures { (sig : Signature) → bytes.now ≡ signature_bytes sig → result ≡ name_of sig }
+{
+    Hash::of(bytes)
+}
+
+/// A signature with its bytes and its name. What was written is read again, where the lists ascend.
+pub(crate) fn name_of_sig(alloc: Global, sig: &SigRecord) -> Result<Named, Mem>
+    ensures bytes { IfOk result (λ named. named.bytes ≡ signature_bytes sig.now) }
+    ensures name { IfOk result (λ named. named.name ≡ name_of sig.now) }
+    ensures spells { IfOk result (λ named. IsSpelled sig.now → Spells named.bytes sig.now) }
+{
+    let bytes = encode(alloc, sig)?;
+    let name = name_by(bytes.as_slice());
+    Ok(Named { bytes, name })
+}
+
+/// Whether two byte strings are the same.
+pub(crate) fn same_bytes(one: &[u8], other: &[u8]) -> bool
+    ensures { IsTrue result ↔ (one.now ≡ other.now) }
+{
+    one == other
+}

@@ -1,0 +1,163 @@
+// The files under `rec/` that may be believed.
+ghost use Rattle.std.specs.Prelude.{◌≡◌, ◌≤◌, ◌↔◌, All, IfNone, IfOk, IfSome, IsTrue, OnOk};
+ghost use Rattle.std.specs.List.{AllByRecursion};
+ghost use Rattle.outside_traits.specs.Fault.{Counts, disk_failed};
+ghost use Rattle.outside_traits.specs.Passes.{Passes, Same};
+ghost use Rattle.record_belief.specs.declared.candidate.Candidate.{Candidate as ACandidate};
+ghost use Rattle.store_model.specs.Spelling.{name_of, record_bytes};
+ghost use Rattle.build_store.specs.Paths.{record_path, staged_record_path};
+ghost use Rattle.build_store.specs.Publication.{record_file};
+ghost use Rattle.build_store.specs.Sound.{HasShortPaths};
+ghost use Rattle.build_store.specs.Survey.{AreHeld, HasVisited, IsFoundIn, IsGood, IsSurveyed, Visits};
+
+use crate::naming::name_of_sig;
+use outside_traits::{Disk, DiskFault};
+use record_belief::Candidate;
+use sig_gen::{SigFault, decode_stored};
+use std::alloc::Global;
+use store_model::StoredSig;
+use tree_model::{Entry, Hash, ManifestLine, Mem, Text};
+
+/// The most bytes of a path of a manifest.
+const MAX_PATH: usize = 3072;
+
+/// Where a record stands.
+pub(crate) fn record_path(alloc: Global, name: &Hash) -> Result<Text, Mem>
+    ensures { IfOk result (λ path. path ≡ record_path name.now) }
+{
+    let mut path = Text::from_str(alloc, "rec/")?;
+    path.push_str(name.text(alloc)?.as_str())?;
+    Ok(path)
+}
+
+/// Where a record is written first.
+pub(crate) fn staged_record_path(alloc: Global, name: &Hash) -> Result<Text, Mem>
+    ensures { IfOk result (λ path. path ≡ staged_record_path name.now) }
+{
+    let mut path = Text::from_str(alloc, "tmp/rec/")?;
+    path.push_str(name.text(alloc)?.as_str())?;
+    Ok(path)
+}
+
+/// Whether no path of a manifest is too long.
+fn are_short(lines: &[ManifestLine]) -> bool
+    ensures { IsTrue result ↔ HasShortPaths lines.now }
+{
+    lines
+        .iter()
+        .all(|line| line.path.as_str().len() <= MAX_PATH)
+}
+
+/// Whether a path is that of the record of a name.
+fn is_path_of(alloc: Global, path: &str, name: &Hash) -> Result<bool, Mem>
+    ensures { IfOk result (λ is. IsTrue is ↔ (path.now ≡ record_path name.now)) }
+{
+    let own = record_path(alloc, name)?;
+    Ok(path == own.as_str())
+}
+
+/// The candidate that a record is, which was read at a path.
+fn judged(alloc: Global, path: &str, stored: StoredSig) -> Result<Option<Candidate>, Mem>
+    ensures some { IfOk result (λ found. IfSome found (λ c. (c.stored ≡ stored) × (c.name ≡ name_of stored.sig) × HasShortPaths stored.manifest × (path.now ≡ record_path c.name))) }
+    ensures none { IfOk result (λ found. IfNone found (HasShortPaths stored.manifest → path.now ≡ record_path (name_of stored.sig) → ⊥)) }
+{
+    let own = name_of_sig(alloc, &stored.sig)?;
+    if is_path_of(alloc, path, &own.name)? && are_short(stored.manifest.lines()) {
+        let name = own.name;
+        return Ok(Some(Candidate { name, stored }));
+    }
+    Ok(None)
+}
+
+/// The candidate that some bytes are, which were read at a path.
+fn candidate_in(alloc: Global, path: &str, bytes: &[u8]) -> Result<Option<Candidate>, Mem>
+    ensures some { IfOk result (λ found. IfSome found (λ c. IsGood c × (path.now ≡ record_path c.name) × (bytes.now ≡ record_bytes c.stored))) }
+    ensures none { IfOk result (λ found. IfNone found ((c : ACandidate) → IsGood c → path.now ≡ record_path c.name → bytes.now ≡ record_bytes c.stored → ⊥)) }
+{
+    match decode_stored(alloc, bytes) {
+        Ok(stored) => judged(alloc, path, stored),
+        Err(SigFault::BadRecord) => Ok(None),
+        Err(SigFault::Memory) => Err(Mem),
+    }
+}
+
+/// The candidate that an entry is, which was read at a path.
+fn candidate_of(alloc: Global, path: &str, entry: &Entry) -> Result<Option<Candidate>, Mem>
+    ensures some { IfOk result (λ found. IfSome found (λ c. IsGood c × (path.now ≡ record_path c.name) × (entry.now ≡ record_file c.stored))) }
+    ensures none { IfOk result (λ found. IfNone found ((c : ACandidate) → IsGood c → path.now ≡ record_path c.name → entry.now ≡ record_file c.stored → ⊥)) }
+{
+    match entry {
+        Entry::File { exec: false, bytes } => candidate_in(alloc, path, bytes.as_slice()),
+        Entry::File {
+            exec: true,
+            bytes: _,
+        } => Ok(None),
+        Entry::Link { target: _ } => Ok(None),
+    }
+}
+
+/// What is found under `rec/`: the candidates, and the paths of all else.
+#[derive(Drop)]
+pub(crate) struct Found {
+    pub(crate) candidates: Vec<Candidate>,
+    pub(crate) rejected: Vec<Text>,
+}
+
+/// Puts what an entry is, which was read at a path, to what is found.
+fn put_found(alloc: Global, path: &str, entry: &Entry, found: &mut Found) -> Result<(), Mem>
+    ensures visits { OnOk result (Visits path.now entry.now found.old found.new) }
+    ensures good { AllByRecursion IsGood found.old.candidates.items → AllByRecursion IsGood found.new.candidates.items }
+{
+    match candidate_of(alloc, path, entry)? {
+        Some(candidate) => found.candidates.push(candidate)?,
+        None => found.rejected.push(Text::from_str(alloc, path)?)?,
+    }
+    Ok(())
+}
+
+/// Reads a path, and puts what stands there to what is found.
+fn visit<D: Disk>(
+    alloc: Global,
+    disk: &mut D,
+    path: &str,
+    found: &mut Found,
+) -> Result<(), DiskFault>
+    ensures visits { D.tells → OnOk result (HasVisited (D.story disk.old).held path.now found.old found.new) }
+    ensures good { AllByRecursion IsGood found.old.candidates.items → AllByRecursion IsGood found.new.candidates.items }
+    ensures others { D.tells → Passes (D.story disk.old) (D.story disk.new) Same }
+    ensures cause { Counts (D.faults disk.old) (D.faults disk.new) (disk_failed result) }
+{
+    match disk.read(alloc, path)? {
+        Some(entry) => Ok(put_found(alloc, path, &entry, found)?),
+        None => Ok(()),
+    }
+}
+
+/// What stands at these paths under `rec/`.
+fn found_among<D: Disk>(alloc: Global, disk: &mut D, paths: &[Text]) -> Result<Found, DiskFault>
+    requires { D.tells → AreHeld (D.story disk.old).held paths.now }
+    ensures surveyed { D.tells → IfOk result (IsSurveyed (D.story disk.old).held paths.now) }
+    ensures good { IfOk result (λ found. AllByRecursion IsGood found.candidates.items) }
+    ensures others { D.tells → Passes (D.story disk.old) (D.story disk.new) Same }
+    ensures cause { Counts (D.faults disk.old) (D.faults disk.new) (disk_failed result) }
+{
+    let mut found = Found {
+        candidates: Vec::new(alloc),
+        rejected: Vec::new(alloc),
+    };
+    for path in paths {
+        visit(alloc, disk, path.as_str(), &mut found)?;
+    }
+    Ok(found)
+}
+
+/// What stands under `rec/`.
+pub(crate) fn found_records<D: Disk>(alloc: Global, disk: &mut D) -> Result<Found, DiskFault>
+    ensures found { D.tells → IfOk result (λ found. IsFoundIn (D.story disk.old).held found.candidates.items found.rejected.items) }
+    ensures good { IfOk result (λ found. AllByRecursion IsGood found.candidates.items) }
+    ensures others { D.tells → Passes (D.story disk.old) (D.story disk.new) Same }
+    ensures cause { Counts (D.faults disk.old) (D.faults disk.new) (disk_failed result) }
+{
+    let paths = disk.list(alloc, "rec/")?;
+    found_among(alloc, disk, paths.as_slice())
+}

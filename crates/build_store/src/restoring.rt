@@ -1,0 +1,146 @@
+// Restoring outputs from objects.
+ghost use Rattle.std.specs.Prelude.{◌≡◌, ◌≤◌, IfErr, IfNone, IfOk, IfSome, MatchBool, None, OnOk};
+ghost use Rattle.std.specs.Bool.{OnFalse};
+ghost use Rattle.std.specs.List.{AllByRecursion};
+ghost use Rattle.tree_model.specs.Tree.{IsTree};
+ghost use Rattle.outside_traits.specs.Fault.{Counts, disk_failed};
+ghost use Rattle.outside_traits.specs.Passes.{EachNow, Passes, Same};
+ghost use Rattle.sstate_objects.specs.Matching.{IsMatching};
+ghost use Rattle.store_model.specs.Available.{Matches, object_folder, task_folder};
+ghost use Rattle.store_model.specs.Spelled.{IsSpelled};
+ghost use Rattle.store_model.specs.Spelling.{name_of, signature_bytes};
+ghost use Rattle.build_store.specs.Faults.{IsClash, IsClear, IsOutside, store_failed};
+ghost use Rattle.build_store.specs.Finding.{IsOtherOrOutside};
+ghost use Rattle.build_store.specs.Restoring.{IsPutBack, PutsBack};
+ghost use Rattle.build_store.specs.Paths.{HasPlace, IsLaidOut};
+ghost use Rattle.build_store.specs.Publication.{AreShort, HasNoObject, IsRestored, KeepsOthers, Restores};
+ghost use Rattle.build_store.specs.Sound.{HasShortPaths, IsKept, IsRow};
+ghost use Rattle.build_store.specs.View.{signed_by};
+
+use crate::comparing::compare_row;
+use crate::fault::StoreFault;
+use crate::finding::are_short;
+use crate::naming::name_of_sig;
+use crate::publishing::put_task;
+use hash_equiv::Index;
+use meta_model::PlanTask;
+use outside_traits::{Disk, DiskFault};
+use sstate_objects::read_verified;
+use std::alloc::Global;
+use store_model::{EquivRow, SigRecord};
+use tree_model::Tree;
+
+/// The tree, where its paths are short.
+fn short_only(tree: Tree) -> Option<Tree>
+    ensures some { IfSome result (λ kept. (kept ≡ tree) × AreShort tree) }
+    ensures none { IfNone result (AreShort tree → ⊥) }
+    ensures tree { IsTree tree }
+{
+    if are_short(&tree) {
+        return Some(tree);
+    }
+    None
+}
+
+/// The object of a record, where it matches.
+fn object_of<D: Disk>(
+    alloc: Global,
+    disk: &mut D,
+    row: &EquivRow,
+) -> Result<Option<Tree>, DiskFault>
+    requires { HasShortPaths row.now.manifest }
+    ensures found { D.tells → IfOk result (IsMatching (object_folder row.now.unihash) row.now.manifest (D.story disk.old).held) }
+    ensures short { IfOk result (λ found. IfSome found AreShort) }
+    ensures others { D.tells → Passes (D.story disk.old) (D.story disk.new) Same }
+    ensures cause { Counts (D.faults disk.old) (D.faults disk.new) (disk_failed result) }
+{
+    match read_verified(alloc, disk, &row.unihash, &row.manifest)? {
+        Some(tree) => Ok(short_only(tree)),
+        None => Ok(None),
+    }
+}
+
+/// Restores a task whose record has this row.
+fn restore_by<D: Disk>(
+    alloc: Global,
+    disk: &mut D,
+    task: &PlanTask,
+    row: &EquivRow,
+) -> Result<bool, StoreFault>
+    requires reach { 3600 ≤ D.reach }
+    requires place { HasPlace task.now }
+    requires row { IsRow row.now }
+    requires laid_out { D.tells → IsLaidOut (D.story disk.old).held }
+    ensures restored { D.tells → IfOk result (λ found. MatchBool found (IsPutBack task.now row.now (D.story disk.old) (D.story disk.new)) (Matches (D.story disk.old).held (object_folder row.now.unihash) row.now.manifest → ⊥)) }
+    ensures unchanged { D.tells → IfOk result (λ found. OnFalse found (Passes (D.story disk.old) (D.story disk.new) Same)) }
+    ensures images { D.tells → PutsBack task.now row.now (D.story disk.old) (D.story disk.new) }
+    ensures laid_out { D.tells → IsLaidOut (D.story disk.new).held }
+    ensures refused { IfErr result IsOutside }
+    ensures round { D.tells → Passes (D.story disk.old) (D.story disk.new) (KeepsOthers (task_folder task.now) None (D.story disk.old).held) }
+    ensures cause { Counts (D.faults disk.old) (D.faults disk.new) (store_failed result) }
+{
+    match object_of(alloc, disk, row) {
+        Ok(Some(tree)) => {
+            put_task(alloc, disk, task, &row.name, &tree, &None, &None)?;
+            Ok(true)
+        }
+        Ok(None) => Ok(false),
+        Err(DiskFault::Failed) => Err(StoreFault::Disk),
+        Err(DiskFault::Memory) => Err(StoreFault::Memory),
+    }
+}
+
+/// Restores a task whose record has this row, where that has its signature.
+fn restore_at<D: Disk>(
+    alloc: Global,
+    disk: &mut D,
+    task: &PlanTask,
+    row: &EquivRow,
+    sig: &[u8],
+) -> Result<bool, StoreFault>
+    requires reach { 3600 ≤ D.reach }
+    requires place { HasPlace task.now }
+    requires row { IsRow row.now }
+    requires laid_out { D.tells → IsLaidOut (D.story disk.old).held }
+    ensures restored { D.tells → IfOk result (λ found. MatchBool found (IsPutBack task.now row.now (D.story disk.old) (D.story disk.new)) (Matches (D.story disk.old).held (object_folder row.now.unihash) row.now.manifest → ⊥)) }
+    ensures unchanged { D.tells → IfOk result (λ found. OnFalse found (Passes (D.story disk.old) (D.story disk.new) Same)) }
+    ensures clear { OnOk result (row.now.sig ≡ sig.now) }
+    ensures images { D.tells → PutsBack task.now row.now (D.story disk.old) (D.story disk.new) }
+    ensures other { D.tells → (row.now.sig ≡ sig.now → ⊥) → Passes (D.story disk.old) (D.story disk.new) Same }
+    ensures laid_out { D.tells → IsLaidOut (D.story disk.new).held }
+    ensures refused { IfErr result (IsOtherOrOutside row.now sig.now) }
+    ensures round { D.tells → Passes (D.story disk.old) (D.story disk.new) (KeepsOthers (task_folder task.now) None (D.story disk.old).held) }
+    ensures cause { Counts (D.faults disk.old) (D.faults disk.new) (store_failed result) }
+{
+    compare_row(alloc, row, sig)?;
+    restore_by(alloc, disk, task, row)
+}
+
+/// Restores a task from its object.
+pub(crate) fn restore<D: Disk>(
+    alloc: Global,
+    disk: &mut D,
+    index: &Index,
+    task: &PlanTask,
+    sig: &SigRecord,
+) -> Result<bool, StoreFault>
+    requires reach { 3600 ≤ D.reach }
+    requires place { HasPlace task.now }
+    requires spelled { IsSpelled sig.now }
+    requires rows { AllByRecursion IsRow index.now }
+    requires keeps { D.tells → IsKept index.now (D.story disk.old) }
+    ensures restored { D.tells → IfOk result (λ found. MatchBool found (EachNow (D.story disk.new) (IsRestored (D.story disk.old).held index.now (signed_by task.now sig.now))) (HasNoObject (D.story disk.old).held index.now (signed_by task.now sig.now))) }
+    ensures unchanged { D.tells → IfOk result (λ found. OnFalse found (Passes (D.story disk.old) (D.story disk.new) Same)) }
+    ensures clear { OnOk result (IsClear index.now (name_of sig.now) (signature_bytes sig.now)) }
+    ensures refused { IfErr result (IsClash index.now (name_of sig.now) (signature_bytes sig.now)) }
+    ensures images { D.tells → Passes (D.story disk.old) (D.story disk.new) (Restores (D.story disk.old).held index.now (signed_by task.now sig.now)) }
+    ensures keeps { D.tells → IsKept index.now (D.story disk.new) }
+    ensures round { D.tells → Passes (D.story disk.old) (D.story disk.new) (KeepsOthers (task_folder task.now) None (D.story disk.old).held) }
+    ensures cause { Counts (D.faults disk.old) (D.faults disk.new) (store_failed result) }
+{
+    let own = name_of_sig(alloc, sig)?;
+    match index.row(&own.name) {
+        Some(row) => restore_at(alloc, disk, task, row, own.bytes.as_slice()),
+        None => Ok(false),
+    }
+}

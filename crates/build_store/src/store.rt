@@ -1,0 +1,248 @@
+// The store of a run over a disk.
+ghost use Rattle.std.specs.Prelude.{◌≡◌, ◌≤◌, ◌-◌, ◌^◌, ◌⊎◌, [], min, false, IfOk, IfErr, None, OnOk, OnErr, MatchBool, length, IfSome};
+ghost use Rattle.std.specs.Bool.{OnFalse};
+ghost use Rattle.std.specs.Option.{option_map};
+ghost use Rattle.outside_traits.specs.Fault.{Counts};
+ghost use Rattle.outside_traits.specs.Passes.{EachNow, Passes, Same};
+ghost use Rattle.outside_traits.specs.Story.{IsFresh, moment as moment_of};
+ghost use Rattle.store_model.specs.Available.{IsAvailable, task_folder, work_folder};
+ghost use Rattle.store_model.specs.Rows.{row_at};
+ghost use Rattle.store_model.specs.Spelled.{IsSpelled};
+ghost use Rattle.store_model.specs.Spelling.{name_of, signature_bytes};
+ghost use Rattle.build_store.specs.Faults.{IsClash, IsClear, IsOutside, IsRefusal, OnDifference, OnMemory, store_failed};
+ghost use Rattle.build_store.specs.Finding.{IsAnswered, IsOutput};
+ghost use Rattle.build_store.specs.Opening.{Clears, IsOpened};
+ghost use Rattle.build_store.specs.Outcome.{disk_of, open_failed};
+ghost use Rattle.build_store.specs.Paths.{HasPlace};
+ghost use Rattle.build_store.specs.Publication.{AreShort, HasNoObject, HoldsObject, IsAgreed, IsPublished, IsRestored, KeepsOthers, Publishes, Restores, SameObjects, line_for, object_for, publication, rows_with, unihash_for};
+ghost use Rattle.build_store.specs.Sound.{IsReadable};
+ghost use Rattle.build_store.specs.View.{IsSignatureOf, IsWanting, SameBooks, kept_with, kept_without, signed_by};
+
+use crate::comparing::compare_at;
+use crate::fault::StoreFault;
+use crate::finding::{available, output};
+use crate::kept::KeptSig;
+use crate::opening::open_disk;
+use crate::publishing::publish;
+use crate::refused::OpenRefused;
+use crate::restoring::restore;
+use hash_equiv::Index;
+use meta_model::{Avail, PlanTask};
+use outside_traits::{Disk, DiskFault};
+use std::alloc::Global;
+use std::marker::Model;
+use store_model::SigRecord;
+use tree_model::{Hash, Tree};
+
+/// What runs of plans left on a disk, with the index of its records. Contracts see the disk, the rows and the kept signatures.
+#[derive(Drop)]
+pub struct Store<D: Disk> {
+    disk: D,
+    index: Index,
+    kept: Vec<KeptSig>,
+}
+
+impl<D: Disk> Model for Store<D> {
+    ghost use Rattle.build_store.specs.View.{View};
+    ghost use Rattle.build_store.specs.Sound.{IsKept, IsRow};
+    ghost use Rattle.std.specs.List.{AllByRecursion};
+
+    ghost Value = { View D };
+
+    ghost view = { λ s. record { disk = s.disk; rows = s.index; kept = s.kept.items } };
+
+    ghost invariant = { λ s. AllByRecursion IsRow s.index × (D.tells → IsKept s.index (D.story s.disk)) };
+}
+
+/// Opens the store that a disk holds, whatever that is.
+///
+/// Records, stamps and temporary files are cleared up: all under `tmp/` goes, and of what is under `rec/` and `stamp/` just the believed
+/// records and the files that are stamps stay. The rows are those of the believed records, in an order in which what a record names
+/// stands before it: by depth, then by name. What is under `work/` and `obj/` is left alone. Then the disk is synced. (Own rule.)
+///
+/// Refused only where the disk failed or memory is wanting; the disk is given back then.
+pub fn open_store<D: Disk>(alloc: Global, disk: D) -> Result<Store<D>, OpenRefused<D>>
+    requires reach { 3600 ≤ D.reach }
+    requires fresh { D.tells → IsFresh (D.story disk) }
+    ensures opened { D.tells → IfOk result (λ store. IsOpened (D.story disk).held (D.story store.disk).held store.rows) }
+    ensures durable { D.tells → IfOk result (λ store. EachNow (D.story store.disk) (λ image. image ≡ (D.story store.disk).held)) }
+    ensures kept { IfOk result (λ store. store.kept ≡ []) }
+    ensures fault { IfErr result (λ refused. IsOutside refused.fault) }
+
+    // Whatever it answers.
+    ensures images { D.tells → Passes (D.story disk) (D.story (disk_of result)) (Clears (D.story disk).held) }
+    ensures cause { Counts (D.faults disk) (D.faults (disk_of result)) (open_failed result) }
+{
+    let mut disk = disk;
+    match open_disk(alloc, &mut disk) {
+        Ok(index) => Ok(Store {
+            disk,
+            index,
+            kept: Vec::new(alloc),
+        }),
+        Err(DiskFault::Failed) => Err(OpenRefused {
+            disk,
+            fault: StoreFault::Disk,
+        }),
+        Err(DiskFault::Memory) => Err(OpenRefused {
+            disk,
+            fault: StoreFault::Memory,
+        }),
+    }
+}
+
+impl<D: Disk> Store<D> {
+    /// Compares the bytes of a signature with those of the row of its name, if there is one. It looks at the rows alone.
+    ///
+    /// `Collision` comes exactly where that row has another signature.
+    pub fn compare(&self, alloc: Global, name: &Hash, sig: &[u8]) -> Result<(), StoreFault>
+        ensures clear { OnOk result (IsClear self.now.rows name.now sig.now) }
+        ensures refused { IfErr result (IsClash self.now.rows name.now sig.now) }
+        ensures inside { store_failed result ≡ false }
+    {
+        compare_at(alloc, &self.index, name, sig)
+    }
+
+    /// Whether the output of a task, which has this signature, is there: in its work folder, else, where shared state objects count, as
+    /// an object. A work folder is read only where the stamp names the task's record. Nothing changes. (Own rule.)
+    ///
+    /// `Collision` comes exactly where the row of the signature's name has another signature.
+    pub fn available(
+        &mut self,
+        alloc: Global,
+        task: &PlanTask,
+        sig: &SigRecord,
+        setscene: bool,
+    ) -> Result<Avail, StoreFault>
+        ensures found { D.tells → IfOk result (IsAvailable (D.story self.old.disk).held self.old.rows setscene (signed_by task.now sig.now)) }
+        ensures answered { IfOk result (IsAnswered self.old.rows (signed_by task.now sig.now)) }
+        ensures refused { IfErr result (IsClash self.old.rows (name_of sig.now) (signature_bytes sig.now)) }
+
+        // Whatever it answers.
+        ensures same { SameBooks self.old self.new }
+        ensures images { D.tells → Passes (D.story self.old.disk) (D.story self.new.disk) Same }
+        ensures cause { Counts (D.faults self.old.disk) (D.faults self.new.disk) (store_failed result) }
+    {
+        available(alloc, &mut self.disk, &self.index, task, sig, setscene)
+    }
+
+    /// What is held in a task's work folder, or `None` exactly where that is beyond the limits of an output; no path has more than 3,072
+    /// bytes. Nothing changes.
+    pub fn output(&mut self, alloc: Global, task: &PlanTask) -> Result<Option<Tree>, StoreFault>
+        ensures found { D.tells → IfOk result (IsOutput (work_folder task.now) (D.story self.old.disk).held) }
+        ensures short { IfOk result (λ found. IfSome found AreShort) }
+        ensures refused { IfErr result IsOutside }
+
+        // Whatever it answers.
+        ensures same { SameBooks self.old self.new }
+        ensures images { D.tells → Passes (D.story self.old.disk) (D.story self.new.disk) Same }
+        ensures cause { Counts (D.faults self.old.disk) (D.faults self.new.disk) (store_failed result) }
+    {
+        match output(alloc, &mut self.disk, task) {
+            Ok(found) => Ok(found),
+            Err(DiskFault::Failed) => Err(StoreFault::Disk),
+            Err(DiskFault::Memory) => Err(StoreFault::Memory),
+        }
+    }
+
+    /// Makes a task's work folder exactly what its shared state object holds, and stamps it. `false` exactly where the task's record isn't
+    /// stored or its object doesn't match; then nothing changes.
+    ///
+    /// `Collision` comes exactly where the row of the signature's name has another signature. After want of memory the stamp may be gone
+    /// and the work folder changed.
+    pub fn restore(
+        &mut self,
+        alloc: Global,
+        task: &PlanTask,
+        sig: &SigRecord,
+    ) -> Result<bool, StoreFault>
+        requires reach { 3600 ≤ D.reach }
+        requires place { HasPlace task.now }
+        requires sig { IsSpelled sig.now }
+        ensures restored { D.tells → IfOk result (λ found. MatchBool found (EachNow (D.story self.new.disk) (IsRestored (D.story self.old.disk).held self.old.rows (signed_by task.now sig.now))) (HasNoObject (D.story self.old.disk).held self.old.rows (signed_by task.now sig.now))) }
+        ensures unchanged { D.tells → IfOk result (λ found. OnFalse found (Passes (D.story self.old.disk) (D.story self.new.disk) Same)) }
+        ensures clear { OnOk result (IsClear self.old.rows (name_of sig.now) (signature_bytes sig.now)) }
+        ensures refused { IfErr result (IsClash self.old.rows (name_of sig.now) (signature_bytes sig.now)) }
+
+        // Whatever it answers.
+        ensures same { SameBooks self.old self.new }
+        ensures images { D.tells → Passes (D.story self.old.disk) (D.story self.new.disk) (Restores (D.story self.old.disk).held self.old.rows (signed_by task.now sig.now)) }
+        ensures others { D.tells → Passes (D.story self.old.disk) (D.story self.new.disk) (KeepsOthers (task_folder task.now) None (D.story self.old.disk).held) }
+        ensures cause { Counts (D.faults self.old.disk) (D.faults self.new.disk) (store_failed result) }
+    {
+        restore(alloc, &mut self.disk, &self.index, task, sig)
+    }
+
+    /// Puts what a task gave: its work folder becomes the tree, and for a task of the shared state so does the object of its unihash; its
+    /// record is stored, unless it is, and its stamp names the record. The answer is the task's unihash.
+    ///
+    /// `Collision` comes exactly where the row of the signature's name has another signature, `Unsteady` exactly where it has the
+    /// signature and another manifest; then nothing changes. After want of memory the stamp may be gone, the task's folders changed and
+    /// the record stored; the rows are as before, and the signature is kept, if the disk was touched. Unless the disk is as it was, the
+    /// task's record is one that can be read again.
+    pub fn publish(
+        &mut self,
+        alloc: Global,
+        task: &PlanTask,
+        sig: &SigRecord,
+        tree: &Tree,
+    ) -> Result<Hash, StoreFault>
+        requires reach { 3600 ≤ D.reach }
+        requires place { HasPlace task.now }
+        requires sig { IsSpelled sig.now }
+        requires named { IsSignatureOf task.now sig.now }
+        requires short { AreShort tree.now }
+        ensures unihash { IfOk result (λ unihash. unihash ≡ unihash_for self.old.rows (signed_by task.now sig.now) tree.now) }
+        ensures published { D.tells → OnOk result (EachNow (D.story self.new.disk) (IsPublished (publication self.old.rows (signed_by task.now sig.now) tree.now))) }
+        ensures agrees { OnOk result (IsAgreed self.old.rows (signed_by task.now sig.now) tree.now) }
+        ensures rows { OnOk result (self.new.rows ≡ rows_with self.old.rows (signed_by task.now sig.now) tree.now) }
+        ensures kept { OnOk result (self.new.kept ≡ kept_without (signed_by task.now sig.now) self.old.kept) }
+        ensures refused { IfErr result (IsRefusal self.old.rows (signed_by task.now sig.now) tree.now) }
+        ensures refused_rows { OnErr result (self.new.rows ≡ self.old.rows) }
+        ensures unchanged { IfErr result (λ fault. OnDifference fault (self.new ≡ self.old)) }
+        ensures wanting { IfErr result (λ fault. OnMemory fault (IsWanting self.old self.new (signed_by task.now sig.now))) }
+
+        // Whatever it answers.
+        ensures images { D.tells → Passes (D.story self.old.disk) (D.story self.new.disk) (Publishes (publication self.old.rows (signed_by task.now sig.now) tree.now)) }
+        ensures unwritten { D.tells → HoldsObject (D.story self.old.disk).held (object_for self.old.rows (signed_by task.now sig.now) tree.now) tree.now → Passes (D.story self.old.disk) (D.story self.new.disk) SameObjects }
+        ensures readable { IsReadable (line_for self.old.rows (signed_by task.now sig.now) tree.now) ⊎ (self.new.disk ≡ self.old.disk) }
+        ensures others { D.tells → Passes (D.story self.old.disk) (D.story self.new.disk) (KeepsOthers (task_folder task.now) (object_for self.old.rows (signed_by task.now sig.now) tree.now) (D.story self.old.disk).held) }
+        ensures cause { Counts (D.faults self.old.disk) (D.faults self.new.disk) (store_failed result) }
+    {
+        publish(
+            alloc,
+            &mut self.disk,
+            &mut self.index,
+            &mut self.kept,
+            task,
+            sig,
+            tree,
+        )
+    }
+
+    /// The unihash of the row of this name, if there is one. No memory.
+    pub fn unihash(&self, name: &Hash) -> Option<Hash>
+        ensures { result ≡ option_map (λ row. row.unihash) (row_at self.now.rows name.now) }
+    {
+        self.index.unihash_of(name)
+    }
+
+    /// The present moment of the disk, as far as a `u64` goes. No memory.
+    pub fn moment(&self) -> u64
+        ensures { D.tells → result ≡ min (moment_of (D.story self.now.disk)) (2 ^ 64 - 1) }
+    {
+        self.disk.moment()
+    }
+
+    /// The disk. No memory.
+    pub fn into_disk(self) -> D
+        ensures { result ≡ self.disk }
+    {
+        let Store {
+            disk,
+            index: _,
+            kept: _,
+        } = self;
+        disk
+    }
+}

@@ -1,0 +1,104 @@
+// Stores over disks in memory, and what they have of a sample.
+ghost use Rattle.std.specs.Prelude.{◌≡◌, ◌≤◌, IfOk, []};
+ghost use Rattle.outside_mem.specs.Told.{story_of};
+ghost use Rattle.outside_traits.specs.Story.{IsFresh};
+ghost use Rattle.store_tests.specs.Samples.{IsSample};
+
+use crate::samples::Sample;
+use build_store::{Store, open_store};
+use meta_model::Avail;
+use outside_mem::MemDisk;
+use outside_traits::Disk;
+use std::alloc::Global;
+use std::test::Fail;
+use tree_model::{manifest_of, matches};
+
+/// A disk that holds nothing.
+pub fn empty(alloc: Global) -> Result<MemDisk, Fail>
+    ensures { IfOk result (λ disk. IsFresh (story_of disk)) }
+{
+    match MemDisk::new(alloc, Vec::new(alloc)) {
+        Ok(disk) => Ok(disk),
+        Err(_) => Err(Fail::from("no disk")),
+    }
+}
+
+/// The store that a disk holds.
+pub fn opened(alloc: Global, disk: MemDisk) -> Result<Store<MemDisk>, Fail>
+    requires { IsFresh (story_of disk) }
+    ensures { IfOk result (λ store. store.kept ≡ []) }
+{
+    match open_store(alloc, disk) {
+        Ok(store) => Ok(store),
+        Err(_) => Err(Fail::from("not opened")),
+    }
+}
+
+/// Opens a disk and publishes the sample there: the disk behind it, and whether that was answered with `Ok`.
+pub fn publish_over<D: Disk>(alloc: Global, disk: D, sample: &Sample) -> (D, bool)
+    requires reach { 3600 ≤ D.reach }
+    requires fresh { D.tells → IsFresh (D.story disk) }
+    requires sample { IsSample sample.now.task sample.now.sig sample.now.tree }
+{
+    match open_store(alloc, disk) {
+        Ok(store) => {
+            let mut store = store;
+            let done = store.publish(alloc, &sample.task, &sample.sig, &sample.tree);
+            (store.into_disk(), done.is_ok())
+        }
+        Err(refused) => (refused.disk, false),
+    }
+}
+
+/// How the sample's output is there.
+pub fn there(
+    alloc: Global,
+    store: &mut Store<MemDisk>,
+    sample: &Sample,
+    setscene: bool,
+) -> Option<Avail> {
+    store
+        .available(alloc, &sample.task, &sample.sig, setscene)
+        .ok()
+}
+
+/// Whether the sample's work folder holds its tree.
+fn has_output(alloc: Global, store: &mut Store<MemDisk>, sample: &Sample) -> bool {
+    match (
+        manifest_of(alloc, &sample.tree),
+        store.output(alloc, &sample.task),
+    ) {
+        (Ok(manifest), Ok(Some(tree))) => matches(&tree, &manifest),
+        _ => false,
+    }
+}
+
+/// Whether the sample is there by its work folder, which holds its tree.
+pub fn is_there(alloc: Global, store: &mut Store<MemDisk>, sample: &Sample) -> bool {
+    there(alloc, store, sample, false) == Some(Avail::Work) && has_output(alloc, store, sample)
+}
+
+/// Whether the sample is missing, and there is no object to restore.
+pub fn is_nowhere(alloc: Global, store: &mut Store<MemDisk>, sample: &Sample) -> bool
+    requires { IsSample sample.now.task sample.now.sig sample.now.tree }
+{
+    there(alloc, store, sample, true) == Some(Avail::Missing)
+        && is_restored(alloc, store, sample) == Some(false)
+}
+
+/// What restoring the sample answers.
+pub fn is_restored(alloc: Global, store: &mut Store<MemDisk>, sample: &Sample) -> Option<bool>
+    requires { IsSample sample.now.task sample.now.sig sample.now.tree }
+{
+    store.restore(alloc, &sample.task, &sample.sig).ok()
+}
+
+/// Whether what the store tells of the sample is so: its work folder holds its tree, or it is missing.
+pub fn is_honest(alloc: Global, store: &mut Store<MemDisk>, sample: &Sample) -> bool {
+    match there(alloc, store, sample, false) {
+        Some(Avail::Work) => has_output(alloc, store, sample),
+        Some(Avail::Missing) => true,
+        Some(Avail::Object) => false,
+        None => false,
+    }
+}

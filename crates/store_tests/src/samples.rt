@@ -1,0 +1,108 @@
+// Tasks with their signatures and outputs.
+ghost use Rattle.std.specs.Prelude.{◌≡◌, ◌≤◌, All, IfOk, IsTrue, length};
+ghost use Rattle.store_model.specs.Spelled.{IsSpelled};
+ghost use Rattle.build_store.specs.Paths.{IsOnePart};
+ghost use Rattle.build_store.specs.View.{IsSignatureOf};
+ghost use Rattle.store_tests.specs.Samples.{HasSigPlace, IsSample};
+
+use meta_model::{Key, ListOf, PlanTask, TaskId};
+use sig_gen::decode;
+use std::alloc::Global;
+use std::test::Fail;
+use store_model::SigRecord;
+use tree_model::{Bytes, Entry, Mem, Text, Tree};
+
+/// A signature: one task's body, no files, nothing needed.
+pub const HELLO: &[u8] =
+    b"6:bbsig1,5:hello,8:do_build,1;8:do_build,+27:    echo hello > hello.txt\n,0;1;4:func,1:1,0;0;";
+
+/// That of a task of the same recipe.
+pub const MORE: &[u8] = b"6:bbsig1,5:hello,7:do_more,0;0;0;";
+
+/// A task, its signature, and what it gave.
+#[derive(Drop)]
+pub struct Sample {
+    pub task: PlanTask,
+    pub sig: SigRecord,
+    pub tree: Tree,
+}
+
+/// A file.
+pub fn file(alloc: Global, path: &str, bytes: &[u8]) -> Result<(Text, Entry), Mem> {
+    let path = Text::from_str(alloc, path)?;
+    let bytes = Bytes::from_slice(alloc, bytes)?;
+    Ok((path, Entry::File { exec: false, bytes }))
+}
+
+/// Whether the text is this one.
+fn is_text(text: &Text, one: &str) -> bool
+    requires { IsOnePart one.now }
+    ensures { IsTrue result → IsOnePart text.now }
+{
+    text.as_str() == one
+}
+
+/// Whether the signature is of one of the samples' tasks.
+fn has_place(sig: &SigRecord) -> bool
+    ensures { IsTrue result → HasSigPlace sig.now }
+{
+    is_text(&sig.pn, "hello") && (is_text(&sig.task, "do_build") || is_text(&sig.task, "do_more"))
+}
+
+/// Whether no path of the tree is long.
+fn are_short(tree: &Tree) -> bool
+    ensures { IsTrue result → All (λ e. length e.0 ≤ 3072) tree.now }
+{
+    tree.entries()
+        .iter()
+        .all(|entry| entry.0.as_str().len() <= 3072)
+}
+
+/// A task of the signature's PN and name, whose output is kept as a shared state object.
+fn task_of(alloc: Global, sig: &SigRecord) -> Result<PlanTask, Mem>
+    ensures { IfOk result (λ task. IsSignatureOf task sig.now) }
+{
+    Ok(PlanTask {
+        id: TaskId {
+            mc: Text::new(alloc),
+            pn: sig.pn.copy()?,
+            task: sig.task.copy()?,
+        },
+        deps: ListOf::new(alloc),
+        depth: 0,
+        key: Key {
+            lines: ListOf::new(alloc),
+            excluded: false,
+        },
+        files: Tree::empty(alloc),
+        script: Text::new(alloc),
+        nostamp: false,
+        sstate: true,
+        places: ListOf::new(alloc),
+    })
+}
+
+/// A sample of a signature and a tree.
+fn sample_of(alloc: Global, sig: SigRecord, tree: Tree) -> Result<Sample, Fail>
+    requires { IsSpelled sig }
+    ensures { IfOk result (λ made. IsSample made.task made.sig made.tree) }
+{
+    if !has_place(&sig) || !are_short(&tree) {
+        return Err(Fail::from("no sample"));
+    }
+    let task = task_of(alloc, &sig)?;
+    Ok(Sample { task, sig, tree })
+}
+
+/// A task of this signature, which gave one file.
+pub fn sample_from(alloc: Global, sig: &[u8], path: &str, text: &[u8]) -> Result<Sample, Fail>
+    ensures { IfOk result (λ made. IsSample made.task made.sig made.tree) }
+{
+    let mut files = Vec::new(alloc);
+    files.push(file(alloc, path, text)?)?;
+    let tree = Tree::from_entries(files)?;
+    match decode(alloc, sig) {
+        Ok(sig) => sample_of(alloc, sig, tree),
+        Err(_) => Err(Fail::from("no signature")),
+    }
+}
