@@ -1,19 +1,20 @@
 -- Paths round a folder, and what is held there.
 use Rattle.std.proofs.Common.{◌≡◌, ◌⊎◌, inl, inr, ⊎_elim, ℕ, ◌+◌, ◌<◌, List, [], ◌∷◌, ◌++◌, length, get_or, Some, None, Result, refl, sym, ◌∙◌, ap, subst, arith, append_assoc, length-append}
-use Rattle.std.specs.Prelude.{IsSome}
+use Rattle.std.specs.Prelude.{IsSome, Option}
+use Rattle.std.specs.Option.{is_some}
 use Rattle.std.proofs.lemmas.List.{get_or_default}
-use Rattle.std.proofs.lemmas.Bool.{cases_eq}
+use Rattle.std.proofs.lemmas.Bool.{cases_eq, false≢true}
 use Rattle.tree_model.specs.declared.entry.Entry.{Entry}
 use Rattle.outside_traits.specs.declared.fault.DiskFault.{DiskFault}
 use Rattle.tree_model.specs.Path.{IsBelow, inside}
 use Rattle.tree_model.specs.Tree.{IsTree}
-use Rattle.outside_traits.specs.Store.{Store, IsFree, IsApart, AgreesApart, IsOpen, ChangesAt}
+use Rattle.outside_traits.specs.Store.{Store, IsFree, IsApart, IsAround, AgreesApart, AgreesRound, IsOpen, ChangesAt}
 use Rattle.outside_traits.specs.Story.{Story}
 use Rattle.outside_traits.specs.Answers.{Lists, Writes, Removes}
-use Rattle.outside_traits.specs.Passes.{Passes}
+use Rattle.outside_traits.specs.Passes.{Clears, Passes}
 use Rattle.outside_traits.proofs.Puts.{path_cases}
-use Rattle.outside_traits.proofs.Runs.{passes_none, passes_so, passes_again}
-use Rattle.outside_traits.proofs.Calls.{then_same, lists_passes, writes_passes, removes_passes}
+use Rattle.outside_traits.proofs.Runs.{passes_none, passes_so, passes_then}
+use Rattle.outside_traits.proofs.Calls.{then_same, same_so, lists_passes, writes_passes, removes_passes}
 use Rattle.outside_traits.proofs.Held.{none_unless}
 use Rattle.outside_traits.proofs.Laid.{HoldsFirst, tree_distinct, tree_level}
 
@@ -36,14 +37,29 @@ pub under_same : (folder p q : List ℕ) → inside folder p ≡ inside folder q
 under_same [] p q same = cc
 under_same (f ∷ folder) p q same = under_same folder p q cc
 
-pub AgreesApart-same : (folder : List ℕ) (i : Store) → AgreesApart folder i i
-AgreesApart-same folder i = record { apart = λ q far. refl }
+pub AgreesRound-same : (folder : List ℕ) (h i : Store) → AgreesRound folder h i i
+AgreesRound-same folder h i = record { apart = λ q far. refl; around = λ q near none. refl }
 
-pub AgreesApart-joins : (folder : List ℕ) (i j k : Store) → AgreesApart folder i j → AgreesApart folder j k → AgreesApart folder i k
-AgreesApart-joins folder i j k first second = record { apart = λ q far. second.apart q far ∙ first.apart q far }
+-- where all that is held round a folder stays, what stands apart from it stays
+pub apart_of_round : (folder : List ℕ) (h i j : Store) → AgreesRound folder h i j → AgreesApart folder i j
+apart_of_round folder h i j round = record { apart = round.apart }
 
-pub AgreesApart-changes : (folder p : List ℕ) (i j : Store) → (IsApart folder p → ⊥) → ChangesAt p i j → AgreesApart folder i j
-AgreesApart-changes folder p i j near change = record { apart = λ q far. change.others q (λ same. near (subst (IsApart folder) same far)) }
+not_below_itself : (q : List ℕ) → IsBelow q q → ⊥
+not_below_itself q itself = let e = ap length itself.1 ∙ length-append q (47 ∷ itself.0) in omega arith
+
+not_both : (p q : List ℕ) → IsBelow p q → IsBelow q p → ⊥
+not_both p q down up = let e = ap length down.1 ∙ length-append p (47 ∷ down.0) in let f = ap length up.1 ∙ length-append q (47 ∷ up.0) in omega arith
+
+-- what stands under a folder is neither the folder nor above it
+not_around : (folder p q : List ℕ) → IsBelow folder p → IsAround folder q → q ≡ p → ⊥
+not_around folder p q below (inl at) same = not_below_itself folder (subst (λ (x : List ℕ). IsBelow folder x) (sym same ∙ at) below)
+not_around folder p q below (inr up) same = not_both folder p below (subst (λ (x : List ℕ). IsBelow x folder) same up)
+
+AgreesRound-changes : (folder p : List ℕ) (h i j : Store) → IsBelow folder p → ChangesAt p i j → AgreesRound folder h i j
+AgreesRound-changes folder p h i j below change = record {
+  apart = λ q far. change.others q (λ same. far.not_under (subst (λ (x : List ℕ). IsBelow folder x) (sym same) below));
+  around = λ q near none. change.others q (not_around folder p q below near);
+}
 
 pub near_folder : (folder : List ℕ) → IsApart folder folder → ⊥
 near_folder folder far = far.not_folder refl
@@ -51,24 +67,44 @@ near_folder folder far = far.not_folder refl
 pub near_above : (folder p : List ℕ) → IsBelow p folder → IsApart folder p → ⊥
 near_above folder p below far = far.not_above below
 
-pub near_under : (folder p : List ℕ) → IsBelow folder p → IsApart folder p → ⊥
-near_under folder p below far = far.not_under below
-
--- a run that changes nothing apart from the folder
+-- a run that changes nothing apart from the folder, and nothing above it where nothing was held
 abbrev pub Stays : List ℕ → Story → Story → Type 0
-Stays folder a b = Passes a b (AgreesApart folder)
+Stays folder a b = Passes a b (AgreesRound folder a.held)
 
 pub stays_none : (folder : List ℕ) (a : Story) → Stays folder a a
-stays_none folder a = passes_none a (AgreesApart folder) (AgreesApart-same folder)
+stays_none folder a = passes_none a (AgreesRound folder a.held) (AgreesRound-same folder a.held)
 
 pub stays_again : (folder : List ℕ) {a b c : Story} → Stays folder a b → Stays folder b c → Stays folder a c
-stays_again folder first second = passes_again (AgreesApart-joins folder) first second
+stays_again folder {a} {b} {c} first second = passes_then (AgreesRound folder a.held) first second (λ i j r. r)
+    (λ i j k r s. record {
+      apart = λ q far. s.apart q far ∙ r.apart q far;
+      around = λ q near none. s.around q near (first.held.around q near none ∙ none) ∙ r.around q near none;
+    })
 
-pub stays_removes : {folder p : List ℕ} {a b c : Story} {T : Type 0} {r : Result T DiskFault} → (IsApart folder p → ⊥) → Stays folder a b → Removes p b c r → Stays folder a c
-stays_removes {folder} {p} near run did = stays_again folder run (passes_so (AgreesApart folder) (removes_passes did) (λ i j change. AgreesApart-changes folder p i j near change))
+-- what stands apart stays
+pub stays_apart : (folder : List ℕ) {a b : Story} → Stays folder a b → Passes a b (AgreesApart folder)
+stays_apart folder {a} run = passes_so (AgreesApart folder) run (apart_of_round folder a.held)
 
-pub stays_writes : {folder p : List ℕ} {e : Entry} {a b c : Story} {T : Type 0} {r : Result T DiskFault} → (IsApart folder p → ⊥) → Stays folder a b → Writes p e b c r → Stays folder a c
-stays_writes {folder} {p} near run did = stays_again folder run (passes_so (AgreesApart folder) (writes_passes did) (λ i j change. AgreesApart-changes folder p i j near change))
+pub some_none : {o : Option Entry} (e : Entry) → o ≡ Some e → o ≡ None → ⊥
+some_none e some none = false≢true (sym (ap is_some none) ∙ ap is_some some)
+
+-- what the path held was removed, at the folder or above it
+cleared : {folder p : List ℕ} {b c : Story} {T : Type 0} {r : Result T DiskFault} (o : Option Entry) → b.held p ≡ o → (IsApart folder p → ⊥) → Clears p b c r → Stays folder b c
+cleared {folder} {p} {b} {c} None is near did = same_so (AgreesRound folder b.held) (AgreesRound-same folder b.held) (did.untouched is)
+cleared {folder} {p} {b} {c} (Some e) is near did = passes_so (AgreesRound folder b.held) did.changes
+    (λ i j change. record {
+      apart = λ q far. change.others q (λ same. near (subst (IsApart folder) same far));
+      around = λ q round none. change.others q (λ same. some_none e is (ap b.held (sym same) ∙ none));
+    })
+
+pub stays_clears : {folder p : List ℕ} {a b c : Story} {T : Type 0} {r : Result T DiskFault} → (IsApart folder p → ⊥) → Stays folder a b → Clears p b c r → Stays folder a c
+stays_clears {folder} {p} {a} {b} near run did = stays_again folder run (cleared (b.held p) refl near did)
+
+pub stays_removes : {folder p : List ℕ} {a b c : Story} {T : Type 0} {r : Result T DiskFault} → IsBelow folder p → Stays folder a b → Removes p b c r → Stays folder a c
+stays_removes {folder} {p} {a} {b} below run did = stays_again folder run (passes_so (AgreesRound folder b.held) (removes_passes did) (λ i j change. AgreesRound-changes folder p b.held i j below change))
+
+pub stays_writes : {folder p : List ℕ} {e : Entry} {a b c : Story} {T : Type 0} {r : Result T DiskFault} → IsBelow folder p → Stays folder a b → Writes p e b c r → Stays folder a c
+stays_writes {folder} {p} {a = a} {b = b} below run did = stays_again folder run (passes_so (AgreesRound folder b.held) (writes_passes did) (λ i j change. AgreesRound-changes folder p b.held i j below change))
 
 pub stays_lists : {folder p : List ℕ} {a b c : Story} {r : Result (List (List ℕ)) DiskFault} → Stays folder a b → Lists p b c r → Stays folder a c
 stays_lists run did = then_same run (lists_passes did)
@@ -76,15 +112,9 @@ stays_lists run did = then_same run (lists_passes did)
 -- a folder that is open stays so, where nothing comes to stand at it or above it
 pub open_changes : (folder p : List ℕ) (i j : Store) → IsBelow folder p → ChangesAt p i j → IsOpen folder i → IsOpen folder j
 open_changes folder p i j below change was = record {
-  at = change.others folder (λ same. not_below_itself p (subst (λ (f : List ℕ). IsBelow f p) same below)) ∙ was.at;
-  above = λ q up. change.others q (λ same. not_both (subst (λ (f : List ℕ). IsBelow f folder) same up)) ∙ was.above q up;
+  at = change.others folder (not_around folder p folder below (inl refl)) ∙ was.at;
+  above = λ q up. change.others q (not_around folder p q below (inr up)) ∙ was.above q up;
 }
-  where
-    not_below_itself : (q : List ℕ) → IsBelow q q → ⊥
-    not_below_itself q itself = let e = ap length itself.1 ∙ length-append q (47 ∷ itself.0) in omega arith
-
-    not_both : IsBelow p folder → ⊥
-    not_both up = let e = ap length below.1 ∙ length-append folder (47 ∷ below.0) in let f = ap length up.1 ∙ length-append p (47 ∷ up.0) in omega arith
 
 module _ (folder : List ℕ) (tree : List (List ℕ × Entry)) (n : ℕ) (fits : n < length tree) (is_tree : IsTree tree) (h : Store) (first : HoldsFirst n folder tree h) (open_at : IsOpen folder h) (item : List ℕ × Entry) (is_item : item ≡ get_or tree n item) where
   not_first : (q : List ℕ) → ((k : ℕ) → k < n → (get_or tree k item).0 ≡ q → ⊥) → h (inside folder q) ≡ None

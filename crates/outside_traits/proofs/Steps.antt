@@ -1,6 +1,6 @@
 -- The loops of `put_tree`, step by step.
-use Rattle.std.proofs.Common.{◌≡◌, ◌≢◌, inl, inr, ℕ, ◌+◌, ◌<◌, ◌≤◌, List, [], ◌∷◌, ◌++◌, length, get_or, take, drop, None, Result, Ok, refl, sym, ◌∙◌, ap, subst, arith, append_assoc, length-append, take-append-drop}
-use Rattle.std.specs.Prelude.{IsSome}
+use Rattle.std.proofs.Common.{◌≡◌, ◌≢◌, inl, inr, ℕ, ◌+◌, ◌<◌, ◌≤◌, List, [], ◌∷◌, ◌++◌, length, get_or, take, drop, None, Result, Ok, Err, Some, refl, sym, ◌∙◌, ap, subst, arith, append_assoc, length-append, take-append-drop}
+use Rattle.std.specs.Prelude.{IsSome, OnOk}
 use Rattle.std.proofs.lemmas.List.{get_or_default, take_at, drop_more}
 use Rattle.std.proofs.Math.Seq.{get_or-append_seam}
 use Rattle.std.proofs.lemmas.Bool.{cases_eq, false≢true}
@@ -9,12 +9,15 @@ use Rattle.tree_model.specs.declared.entry.Entry.{Entry}
 use Rattle.outside_traits.specs.declared.fault.DiskFault.{DiskFault}
 use Rattle.tree_model.specs.Path.{IsBelow, inside}
 use Rattle.tree_model.specs.Tree.{IsTree}
-use Rattle.outside_traits.specs.Store.{Store, IsListing, IsFree, IsOpen, HoldsTree}
+use Rattle.outside_traits.specs.Store.{Store, ChangesAt, IsListing, IsFree, IsOpen, HoldsTree}
 use Rattle.outside_traits.proofs.Laid.{HoldsFirst, holds_tree}
 use Rattle.outside_traits.specs.Story.{Story}
-use Rattle.outside_traits.specs.Answers.{Lists, Writes, Removes}
+use Rattle.outside_traits.specs.Answers.{Lists, Reads, Writes, Removes}
+use Rattle.outside_traits.specs.Passes.{Clears}
+use Rattle.outside_traits.proofs.Puts.{path_cases}
+use Rattle.outside_traits.proofs.Calls.{ChangesAt-same, reads_passes, removes_passes, same_so, same_then}
 use Rattle.outside_traits.proofs.Held.{removes_others, writes_others, removes_ok, writes_ok, removed_none, removed_some, lists_held, none_unless}
-use Rattle.outside_traits.proofs.Folders.{Stays, stays_none, stays_removes, stays_writes, stays_lists, near_folder, near_above, near_under, open_changes, next_free, next_held}
+use Rattle.outside_traits.proofs.Folders.{Stays, stays_none, stays_clears, stays_removes, stays_writes, stays_lists, near_folder, near_above, open_changes, some_none, next_free, next_held}
 
 -- the folder and the paths above it that are shorter than n are clear
 pub record Clearing (folder : List ℕ) (n : ℕ) (a b : Story) : Type 0 where
@@ -22,10 +25,17 @@ pub record Clearing (folder : List ℕ) (n : ℕ) (a b : Story) : Type 0 where
   pub at : b.held folder ≡ None
   pub above : (k : ℕ) → k < n → get_or folder k 0 ≡ 47 → b.held (take k folder) ≡ None
 
-pub clearing_start : {folder : List ℕ} {a b : Story} {T : Type 0} {v : T} → Removes folder a b (Ok v) → Clearing folder 0 a b
+-- what isn't held stays so where a path is cleared
+cleared_none : {p : List ℕ} {a b : Story} {T : Type 0} {v : T} (q : List ℕ) → Clears p a b (Ok v) → a.held q ≡ None → b.held q ≡ None
+cleared_none {p} {a} {b} q did none = elim (path_cases q p) [
+  | inl same ↦ ap b.held same ∙ did.gone
+  | inr ne ↦ did.changes.held.others q ne ∙ none
+]
+
+pub clearing_start : {folder : List ℕ} {a b : Story} {T : Type 0} {v : T} → Clears folder a b (Ok v) → Clearing folder 0 a b
 clearing_start {folder} {a} did = record {
-  stays = stays_removes (near_folder folder) (stays_none folder a) did;
-  at = removes_ok did;
+  stays = stays_clears (near_folder folder) (stays_none folder a) did;
+  at = did.gone;
   above = λ k lt is. absurd (omega arith);
 }
 
@@ -36,21 +46,21 @@ split_at folder n lt is = (
 )
 
 pub clearing_stays : {folder p : List ℕ} {n : ℕ} {a b c : Story} {T : Type 0} {r : Result T DiskFault} → n < length folder → get_or folder n 0 ≡ 47 → p ≡ take n folder
-    → Clearing folder n a b → Removes p b c r → Stays folder a c
-clearing_stays {folder} {p} {n} lt is p_is so_far did = stays_removes (near_above folder p (subst (λ (q : List ℕ). IsBelow q folder) (sym p_is) (split_at folder n lt is))) so_far.stays did
+    → Clearing folder n a b → Clears p b c r → Stays folder a c
+clearing_stays {folder} {p} {n} lt is p_is so_far did = stays_clears (near_above folder p (subst (λ (q : List ℕ). IsBelow q folder) (sym p_is) (split_at folder n lt is))) so_far.stays did
 
 pub clearing_more : {folder p : List ℕ} {n : ℕ} {a b c : Story} {T : Type 0} {v : T} → n < length folder → get_or folder n 0 ≡ 47 → p ≡ take n folder
-    → Clearing folder n a b → Removes p b c (Ok v) → Clearing folder (n + 1) a c
+    → Clearing folder n a b → Clears p b c (Ok v) → Clearing folder (n + 1) a c
 clearing_more {folder} {p} {n} {a} {b} {c} lt is p_is so_far did = record {
   stays = clearing_stays lt is p_is so_far did;
-  at = removed_none folder did so_far.at;
+  at = cleared_none folder did so_far.at;
   above = above;
 }
   where
     above : (k : ℕ) → k < n + 1 → get_or folder k 0 ≡ 47 → c.held (take k folder) ≡ None
     above k less at_k = elim (cases_eq k n) [
-      | inl same ↦ ap (λ (m : ℕ). c.held (take m folder)) same ∙ ap c.held (sym p_is) ∙ removes_ok did
-      | inr other ↦ removed_none (take k folder) did (so_far.above k (omega arith) at_k)
+      | inl same ↦ ap (λ (m : ℕ). c.held (take m folder)) same ∙ ap c.held (sym p_is) ∙ did.gone
+      | inr other ↦ cleared_none (take k folder) did (so_far.above k (omega arith) at_k)
     ]
 
 pub clearing_skips : {folder : List ℕ} {n : ℕ} {a b : Story} → get_or folder n 0 ≢ 47 → Clearing folder n a b → Clearing folder (n + 1) a b
@@ -88,7 +98,7 @@ emptying_start {folder} {prefix} {paths} {a} {b} was did = record {
 }
 
 pub emptying_stays : {folder p : List ℕ} {paths : List (List ℕ)} {n : ℕ} {a b c : Story} {T : Type 0} {r : Result T DiskFault} → IsBelow folder p → Emptying folder paths n a b → Removes p b c r → Stays folder a c × IsOpen folder c.held
-emptying_stays {folder} {p} {paths} {n} {a} {b} {c} below so_far did = (stays_removes (near_under folder p below) so_far.stays did, open_changes folder p b.held c.held below (removes_others did) so_far.open_at)
+emptying_stays {folder} {p} {paths} {n} {a} {b} {c} below so_far did = (stays_removes below so_far.stays did, open_changes folder p b.held c.held below (removes_others did) so_far.open_at)
 
 pub emptying_more : {folder p : List ℕ} {paths : List (List ℕ)} {n : ℕ} {a b c : Story} {T : Type 0} {v : T} → IsBelow folder p → p ≡ get_or paths n [] → Emptying folder paths (n + 1) a b → Removes p b c (Ok v) → Emptying folder paths n a c
 emptying_more {folder} {p} {paths} {n} {a} {b} {c} below is so_far did = record {
@@ -138,7 +148,7 @@ below_under : (folder p : List ℕ) → IsBelow folder (inside folder p)
 below_under folder p = (p, refl)
 
 pub filling_stays : (folder p : List ℕ) {tree : List (List ℕ × Entry)} {n : ℕ} {a b c : Story} {e : Entry} {T : Type 0} {r : Result T DiskFault} → Filling folder tree n a b → Writes (inside folder p) e b c r → Stays folder a c
-filling_stays folder p so_far did = stays_writes (near_under folder (inside folder p) (below_under folder p)) so_far.stays did
+filling_stays folder p so_far did = stays_writes (below_under folder p) so_far.stays did
 
 pub filling_free : {folder : List ℕ} {tree : List (List ℕ × Entry)} {n : ℕ} {a b : Story} (item : List ℕ × Entry) → n < length tree → IsTree tree → item ≡ get_or tree n item → Filling folder tree n a b → IsFree b.held (inside folder item.0)
 filling_free {folder} {tree} {n} {a} {b} item fits is_tree is_item so_far = next_free folder tree n fits is_tree b.held so_far.first so_far.open_at item is_item
@@ -153,3 +163,23 @@ filling_more {folder} {tree} {n} {a} {b} {c} item fits is_tree is_item so_far di
 
 pub filling_end : {folder : List ℕ} {tree : List (List ℕ × Entry)} {a b : Story} (n : ℕ) → n ≡ length tree → IsTree tree → Filling folder tree n a b → HoldsTree folder tree b.held
 filling_end {folder} {tree} {a} {b} n all is_tree so_far = holds_tree folder tree b.held is_tree (subst (λ (m : ℕ). HoldsFirst m folder tree b.held) all so_far.first) so_far.open_at
+
+-- nothing was held at the path
+pub clears_nothing : {p : List ℕ} {a b : Story} → Reads p a b (Ok None) → Clears p a b {T = Unit {0}} (Ok (tt {0}))
+clears_nothing {p} {a} {b} did = record {
+  changes = same_so (ChangesAt p) (ChangesAt-same p) (reads_passes did);
+  untouched = λ none. reads_passes did;
+  gone = ap (λ (s : Story). s.held p) did.answers.1 ∙ sym did.answers.0;
+}
+
+-- what was held at it was removed
+pub clears_held : {p : List ℕ} {a b c : Story} {e : Entry} (r : Result (Unit {0}) DiskFault) → Reads p a b (Ok (Some e)) → Removes p b c r → Clears p a c r
+clears_held {p} {a} {b} {c} {e} r looked did = record {
+  changes = same_then (ChangesAt-same p) (reads_passes looked) (removes_passes did);
+  untouched = λ none. absurd (some_none e (sym looked.answers.0) none);
+  gone = gone r did;
+}
+  where
+    gone : (q : Result (Unit {0}) DiskFault) → Removes p b c q → OnOk q (c.held p ≡ None)
+    gone (Ok v) d = removes_ok d
+    gone (Err f) d = tt

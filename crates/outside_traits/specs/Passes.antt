@@ -1,6 +1,7 @@
 -- What any run of calls did to a disk, whatever the calls answered.
-use Rattle.std.specs.Prelude.{◌≡◌, ◌⊎◌, ◌≤◌, ℕ}
-use Rattle.outside_traits.specs.Store.{Store}
+use Rattle.std.specs.Prelude.{◌≡◌, ◌⊎◌, ◌≤◌, ℕ, List, None, Result, OnOk}
+use Rattle.outside_traits.specs.declared.fault.DiskFault.{DiskFault}
+use Rattle.outside_traits.specs.Store.{Store, ChangesAt}
 use Rattle.outside_traits.specs.Story.{Story, moment, IsImage, IsImageSince}
 
 -- nothing changes
@@ -25,3 +26,9 @@ EachSince old new R = (image : Store) → IsImageSince new (moment old) image �
 -- each image now has the property
 abbrev pub EachNow : Story → (Store → Type 0) → Type 0
 EachNow story P = (image : Store) → IsImage story image → P image
+
+-- What a path holds was removed. Where it held nothing it wasn't touched.
+pub record Clears (p : List ℕ) (old new : Story) {T : Type 0} (result : Result T DiskFault) : Type 0 where
+  pub changes : Passes old new (ChangesAt p)
+  pub untouched : old.held p ≡ None → Passes old new Same
+  pub gone : OnOk result (new.held p ≡ None)

@@ -55,6 +55,16 @@ pub record IsApart (folder q : List ℕ) : Type 0 where
 pub record AgreesApart (folder : List ℕ) (old new : Store) : Type 0 where
   pub apart : (q : List ℕ) → IsApart folder q → new q ≡ old q
 
+-- the path is the folder or above it
+abbrev pub IsAround : List ℕ → List ℕ → Type 0
+IsAround folder q = (q ≡ folder) ⊎ IsBelow q folder
+
+-- The stores agree apart from the folder, and besides on the folder's path and those above it at which this store holds nothing: where
+-- nothing is in the way of a folder nothing is removed.
+pub record AgreesRound (folder : List ℕ) (held old new : Store) : Type 0 where
+  pub apart : (q : List ℕ) → IsApart folder q → new q ≡ old q
+  pub around : (q : List ℕ) → IsAround folder q → held q ≡ None → new q ≡ old q
+
 -- nothing is held at the folder or above it
 pub record IsOpen (folder : List ℕ) (held : Store) : Type 0 where
   pub at : held folder ≡ None

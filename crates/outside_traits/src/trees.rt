@@ -2,8 +2,8 @@
 ghost use Rattle.std.specs.Prelude.{◌≡◌, ◌≤◌, ℕ, List, None, length, All, OnOk, IfOk};
 ghost use Rattle.tree_model.specs.Path.{IsClean, inside};
 ghost use Rattle.tree_model.specs.Tree.{IsTree};
-ghost use Rattle.outside_traits.specs.Store.{AgreesApart, HoldsTree, IsOpen};
-ghost use Rattle.outside_traits.specs.Passes.{Passes};
+ghost use Rattle.outside_traits.specs.Store.{AgreesApart, AgreesRound, HoldsTree, IsOpen};
+ghost use Rattle.outside_traits.specs.Passes.{Clears, Passes};
 ghost use Rattle.outside_traits.specs.Fault.{Counts, disk_failed};
 
 use crate::{Disk, DiskFault};
@@ -27,24 +27,36 @@ pub fn put_tree<D: Disk>(
 
     // Whatever it answers.
     ensures others { D.tells → Passes (D.story disk.old) (D.story disk.new) (AgreesApart folder.now) }
+    ensures round { D.tells → Passes (D.story disk.old) (D.story disk.new) (AgreesRound folder.now (D.story disk.old).held) }
     ensures cause { Counts (D.faults disk.old) (D.faults disk.new) (disk_failed result) }
 {
-    clear_above(disk, folder)?;
+    clear_above(alloc, disk, folder)?;
     clear_under(alloc, disk, folder)?;
     fill(alloc, disk, folder, tree.entries())
 }
 
-/// Removes what stands at the folder or above it.
-fn clear_above<D: Disk>(disk: &mut D, folder: &str) -> Result<(), DiskFault>
-    ensures open { D.tells → OnOk result (IsOpen folder.now (D.story disk.new).held) }
-    ensures others { D.tells → Passes (D.story disk.old) (D.story disk.new) (AgreesApart folder.now) }
+/// Removes what the path holds. Where it holds nothing it isn't touched: after a crash a removed path may hold anything.
+fn clear_at<D: Disk>(alloc: Global, disk: &mut D, path: &str) -> Result<(), DiskFault>
+    ensures clears { D.tells → Clears path.now (D.story disk.old) (D.story disk.new) result }
     ensures cause { Counts (D.faults disk.old) (D.faults disk.new) (disk_failed result) }
 {
-    disk.remove(folder)?;
+    match disk.read(alloc, path)? {
+        Some(_) => disk.remove(path),
+        None => Ok(()),
+    }
+}
+
+/// Removes what stands at the folder or above it.
+fn clear_above<D: Disk>(alloc: Global, disk: &mut D, folder: &str) -> Result<(), DiskFault>
+    ensures open { D.tells → OnOk result (IsOpen folder.now (D.story disk.new).held) }
+    ensures round { D.tells → Passes (D.story disk.old) (D.story disk.new) (AgreesRound folder.now (D.story disk.old).held) }
+    ensures cause { Counts (D.faults disk.old) (D.faults disk.new) (disk_failed result) }
+{
+    clear_at(alloc, disk, folder)?;
     let bytes = folder.as_bytes();
     for i in 0..bytes.len() {
         if bytes[i] == b'/' {
-            disk.remove(&folder[..i])?;
+            clear_at(alloc, disk, &folder[..i])?;
         }
     }
     Ok(())
@@ -55,7 +67,7 @@ fn clear_under<D: Disk>(alloc: Global, disk: &mut D, folder: &str) -> Result<(),
     requires { D.tells → IsOpen folder.now (D.story disk.old).held }
     ensures open { D.tells → IsOpen folder.now (D.story disk.new).held }
     ensures under { D.tells → OnOk result ((q : List ℕ) → (D.story disk.new).held (inside folder.now q) ≡ None) }
-    ensures others { D.tells → Passes (D.story disk.old) (D.story disk.new) (AgreesApart folder.now) }
+    ensures round { D.tells → Passes (D.story disk.old) (D.story disk.new) (AgreesRound folder.now (D.story disk.old).held) }
     ensures cause { Counts (D.faults disk.old) (D.faults disk.new) (disk_failed result) }
 {
     let prefix = joined(alloc, folder, "")?;
@@ -81,7 +93,7 @@ fn fill<D: Disk>(
     requires open { D.tells → IsOpen folder.now (D.story disk.old).held }
     requires under { D.tells → (q : List ℕ) → (D.story disk.old).held (inside folder.now q) ≡ None }
     ensures held { D.tells → OnOk result (HoldsTree folder.now tree.now (D.story disk.new).held) }
-    ensures others { D.tells → Passes (D.story disk.old) (D.story disk.new) (AgreesApart folder.now) }
+    ensures round { D.tells → Passes (D.story disk.old) (D.story disk.new) (AgreesRound folder.now (D.story disk.old).held) }
     ensures cause { Counts (D.faults disk.old) (D.faults disk.new) (disk_failed result) }
 {
     for (path, entry) in tree {

@@ -1,29 +1,29 @@
 use Rattle.std.proofs.Common.{◌≡◌, ◌∙◌, sym, arith, get_or, take, ap, List, ℕ, ◌-◌}
-use Rattle.outside_traits.proofs.Folders.{stays_none, stays_removes, near_folder}
+use Rattle.outside_traits.proofs.Folders.{stays_none, stays_clears, near_folder}
 use Rattle.outside_traits.proofs.Steps.{clearing_start, clearing_stays, clearing_more, clearing_skips, clearing_end}
 use Rattle.outside_traits.proofs.trees.clear_above.Goals as goal
-use Rattle.outside_traits.proofs.trees.clear_above.Goals.{then-bytes-i-eq47+in_ok-remove-2, else-bytes-i-eq47}
+use Rattle.outside_traits.proofs.trees.clear_above.Goals.{then-bytes-i-eq47+in_ok-clear_at-2, else-bytes-i-eq47}
 
-pub returns-in_err-remove-clause-others : goal.returns-in_err-remove-clause-others
-returns-in_err-remove-clause-others g c told = (stays_removes (near_folder c.args.folder.now) (stays_none c.args.folder.now (g.D.Disk.story c.args.disk.now)) (c.remove.ensures.told told))
+pub returns-in_err-clear_at-clause-round : goal.returns-in_err-clear_at-clause-round
+returns-in_err-clear_at-clause-round g c told = (stays_clears (near_folder c.args.folder.now) (stays_none c.args.folder.now (g.D.Disk.story c.args.disk.now)) (c.clear_at.ensures.clears told))
 
 pub loop-i-init : goal.loop-i-init
-loop-i-init g c = record { faults = c.in_ok-remove.ensures.cause.stayed; clearing = λ told. clearing_start (c.in_ok-remove.ensures.told told) }
+loop-i-init g c = record { faults = c.in_ok-clear_at.ensures.cause.stayed; clearing = λ told. clearing_start (c.in_ok-clear_at.ensures.clears told) }
 
-pub returns-in_err-remove-2-clause-others : goal.returns-in_err-remove-2-clause-others
-returns-in_err-remove-2-clause-others g c told =
+pub returns-in_err-clear_at-2-clause-round : goal.returns-in_err-clear_at-2-clause-round
+returns-in_err-clear_at-2-clause-round g c told =
     let at_it : get_or c.args.folder.now c.loop-i.i 0 ≡ 47 = ap (λ (l : List ℕ). get_or l c.loop-i.i 0) (sym c.as_bytes-bytes.ensures.value) ∙ c.if-bytes-i-eq47.true in
     let p_is : c.range.result.now ≡ take c.loop-i.i c.args.folder.now = c.range.ensures.value ∙ ap (λ (m : ℕ). take m c.args.folder.now) (let e : c.loop-i.i - 0 ≡ c.loop-i.i = omega arith in e) in
-    (clearing_stays (omega arith) at_it p_is (c.loop-i.invariant.clearing told) (c.remove-then-bytes-i-eq47.ensures.told told))
+    (clearing_stays (omega arith) at_it p_is (c.loop-i.invariant.clearing told) (c.clear_at-then-bytes-i-eq47.ensures.clears told))
 
 pub loop-i-preserved : goal.loop-i-preserved
 loop-i-preserved g c = elim c.if-bytes-i-eq47.branch [
-  | then-bytes-i-eq47+in_ok-remove-2 w ↦ record {
-    faults = rw w.disk-is (w.in_ok-remove-2.ensures.cause.stayed ∙ c.loop-i.invariant.faults);
+  | then-bytes-i-eq47+in_ok-clear_at-2 w ↦ record {
+    faults = rw w.disk-is (w.in_ok-clear_at-2.ensures.cause.stayed ∙ c.loop-i.invariant.faults);
     clearing = λ told.
         let at_it : get_or c.args.folder.now c.loop-i.i 0 ≡ 47 = ap (λ (l : List ℕ). get_or l c.loop-i.i 0) (sym c.as_bytes-bytes.ensures.value) ∙ w.if-bytes-i-eq47.true in
         let p_is : w.range.result.now ≡ take c.loop-i.i c.args.folder.now = w.range.ensures.value ∙ ap (λ (m : ℕ). take m c.args.folder.now) (let e : c.loop-i.i - 0 ≡ c.loop-i.i = omega arith in e) in
-        rw w.disk-is (clearing_more (omega arith) at_it p_is (c.loop-i.invariant.clearing told) (w.in_ok-remove-2.ensures.told told));
+        rw w.disk-is (clearing_more (omega arith) at_it p_is (c.loop-i.invariant.clearing told) (w.in_ok-clear_at-2.ensures.clears told));
   }
   | else-bytes-i-eq47 w ↦ record {
     faults = rw w.disk-is c.loop-i.invariant.faults;

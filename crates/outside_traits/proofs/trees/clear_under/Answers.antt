@@ -4,8 +4,8 @@ use Rattle.tree_model.specs.Path.{IsBelow}
 use Rattle.outside_traits.proofs.Steps.{emptying_stays, emptying_more, emptying_end, listed_below}
 use Rattle.outside_traits.proofs.trees.clear_under.Goals as goal
 
-pub returns-in_err-remove-clause-others : goal.returns-in_err-remove-clause-others
-returns-in_err-remove-clause-others g c told =
+pub returns-in_err-remove-clause-round : goal.returns-in_err-remove-clause-round
+returns-in_err-remove-clause-round g c told =
     let listing = rw (sym c.as_slice-found.ensures) at (c.in_ok-paths.ensures.told told).answers.0 in
     let is = c.as_str-in-loop-k.ensures ∙ c.index-found-k.is ∙ get_or_default c.as_slice-found.result.now (c.loop-k.k - 1) c.index-found-k.result [] (omega arith) in
     let below = subst (IsBelow c.args.folder.now) (sym is) (listed_below c.args.folder.now (c.loop-k.k - 1) (c.as_str.ensures ∙ c.in_ok-prefix.ensures) listing (omega arith)) in

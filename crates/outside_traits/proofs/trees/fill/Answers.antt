@@ -8,8 +8,8 @@ write-requires-clause-free g c told =
     let path_is = c.as_str-in-loop-path.ensures ∙ c.in_ok-full.ensures ∙ ap (inside c.args.folder.now) c.as_str.ensures in
     rw path_is (filling_free c.loop-path-item.result (omega arith) c.requires.tree c.loop-path-item.is (c.loop-path.invariant.filling told))
 
-pub returns-in_err-write-clause-others : goal.returns-in_err-write-clause-others
-returns-in_err-write-clause-others g c told =
+pub returns-in_err-write-clause-round : goal.returns-in_err-write-clause-round
+returns-in_err-write-clause-round g c told =
     let path_is = c.as_str-in-loop-path.ensures ∙ c.in_ok-full.ensures ∙ ap (inside c.args.folder.now) c.as_str.ensures in
     (filling_stays c.args.folder.now c.loop-path-item.result.0 (c.loop-path.invariant.filling told) (rw path_is at (c.write.ensures.told told)))
 
