@@ -1,3 +1,5 @@
 pub mod Pieces
 pub mod Escapes
 pub mod Fronts
+pub mod Chains
+pub mod Marks

@@ -5,12 +5,16 @@
 //! memory.
 #![tactic(auto)]
 
+mod ends;
+mod events;
 mod fault;
 mod plans;
 mod values;
 mod versions;
 mod written;
 
+pub use ends::end_text;
+pub use events::write_event;
 pub use fault::fault_text;
 pub use plans::{dry_text, plan_text};
 pub use values::{env_text, recipe_line};

@@ -8,7 +8,7 @@ use std::alloc::Global;
 use tree_model::{Mem, Text};
 
 /// Puts a task at the end, as it is written.
-fn push_label(made: &mut Text, id: &TaskId) -> Result<(), Mem>
+pub(crate) fn push_label(made: &mut Text, id: &TaskId) -> Result<(), Mem>
     ensures { OnOk result (made.new ≡ made.old ++ texts.task_label id.now) }
 {
     made.push_str(id.pn.as_str())?;

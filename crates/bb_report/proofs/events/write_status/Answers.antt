@@ -1,0 +1,8 @@
+use Rattle.std.proofs.Common.{◌++◌}
+use Rattle.std.specs.Prelude.{codes}
+use Rattle.std.specs.Fmt.{decimal}
+use Rattle.bb_report.proofs.Chains.{front_first, on_err_of}
+use Rattle.bb_report.proofs.events.write_status.Goals as goal
+
+pub returns-in_err-write_all-clause-err : goal.returns-in_err-write_all-clause-err
+returns-in_err-write_all-clause-err g c = on_err_of c.from_residual.result (λ told. front_first (g.W.Sink.written c.args.sink.now) (g.W.Sink.written c.write_all.new.sink) (codes " status ") (decimal c.args.status ++ codes "\n") (c.in_err-write_all.ensures.err told))
