@@ -11,3 +11,5 @@ pub mod GoodFacts
 pub mod GoodConfig
 pub mod Sorted
 pub mod OneGraph
+pub mod Wanted
+pub mod Spelling

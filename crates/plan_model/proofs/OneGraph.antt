@@ -102,12 +102,12 @@ below x y p q = omega (arith, p, q)
 
 -- ---- lists by their places
 
-got : {A B : Type 0} (f : A → B) (xs : List A) (k : ℕ) (y : B) → slice_get (map f xs) k ≡ Some y → (x : A) × (slice_get xs k ≡ Some x) × (f x ≡ y)
+pub got : {A B : Type 0} (f : A → B) (xs : List A) (k : ℕ) (y : B) → slice_get (map f xs) k ≡ Some y → (x : A) × (slice_get xs k ≡ Some x) × (f x ≡ y)
 got f [] k y e = absurd (cc)
 got f (x ∷ xs) zero y e = let same : f x ≡ y = cc in (x, refl, same)
 got f (x ∷ xs) (suc k) y e = got f xs k y e
 
-put : {A B : Type 0} (f : A → B) (xs : List A) (k : ℕ) (x : A) → slice_get xs k ≡ Some x → slice_get (map f xs) k ≡ Some (f x)
+pub put : {A B : Type 0} (f : A → B) (xs : List A) (k : ℕ) (x : A) → slice_get xs k ≡ Some x → slice_get (map f xs) k ≡ Some (f x)
 put f [] k x e = absurd (cc)
 put f (y ∷ ys) zero x e = let same : y ≡ x = cc in ap (λ z. Some (f z)) same
 put f (y ∷ ys) (suc k) x e = put f ys k x e
@@ -117,7 +117,7 @@ no_more f [] k e = refl
 no_more f (x ∷ xs) zero e = absurd (cc)
 no_more f (x ∷ xs) (suc k) e = no_more f xs k e
 
-there : {A : Type 0} (xs : List A) (k : ℕ) → k < length xs → (x : A) × (slice_get xs k ≡ Some x)
+pub there : {A : Type 0} (xs : List A) (k : ℕ) → k < length xs → (x : A) × (slice_get xs k ≡ Some x)
 there [] k lt = absurd (omega (arith, lt))
 there (x ∷ xs) zero lt = (x, refl)
 there (x ∷ xs) (suc k) lt = there xs k (omega (arith, lt))

@@ -101,7 +101,7 @@ deeper facts a b m n needs deep other =
 above_is_greater : (m n : ℕ) → n < m → nat_cmp m n ≡ Greater
 above_is_greater m n lt = sym (nat_cmp_is m n Greater lt)
 
-node_there : (graph : Graph) (k : ℕ) (b : Task) → node_at graph k ≡ Some b → (node : Node) × (slice_get graph.nodes k ≡ Some node) × (node_task node ≡ b)
+pub node_there : (graph : Graph) (k : ℕ) (b : Task) → node_at graph k ≡ Some b → (node : Node) × (slice_get graph.nodes k ≡ Some node) × (node_task node ≡ b)
 node_there graph k b e = by (slice_get graph.nodes k) refl e
   where
     by : (o : Option Node) → slice_get graph.nodes k ≡ o → option_map node_task o ≡ Some b → (node : Node) × (slice_get graph.nodes k ≡ Some node) × (node_task node ≡ b)

@@ -153,7 +153,7 @@ plan_is_sound files set graph threads plan made e = sound files set graph thread
 
 -- forced tasks
 
-forced_many : (n : ℕ) (targets : List ℕ) (tasks : List PlanTask) → length (forced_from n targets tasks) ≡ length tasks
+pub forced_many : (n : ℕ) (targets : List ℕ) (tasks : List PlanTask) → length (forced_from n targets tasks) ≡ length tasks
 forced_many n targets [] = refl
 forced_many n targets (task ∷ tasks) = omega (arith, forced_many (suc n) targets tasks)
 

@@ -4,3 +4,4 @@ pub mod Plans
 pub mod Names
 pub mod Sound
 pub mod PlanSamples
+pub mod Spellings

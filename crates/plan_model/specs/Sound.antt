@@ -1,5 +1,5 @@
 -- Plans that are sound, and what makes the plan of a graph one.
-use Rattle.std.specs.Prelude.{◌≡◌, ◌≢◌, ◌≤◌, ◌<◌, ◌⊎◌, ℕ, true, false, List, [], ◌∷◌, length, All, AllPairs, Some, Ok, IsSome, codes}
+use Rattle.std.specs.Prelude.{◌≡◌, ◌≢◌, ◌≤◌, ◌<◌, ◌⊎◌, ℕ, true, false, List, [], ◌∷◌, length, All, AllPairs, Some, Ok, IsSome, Contains, codes}
 use Rattle.std.specs.List.{slice_get}
 use Rattle.std.specs.List.Sorted.{IsStrictlyIncreasing}
 use Rattle.tree_model.specs.Path.{IsPart, IsClean, parts_of}
@@ -58,6 +58,10 @@ pub record IsSound (plan : Plan) : Type 0 where
   pub differ : AllPairs Differ plan.tasks
   pub tasks : (n : ℕ) (task : PlanTask) → slice_get plan.tasks n ≡ Some task → IsSoundTask n task
 
+-- each task of the plan is a target, or one that another task needs directly
+abbrev pub AreWanted : Plan → Type 0
+AreWanted plan = (t : ℕ) → t < length plan.tasks → Contains plan.targets t ⊎ ((u : ℕ) × (task : PlanTask) × (slice_get plan.tasks u ≡ Some task) × Contains task.deps t)
+
 -- What is asked of facts: each recipe has a PN that a recipe may have, no two have the same, and their tasks have names that
 -- tasks may have.
 pub record HasGoodNames (facts : FactSet) : Type 0 where
@@ -82,6 +86,14 @@ pub record IsMadeFrom (files : Files) (set : RecipeSet) (graph : Graph) (threads
 -- The plan of a graph is sound.
 abbrev pub PlanIsSound : Type 0
 PlanIsSound = (files : Files) (set : RecipeSet) (graph : Graph) (threads : ℕ) (plan : Plan) → IsMadeFrom files set graph threads → plan_of files set graph threads ≡ Ok plan → IsSound plan
+
+-- Each task of the plan of a graph is a target, or one that another needs directly.
+abbrev pub PlanIsWanted : Type 0
+PlanIsWanted = (files : Files) (set : RecipeSet) (targets : List Target) (graph : Graph) (threads : ℕ) (plan : Plan) → IsGraph set.facts targets graph → plan_of files set graph threads ≡ Ok plan → AreWanted plan
+
+-- It stays so where the targets' tasks are forced.
+abbrev pub ForcedIsWanted : Type 0
+ForcedIsWanted = (plan : Plan) → AreWanted plan → AreWanted (forced plan)
 
 -- A sound plan meets what the laws of reuse ask.
 abbrev pub SoundMeets : Type 0

@@ -1,5 +1,6 @@
 // What is proved of the definitions.
-ghost use Rattle.plan_model.specs.Sound.{ForcedIsSound, GraphIsOver, GraphsAreOne, PlanIsSound, ProjectHasGoodNames, SoundMeets};
+ghost use Rattle.plan_model.specs.Sound.{ForcedIsSound, ForcedIsWanted, GraphIsOver, GraphsAreOne, PlanIsSound, PlanIsWanted, ProjectHasGoodNames, SoundMeets};
+ghost use Rattle.plan_model.specs.Spellings.{SoundHasSpellings};
 
 /// The plan of a graph is sound, where its threads are 1 to 16, files stand at clean paths, and recipes and tasks have names that
 /// recipes and tasks may have.
@@ -9,9 +10,21 @@ pub fn plan_is_sound()
     ensures forced { ForcedIsSound }
 {}
 
+/// Each task of the plan of a graph is a target, or one that another task of the plan needs directly.
+pub fn plan_is_wanted()
+    ensures plan { PlanIsWanted }
+    // also where the targets' tasks are forced
+    ensures forced { ForcedIsWanted }
+{}
+
 /// A sound plan meets what the laws of reuse ask of a plan.
 pub fn sound_plans_meet()
     ensures { SoundMeets }
+{}
+
+/// A program can hold the signatures of a sound plan's tasks, where it can hold the lines and the files of each task.
+pub fn sound_plans_have_spellings()
+    ensures { SoundHasSpellings }
 {}
 
 /// The recipes of a project and their tasks have names that recipes and tasks may have, and no two recipes have one PN: a recipe's
