@@ -35,7 +35,7 @@ fn syntax_name(fault: SyntaxFault) -> &'static str
 }
 
 /// A fault of metadata of this kind, with texts.
-pub(crate) fn metadata(alloc: Global, file: Text, line: u32, kind: &str, detail: Texts) -> Status
+pub fn metadata(alloc: Global, file: Text, line: u32, kind: &str, detail: Texts) -> Status
     ensures { IsAnswered result (status.Metadata file line kind.now detail) }
 {
     match Text::from_str(alloc, kind) {
@@ -69,7 +69,7 @@ fn two(alloc: Global, first: Text, second: Text) -> Result<Texts, Mem>
 }
 
 /// A fault of metadata of this kind, with one text.
-pub(crate) fn named(alloc: Global, file: Text, line: u32, kind: &str, name: Text) -> Status
+pub fn named(alloc: Global, file: Text, line: u32, kind: &str, name: Text) -> Status
     ensures { IsAnswered result (status.Metadata file line kind.now (name ∷ [])) }
 {
     match one(alloc, name) {
@@ -93,7 +93,7 @@ pub fn not_built(alloc: Global) -> Status
 }
 
 /// A limit of this kind that was passed.
-pub(crate) fn limit(alloc: Global, kind: &str) -> Status
+pub fn limit(alloc: Global, kind: &str) -> Status
     ensures { IsAnswered result (status.Limit kind.now) }
 {
     match Text::from_str(alloc, kind) {

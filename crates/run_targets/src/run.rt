@@ -46,6 +46,7 @@ fn graph_and_threads(alloc: Global, asked: &Asked) -> Result<(Graph, u32), Statu
 fn run_of(alloc: Global, asked: Asked) -> Result<Run, Status>
     ensures asked { IfOk result (λ run. asked_meant run.asked ≡ asked_meant asked) }
     ensures ok { IfOk result (λ run. HasRun (asked_meant asked) run.graph run.threads) }
+    ensures whole { IfOk result (λ run. HasRun (asked_meant run.asked) run.graph run.threads) }
     ensures err { IfErr result (HasNoRun (asked_meant asked)) }
     ensures refusal { IfErr result (λ status. is_refusal status ≡ true) }
     ensures no_failure { mode_failed result ≡ false }
@@ -76,6 +77,7 @@ pub fn find_run<L: Layers>(
     task: Option<&Text>,
 ) -> Result<Run, Status>
     ensures ok { IfOk result (λ run. L.tells → (paths : List (List ℕ)) → IsListing [] (L.files layers.old) paths → IsRun (sources_of (L.files layers.old)) paths words.now (option_copied task.entry) (asked_meant run.asked) run.graph run.threads) }
+    ensures whole { IfOk result (λ run. HasRun (asked_meant run.asked) run.graph run.threads) }
     ensures err { IfErr result (λ status. L.tells → (paths : List (List ℕ)) → IsListing [] (L.files layers.old) paths → IsNoRun (sources_of (L.files layers.old)) paths words.now (option_copied task.entry) status) }
     ensures refusal { IfErr result (λ status. is_refusal status ≡ true) }
     ensures same { L.files layers.new ≡ L.files layers.old }

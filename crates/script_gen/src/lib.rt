@@ -22,3 +22,4 @@ mod told;
 pub use fault::ScriptFault;
 pub use place_pairs::{places, places_of};
 pub use scripts::{script, script_of, script_with};
+pub use told::is_shell_name;

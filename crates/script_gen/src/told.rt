@@ -24,7 +24,7 @@ fn are_in_shell_name(name: &[u8]) -> bool
 }
 
 /// Whether a text is a shell name.
-fn is_shell_name(name: &[u8]) -> bool
+pub fn is_shell_name(name: &[u8]) -> bool
     ensures { result ≡ is_shell_name name.now }
 {
     if name.is_empty() {

@@ -1,0 +1,6 @@
+pub mod OnePlan
+pub mod Planned
+pub mod OnePart
+pub mod Checking
+pub mod Ascending
+pub mod Pairs

@@ -1,0 +1,5 @@
+pub mod Checked
+pub mod Refused
+pub mod Plans
+pub mod Laws
+pub mod Steps
