@@ -1,0 +1,5 @@
+pub mod Layouts
+pub mod Work
+pub mod Jobs
+pub mod OneTask
+pub mod Runnable

@@ -1,0 +1,33 @@
+-- What the clean build has of a task, by what is laid out and given for it.
+use Rattle.std.specs.Prelude.{◌≡◌, ◌<◌, ℕ, true, false, List, Some, Ok, Err, Result, map}
+use Rattle.std.specs.List.{slice_get, AllByRecursion}
+use Rattle.meta_model.specs.declared.event.Why.TheVariants as why
+use Rattle.meta_model.specs.declared.plan.PlanTask.{PlanTask}
+use Rattle.meta_model.specs.CleanBuild.{Built, Entries, Gives, Lack, by_itself, clean_build, is_beyond_layout, task_output}
+use Rattle.task_worker.specs.declared.given.Job.{Job}
+use Rattle.task_worker.specs.Jobs.{job_output}
+use Rattle.task_worker.specs.Layouts.{layout_over}
+
+-- the clean build has this of the task of a number
+abbrev pub Has : Gives → List PlanTask → ℕ → Result Entries Lack → Type 0
+Has gives tasks n outcome = (built : Built) × (slice_get (clean_build gives tasks) n ≡ Some built) × (built.outcome ≡ outcome)
+
+-- these are the clean outputs of the tasks of their numbers
+abbrev pub AreClean : Gives → List PlanTask → List (ℕ × Entries) → Type 0
+AreClean gives tasks outputs = AllByRecursion (λ o. Has gives tasks o.0 (Ok o.1)) outputs
+
+-- Of a task that needs earlier tasks alone, the clean build has what its script gives over the layout of their clean outputs.
+abbrev pub OneTask : Type 0
+OneTask = (gives : Gives) (tasks : List PlanTask) (n : ℕ) (task : PlanTask) (outputs : List (ℕ × Entries)) → slice_get tasks n ≡ Some task → AllByRecursion (λ d. d < n) task.deps → map (λ o. o.0) outputs ≡ task.deps → AreClean gives tasks outputs
+    → Has gives tasks n (by_itself (task_output gives task.script task.sstate task.places (layout_over tasks task outputs)))
+
+-- the job of a task over a layout
+abbrev pub job_of : ℕ → PlanTask → Entries → Job
+job_of n task laid = record { task = n; script = task.script; layout = laid }
+
+-- That is what the task's job gives, where the layout is within its limits, and else too large.
+abbrev pub OneJob : Type 0
+OneJob = (gives : Gives) (n : ℕ) (task : PlanTask) (laid : Entries) → is_beyond_layout laid ≡ false → task_output gives task.script task.sstate task.places laid ≡ job_output gives task.sstate task.places (job_of n task laid)
+
+abbrev pub NoJob : Type 0
+NoJob = (gives : Gives) (task : PlanTask) (laid : Entries) → is_beyond_layout laid ≡ true → task_output gives task.script task.sstate task.places laid ≡ Err why.TooLarge
