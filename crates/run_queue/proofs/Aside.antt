@@ -1,0 +1,223 @@
+-- What a publication, or a restoring, leaves of other tasks, and of records.
+use Rattle.std.proofs.Common.{◌≡◌, ◌≢◌, ◌∙◌, sym, ap, subst, refl, ℕ, ◌⊎◌, inl, inr, true, List, [], ◌∷◌, Some, None, append_assoc, arith}
+use Rattle.std.specs.Prelude.{codes, Option}
+use Rattle.tree_model.specs.declared.entry.Entry.{Entry}
+use Rattle.tree_model.specs.declared.hash.Hash.{Hash}
+use Rattle.tree_model.specs.Hash.{hash_text}
+use Rattle.tree_model.specs.Path.{IsAtOrBelow, IsBelow, inside}
+use Rattle.outside_traits.specs.Store.{HoldsTree, IsApart, IsOpen, Store}
+use Rattle.outside_traits.proofs.Folders.{above_under, under_same}
+use Rattle.outside_traits.proofs.Puts.{path_cases}
+use Rattle.meta_model.specs.CleanBuild.{Entries}
+use Rattle.meta_model.specs.declared.plan.PlanTask.{PlanTask}
+use Rattle.store_model.specs.Available.{object_folder, task_folder, work_folder}
+use Rattle.store_model.specs.Premises.{Differ}
+use Rattle.build_store.specs.Laws.{KeepsObject, KeepsWork}
+use Rattle.build_store.specs.Paths.{HasPlace, record_path, slashes}
+use Rattle.build_store.specs.Publication.{IsForeign, IsPublished, IsUntouched, Publication, Publishes, KeepsOthers, stamp_at, work_at}
+use Rattle.build_store.proofs.Areas.{apart_by_first, differ, heads_differ}
+use Rattle.build_store.proofs.Others.{others_untouched}
+use Rattle.build_store.proofs.Slashes.{slashes_inside}
+use Rattle.run_queue.specs.Opening.{HasFolders}
+use Rattle.run_queue.specs.Stands.{IsHonest, IsTold}
+
+-- ---- paths above folders
+
+-- nothing stands above a path of one part
+one_part : (path q : List ℕ) → slashes path ≡ 0 → IsBelow q path → ⊥
+one_part path q none below = let m = ap slashes below.1 ∙ slashes_inside q below.0 in omega (arith, m, none)
+
+-- above `PN/TASK` stands `PN` alone
+above_parts : (pn task q : List ℕ) → slashes pn ≡ 0 → slashes task ≡ 0 → IsBelow q (inside pn task) → q ≡ pn
+above_parts pn task q a b below = by (above_under pn task q below)
+  where
+    by : IsBelow q pn ⊎ ((q ≡ pn) ⊎ ((r : List ℕ) × (q ≡ inside pn r) × IsBelow r task)) → q ≡ pn
+    by (inl up) = absurd (one_part pn q a up)
+    by (inr (inl same)) = same
+    by (inr (inr in_it)) = absurd (one_part task in_it.0 b in_it.2)
+
+-- above a folder of one part stands nothing else than that part, or what is under it
+above_top : (top folder q : List ℕ) → slashes top ≡ 0 → IsBelow q (inside top folder) → (q ≡ top) ⊎ ((r : List ℕ) × (q ≡ inside top r) × IsBelow r folder)
+above_top top folder q a below = by (above_under top folder q below)
+  where
+    by : IsBelow q top ⊎ ((q ≡ top) ⊎ ((r : List ℕ) × (q ≡ inside top r) × IsBelow r folder)) → (q ≡ top) ⊎ ((r : List ℕ) × (q ≡ inside top r) × IsBelow r folder)
+    by (inl up) = absurd (one_part top q a up)
+    by (inr other) = other
+
+-- ---- paths that a publication doesn't touch
+
+foreign_record : (p : Publication) (path : List ℕ) → (p.is_new ≡ true → inside (codes "rec") path ≢ record_path p.name) → IsForeign p (inside (codes "rec") path)
+foreign_record p path other = record {
+  temporary = λ below. heads_differ (differ 114 116 refl) below.1;
+  work = apart_by_first (101 ∷ 99 ∷ 47 ∷ path) (111 ∷ 114 ∷ 107 ∷ 47 ∷ p.folder) (differ 114 119 refl);
+  stamp = heads_differ (differ 114 115 refl);
+  stored = other;
+  shared = λ unihash is. apart_by_first (101 ∷ 99 ∷ 47 ∷ path) (98 ∷ 106 ∷ 47 ∷ hash_text unihash) (differ 114 111 refl);
+}
+
+foreign_work : (p : Publication) (ps : List ℕ) → IsApart (work_at p.folder) (119 ∷ ps) → IsForeign p (119 ∷ ps)
+foreign_work p ps apart = record {
+  temporary = λ below. heads_differ (differ 119 116 refl) below.1;
+  work = apart;
+  stamp = heads_differ (differ 119 115 refl);
+  stored = λ new. heads_differ (differ 119 114 refl);
+  shared = λ unihash is. apart_by_first ps (98 ∷ 106 ∷ 47 ∷ hash_text unihash) (differ 119 111 refl);
+}
+
+-- where no object is put, nothing of the objects is touched
+foreign_objects : (p : Publication) (ps : List ℕ) → p.object ≡ None → IsForeign p (111 ∷ ps)
+foreign_objects p ps none = record {
+  temporary = λ below. heads_differ (differ 111 116 refl) below.1;
+  work = apart_by_first ps (111 ∷ 114 ∷ 107 ∷ 47 ∷ p.folder) (differ 111 119 refl);
+  stamp = heads_differ (differ 111 115 refl);
+  stored = λ new. heads_differ (differ 111 114 refl);
+  shared = λ unihash is. absurd (let n : None ≡ Some unihash = sym none ∙ is in cc);
+}
+
+-- `work/PN` is apart from the work folder of a task of another recipe
+recipes_apart : (pn task other : List ℕ) → slashes pn ≡ 0 → slashes task ≡ 0 → slashes other ≡ 0 → other ≢ pn → IsApart (work_at (inside pn task)) (inside (codes "work") other)
+recipes_apart pn task other a b c ne = record {
+  not_folder = λ same. let e = ap slashes (under_same (codes "work") other (inside pn task) same) ∙ slashes_inside pn task in omega (arith, a, b, c, e);
+  not_above = λ up. elim (above_top (codes "work") (inside pn task) (inside (codes "work") other) refl up) [
+    | inl same ↦ let e = sym (slashes_inside (codes "work") other) ∙ ap slashes same in omega (arith, e)
+    | inr in_it ↦ ne (under_same (codes "work") other in_it.0 in_it.1 ∙ above_parts pn task in_it.0 a b in_it.2)
+  ];
+  not_under = λ under. let e = ap slashes under.1 ∙ slashes_inside (work_at (inside pn task)) under.0 in let f = slashes_inside (codes "work") (inside pn task) in let g = slashes_inside pn task in let h = slashes_inside (codes "work") other in omega (arith, a, b, c, e, f, g, h);
+}
+
+-- ---- records
+
+-- A record that was stored stays, where none was stored under the publication's name if that is new.
+pub record_on : (p : Publication) (old new : Store) → Publishes p old new → (p.is_new ≡ true → old (record_path p.name) ≡ None) → (name : Hash) (file : Entry) → old (record_path name) ≡ Some file → new (record_path name) ≡ Some file
+record_on p old new publishes unknown name file is = by (path_cases (record_path name) (record_path p.name))
+  where
+    at_own : record_path name ≡ record_path p.name → (new (record_path p.name) ≡ old (record_path p.name)) ⊎ ((p.is_new ≡ true) × (new (record_path p.name) ≡ Some p.file)) → new (record_path name) ≡ Some file
+    at_own same (inl stays) = ap new same ∙ stays ∙ sym (ap old same) ∙ is
+    at_own same (inr put) = absurd (let n : None ≡ Some file = sym (unknown put.0) ∙ sym (ap old same) ∙ is in cc)
+
+    by : (record_path name ≡ record_path p.name) ⊎ (record_path name ≢ record_path p.name) → new (record_path name) ≡ Some file
+    by (inl same) = at_own same publishes.stored
+    by (inr ne) = publishes.others (record_path name) (foreign_record p (hash_text name) (λ new. ne)) ∙ is
+
+-- ---- stamps that don't lie
+
+below_work : (folder q : List ℕ) → IsAtOrBelow (work_at folder) q → IsAtOrBelow (codes "work") q
+below_work folder q (inl at) = inr (folder, at)
+below_work folder q (inr down) = inr (inside folder down.0, down.1 ∙ append_assoc (codes "work") (47 ∷ folder) (47 ∷ down.0))
+
+keeps_then : (folder : List ℕ) (held old new : Store) → KeepsWork folder held old → KeepsWork folder old new → KeepsWork folder held new
+keeps_then folder held old new a b = record { stamp = b.stamp ∙ a.stamp; work = λ q at. b.work q at ∙ a.work q at }
+
+pub keeps_untouched : (folder : List ℕ) (old new : Store) → IsUntouched folder old new → KeepsWork folder old new
+keeps_untouched folder old new u = record { stamp = u.stamp; work = λ q at. u.work q (below_work folder q at) }
+
+-- what a stamp tells of stays, where the stamp and the work folder do
+told_on : (p r : Publication) (old new : Store) → Publishes p old new → (p.is_new ≡ true → old (record_path p.name) ≡ None) → KeepsWork r.folder old new → IsTold r old → IsTold r new
+told_on p r old new publishes unknown keeps told = record {
+  stamp = keeps.stamp ∙ told.stamp;
+  stored = record_on p old new publishes unknown r.name r.file told.stored;
+  at = keeps.work (work_at r.folder) (inl refl) ∙ told.at;
+  entries = λ path. keeps.work (inside (work_at r.folder) path) (inr (path, refl)) ∙ told.entries path;
+}
+
+-- a stamp that doesn't lie stays so where it and the work folder stay
+kept_honest : (p : Publication) (held old new : Store) (other : PlanTask) → Publishes p old new → (p.is_new ≡ true → old (record_path p.name) ≡ None) → KeepsWork (task_folder other) old new → IsHonest held old other → IsHonest held new other
+kept_honest p held old new other publishes unknown keeps (inl was) = inl (keeps_then (task_folder other) held old new was keeps)
+kept_honest p held old new other publishes unknown keeps (inr (inl none)) = inr (inl (keeps.stamp ∙ none))
+kept_honest p held old new other publishes unknown keeps (inr (inr told)) =
+    inr (inr (told.0, told.1, told_on p told.0 old new publishes unknown (subst (λ (f : List ℕ). KeepsWork f old new) (sym told.1) keeps) told.2))
+
+told_published : (p : Publication) (image : Store) → IsPublished p image → IsTold p image
+told_published p image is = record { stamp = is.stamp; stored = is.stored; at = is.work.outside.at; entries = is.work.entries }
+
+-- so does the publication's own
+own_honest : (p : Publication) (held old new : Store) (task : PlanTask) → p.folder ≡ task_folder task → Publishes p old new → (p.is_new ≡ true → old (record_path p.name) ≡ None) → IsHonest held old task → IsHonest held new task
+own_honest p held old new task folder publishes unknown was = by publishes.honest
+  where
+    by : IsUntouched p.folder old new ⊎ ((new (stamp_at p.folder) ≡ None) ⊎ IsPublished p new) → IsHonest held new task
+    by (inl untouched) = kept_honest p held old new task publishes unknown (subst (λ (f : List ℕ). KeepsWork f old new) folder (keeps_untouched p.folder old new untouched)) was
+    by (inr (inl none)) = inr (inl (subst (λ (f : List ℕ). new (stamp_at f) ≡ None) folder none))
+    by (inr (inr is)) = inr (inr (p, folder, told_published p new is))
+
+-- No stamp of a task lies in a changed store where none did, be it the publication's task or another one.
+pub honest_on : (p : Publication) (held old new : Store) (task other : PlanTask) → HasPlace task → HasPlace other → p.folder ≡ task_folder task → (other ≡ task) ⊎ Differ other task → Publishes p old new → (p.is_new ≡ true → old (record_path p.name) ≡ None) → IsHonest held old other → IsHonest held new other
+honest_on p held old new task other place place' folder (inl same) publishes unknown was =
+    subst (IsHonest held new) (sym same) (own_honest p held old new task folder publishes unknown (subst (IsHonest held old) same was))
+honest_on p held old new task other place place' folder (inr apart) publishes unknown was =
+    kept_honest p held old new other publishes unknown (others_untouched p task other old new place place' apart folder publishes) was
+
+-- ---- folders of other tasks that hold a tree
+
+-- Nothing comes to stand above the work folder of another task. `held` is what was held before the publication, `earlier` the image of
+-- which the changed one tells that what was empty above a folder is so still.
+pub open_on : (p : Publication) (held old earlier new : Store) (task other : PlanTask) → HasPlace task → HasPlace other → p.folder ≡ task_folder task → Differ other task → Publishes p old new → KeepsOthers p.folder p.object held earlier new
+    → IsOpen (work_folder other) held → IsOpen (work_folder other) old → IsOpen (work_folder other) earlier → IsOpen (work_folder other) new
+open_on p held old earlier new task other place place' folder apart publishes round h a b = record {
+  at = (others_untouched p task other old new place place' apart folder publishes).work (work_folder other) (inl refl) ∙ a.at;
+  above = λ q up. by q up (above_top (codes "work") (task_folder other) q refl up);
+}
+  where
+    -- a path round the publication's folder
+    near : (q : List ℕ) → IsBelow q (work_folder other) → IsBelow q (work_at (task_folder task)) → new q ≡ None
+    near q up in_way = round.above_work q (subst (λ (f : List ℕ). IsBelow q (work_at f)) (sym folder) in_way) (h.above q up) ∙ b.above q up
+
+    at_recipe : (q : List ℕ) → IsBelow q (work_folder other) → q ≡ inside (codes "work") other.id.pn → (other.id.pn ≡ task.id.pn) ⊎ (other.id.pn ≢ task.id.pn) → new q ≡ None
+    at_recipe q up is (inl same) = near q up (subst (λ (l : List ℕ). IsBelow l (work_at (task_folder task))) (sym (is ∙ ap (inside (codes "work")) same)) (task.id.task, sym (append_assoc (codes "work") (47 ∷ task.id.pn) (47 ∷ task.id.task))))
+    at_recipe q up is (inr ne) =
+        subst (λ (l : List ℕ). new l ≡ None) (sym is) (
+        publishes.others (inside (codes "work") other.id.pn) (foreign_work p (111 ∷ 114 ∷ 107 ∷ 47 ∷ other.id.pn)
+        (subst (λ (f : List ℕ). IsApart (work_at f) (inside (codes "work") other.id.pn)) (sym folder) (recipes_apart task.id.pn task.id.task other.id.pn place.pn.alone place.task.alone place'.pn.alone ne)))
+        ∙ a.above (inside (codes "work") other.id.pn) (subst (λ (l : List ℕ). IsBelow l (work_folder other)) is up))
+
+    by : (q : List ℕ) → IsBelow q (work_folder other) → (q ≡ codes "work") ⊎ ((r : List ℕ) × (q ≡ inside (codes "work") r) × IsBelow r (task_folder other)) → new q ≡ None
+    by q up (inl top) = near q up (subst (λ (l : List ℕ). IsBelow l (work_at (task_folder task))) (sym top) (task_folder task, refl))
+    by q up (inr in_it) = at_recipe q up (in_it.1 ∙ ap (inside (codes "work")) (above_parts other.id.pn other.id.task in_it.0 place'.pn.alone place'.task.alone in_it.2)) (path_cases other.id.pn task.id.pn)
+
+-- a tree that the work folder holds is held still
+pub work_on : (p : Publication) (held old earlier new : Store) (task other : PlanTask) (tree : Entries) → HasPlace task → HasPlace other → p.folder ≡ task_folder task → Differ other task → Publishes p old new → KeepsOthers p.folder p.object held earlier new
+    → IsOpen (work_folder other) held → IsOpen (work_folder other) earlier → HoldsTree (work_folder other) tree old → HoldsTree (work_folder other) tree new
+work_on p held old earlier new task other tree place place' folder apart publishes round h b holds = record {
+  entries = λ path. (others_untouched p task other old new place place' apart folder publishes).work (inside (work_folder other) path) (inr (path, refl)) ∙ holds.entries path;
+  outside = open_on p held old earlier new task other place place' folder apart publishes round h holds.outside b;
+}
+
+-- the same of an object whose folder stays
+pub object_on : (p : Publication) (held old earlier new : Store) (unihash : Hash) (tree : Entries) → slashes (hash_text unihash) ≡ 0 → KeepsObject unihash old new → Publishes p old new → KeepsOthers p.folder p.object held earlier new
+    → IsOpen (object_folder unihash) held → IsOpen (object_folder unihash) earlier → HoldsTree (object_folder unihash) tree old → HoldsTree (object_folder unihash) tree new
+object_on p held old earlier new unihash tree plain keeps publishes round h b holds = record {
+  entries = λ path. keeps.object (inside (object_folder unihash) path) (inr (path, refl)) ∙ holds.entries path;
+  outside = record {
+    at = keeps.object (object_folder unihash) (inl refl) ∙ holds.outside.at;
+    above = λ q up. elim (above_top (codes "obj") (hash_text unihash) q refl up) [
+      | inl top ↦ top_of q up top p.object refl
+      | inr in_it ↦ absurd (one_part (hash_text unihash) in_it.0 plain in_it.2)
+    ];
+  };
+}
+  where
+    top_of : (q : List ℕ) → IsBelow q (object_folder unihash) → q ≡ codes "obj" → (o : Option Hash) → p.object ≡ o → new q ≡ None
+    top_of q up top (Some own) is = round.above_object own is q (subst (λ (l : List ℕ). IsBelow l (object_folder own)) (sym top) (hash_text own, refl)) (h.above q up) ∙ b.above q up
+    top_of q up top None is = subst (λ (l : List ℕ). new l ≡ None) (sym top) (publishes.others (codes "obj") (foreign_objects p (98 ∷ 106 ∷ []) is) ∙ holds.outside.above (codes "obj") (subst (λ (l : List ℕ). IsBelow l (object_folder unihash)) top up))
+
+-- ---- folders
+
+-- Nothing comes to stand where folders are wanted. `earlier` is the image of which the changed one tells what was empty above a folder.
+pub folders_on : (p : Publication) (held earlier new : Store) (task : PlanTask) → HasPlace task → p.folder ≡ task_folder task → KeepsOthers p.folder p.object held earlier new → HasFolders held → HasFolders earlier → HasFolders new
+folders_on p held earlier new task place folder keeps h e = record {
+  work = keeps.above_work (codes "work") (p.folder, refl) h.work ∙ e.work;
+  objects = at_objects p.object refl;
+  parts = λ part plain. at_part part plain (path_cases part task.id.pn);
+}
+  where
+    at_objects : (o : Option Hash) → p.object ≡ o → new (codes "obj") ≡ None
+    at_objects (Some unihash) is = keeps.above_object unihash is (codes "obj") (hash_text unihash, refl) h.objects ∙ e.objects
+    at_objects None is = keeps.objects (codes "obj") (inl refl) (λ unihash some. absurd (let n : None ≡ Some unihash = sym is ∙ some in cc)) ∙ e.objects
+
+    at_part : (part : List ℕ) → slashes part ≡ 0 → (part ≡ task.id.pn) ⊎ (part ≢ task.id.pn) → new (inside (codes "work") part) ≡ None
+    at_part part plain (inl same) =
+        keeps.above_work (inside (codes "work") part)
+        (subst (λ (f : List ℕ). IsBelow (inside (codes "work") part) (work_at f)) (sym folder) (task.id.task, ap (λ (l : List ℕ). inside (codes "work") (inside l task.id.task)) (sym same) ∙ sym (append_assoc (codes "work") (47 ∷ part) (47 ∷ task.id.task))))
+        (h.parts part plain) ∙ e.parts part plain
+    at_part part plain (inr ne) =
+        keeps.work (inside (codes "work") part) (inr (part, refl))
+        (subst (λ (f : List ℕ). IsApart (work_at f) (inside (codes "work") part)) (sym folder) (recipes_apart task.id.pn task.id.task part place.pn.alone place.task.alone plain ne)) ∙ e.parts part plain

@@ -1,0 +1,243 @@
+-- The signature of a task by what is known of a plan's tasks is its own, and has one spelling.
+use Rattle.std.proofs.Common.{◌≡◌, ◌∙◌, sym, ap, subst, refl, ℕ, zero, suc, ◌<◌, ◌≤◌, arith, Bool, true, false, List, [], ◌∷◌, ◌++◌, length, get_or, map, All, Option, Some, None, inl, inr, ◌⊎◌}
+use Rattle.std.specs.Prelude.{◌||◌, slice_index_or}
+use Rattle.std.specs.Option.{option_map}
+use Rattle.std.specs.List.{AllByRecursion, cons_option, filter_map, list_any, slice_get}
+use Rattle.std.proofs.lemmas.Bool.{false≢true}
+use Rattle.std.proofs.lemmas.Bool.Decides.{Decides-ltb}
+use Rattle.std.proofs.lemmas.List.{map-append}
+use Rattle.std.proofs.lemmas.List.Elements.{recursion_from_All}
+use Rattle.std.proofs.lemmas.Option.{slice_get-get_or, slice_get-map, slice_get_within}
+use Rattle.tree_model.specs.declared.entry.Entry.{Entry}
+use Rattle.tree_model.specs.declared.hash.Hash.{Hash}
+use Rattle.meta_model.specs.declared.plan.Plan.{Plan}
+use Rattle.meta_model.specs.declared.plan.PlanTask.{PlanTask}
+use Rattle.meta_model.specs.CleanBuild.{Entries, exceeds, is_beyond, is_long, output_limit}
+use Rattle.tree_model.specs.Size.{size_of}
+use Rattle.run_core.specs.Need.{AreOrdered, deps_in}
+use Rattle.plan_model.specs.Sound.{IsSound}
+use Rattle.plan_model.proofs.Meets.{sound_meets}
+use Rattle.store_model.specs.declared.signature.EquivRow.{EquivRow}
+use Rattle.store_model.specs.declared.signature.SigRecord.{SigRecord}
+use Rattle.store_model.specs.Premises.{AreSoundFrom}
+use Rattle.store_model.specs.Signatures.{Signed, signature, signatures, signed_from}
+use Rattle.store_model.specs.Spelled.{IsSpelled}
+use Rattle.store_model.specs.Spelling.{name_of, signature_bytes}
+use Rattle.store_model.specs.Unihashes.{Hashed, hashed, signature_of}
+use Rattle.store_model.proofs.Hashing.{signature_by_unihashes}
+use Rattle.store_model.proofs.Ordered.{each_append}
+use Rattle.store_model.proofs.Soundness.{sound_plan_is_sound}
+use Rattle.store_model.proofs.Spelled.{signature_is_spelled}
+use Rattle.sig_gen.specs.Signing.{hashed_at, paired, signature_by}
+use Rattle.setscene_plan.specs.Names.{AreNamed, names_over}
+use Rattle.setscene_plan.proofs.Naming.{names_are_over}
+use Rattle.std.specs.Prelude.{IfErr, IfOk, IfSome, IsSome, MatchBool, Result, Ok, Err}
+use Rattle.std.specs.Result.{IsErrAnd}
+use Rattle.sha2.specs.Sha256.{sha256}
+use Rattle.tree_model.specs.Manifest.{manifest_lines}
+use Rattle.outside_traits.specs.Fault.{Counts}
+use Rattle.outside_traits.specs.Passes.{EachNow}
+use Rattle.outside_traits.specs.Story.{Story}
+use Rattle.setscene_plan.specs.declared.replan.Replan.{Replan}
+use Rattle.run_queue.specs.Seen.{no_meaning}
+use Rattle.setscene_plan.specs.Replans.{IsCurrent, names_in, unihashes_in}
+use Rattle.setscene_plan.specs.View.{View}
+use Rattle.build_store.specs.Faults.{IsClash, IsRefusal, is_disk_fault, store_failed}
+use Rattle.build_store.specs.declared.fault.StoreFault.{StoreFault}
+use Rattle.build_store.specs.declared.fault.StoreFault.TheVariants as fault_of
+use Rattle.build_store.specs.Publication.{AreShort, HasNoObject, IsRestored}
+use Rattle.build_store.specs.View.{IsSignatureOf}
+use Rattle.run_queue.specs.Keeps.{IsStoreCause}
+use Rattle.run_queue.specs.Puts.{HasPutObject, IsSignedAt}
+use Rattle.run_queue.proofs.Agreement.{signed_count}
+use Rattle.run_queue.proofs.Enduring.{signed_task}
+
+-- ---- a sound plan's signatures
+
+-- a task's signature has one spelling, and the task's PN and name
+pub record IsOwn (s : Signed) : Type 0 where
+  pub spelled : IsSpelled s.sig
+  pub pn : s.sig.pn ≡ s.task.id.pn
+  pub task : s.sig.task ≡ s.task.id.task
+
+own_from : (rows : List EquivRow) (before : List Signed) (tasks : List PlanTask) → AllByRecursion IsOwn before → AreSoundFrom (map (λ (s : Signed). s.task) before) tasks → AllByRecursion IsOwn (signed_from rows before tasks)
+own_from rows before [] all sound = all
+own_from rows before (task ∷ tasks) all sound =
+    let s : Signed = record { task = task; sig = signature rows before task } in
+    own_from rows (before ++ s ∷ []) tasks
+    (each_append IsOwn before (s ∷ []) all (record { spelled = signature_is_spelled rows before task sound.0; pn = refl; task = refl }, tt))
+    (subst (λ (l : List PlanTask). AreSoundFrom l tasks) (sym (map-append (λ (x : Signed). x.task) before (s ∷ []))) sound.1)
+
+at_of : {A : Type 0} (P : A → Type 0) (xs : List A) (t : ℕ) (x : A) → AllByRecursion P xs → slice_get xs t ≡ Some x → P x
+at_of P [] t x all is = absurd (let n : None ≡ Some x = is in cc)
+at_of P (y ∷ xs) zero x all is = let same : y ≡ x = (let e : Some y ≡ Some x = is in cc) in subst P same all.0
+at_of P (y ∷ xs) (suc t) x all is = at_of P xs t x all.1 is
+
+pub is_own : (plan : Plan) (rows : List EquivRow) (t : ℕ) (s : Signed) → IsSound plan → slice_get (signatures rows plan.tasks) t ≡ Some s → IsOwn s
+is_own plan rows t s sound is = at_of IsOwn (signatures rows plan.tasks) t s (own_from rows [] plan.tasks tt (sound_plan_is_sound plan (sound_meets plan sound))) is
+
+pub ordered : (plan : Plan) → IsSound plan → AreOrdered plan.tasks
+ordered plan sound t = by (slice_get plan.tasks t) refl
+  where
+    by : (x : Option PlanTask) → slice_get plan.tasks t ≡ x → All (λ d. d < t) (deps_in (slice_get plan.tasks t))
+    by None e = subst (λ (o : Option PlanTask). All (λ d. d < t) (deps_in o)) (sym e) (λ k d lt. absurd (omega arith))
+    by (Some task) e = subst (λ (o : Option PlanTask). All (λ d. d < t) (deps_in o)) (sym e) (sound.tasks t task e).below
+
+-- ---- by unihashes
+
+gathered : {B : Type 0} (f g : ℕ → Option B) (xs : List ℕ) → AllByRecursion (λ d. f d ≡ g d) xs → filter_map f xs ≡ filter_map g xs
+gathered f g [] all = refl
+gathered f g (x ∷ xs) all = let first = all.0 in let rest = gathered f g xs all.1 in λ i. cons_option (first i) (rest i)
+
+by_gathered : (tasks : List PlanTask) (us : List Hash) (task : PlanTask) (g : ℕ → Option Hashed) → AllByRecursion (λ d. hashed_at tasks us d ≡ g d) task.deps → signature_by tasks us task ≡ signature_of task (filter_map g task.deps)
+unfolding signature_by
+by_gathered tasks us task g same = ap (signature_of task) (gathered (hashed_at tasks us) g task.deps same)
+
+pub signed_here : (rows : List EquivRow) (tasks : List PlanTask) (t : ℕ) → t < length tasks → (s : Signed) × (slice_get (signatures rows tasks) t ≡ Some s)
+signed_here rows tasks t lt = found (signatures rows tasks) t (let c = signed_count rows tasks in omega (arith, c, lt))
+  where
+    found : (xs : List Signed) (n : ℕ) → n < length xs → (s : Signed) × (slice_get xs n ≡ Some s)
+    found [] n lt = absurd (omega (arith, lt))
+    found (x ∷ xs) zero lt = (x, refl)
+    found (x ∷ xs) (suc n) lt = found xs n (omega (arith, lt))
+
+-- Where names and unihashes are those over the rows, the signature by them is the task's own.
+pub own_signature : (rows : List EquivRow) (tasks : List PlanTask) (names unihashes : List Hash) → AreOrdered tasks → AreNamed rows tasks names unihashes → (t : ℕ) (s : Signed) → slice_get (signatures rows tasks) t ≡ Some s → signature_by tasks unihashes s.task ≡ s.sig
+own_signature rows tasks names unihashes order are t s is =
+    by_gathered tasks unihashes s.task (slice_get (map (hashed rows) (signatures rows tasks))) (recursion_from_All (λ d. hashed_at tasks unihashes d ≡ slice_get (map (hashed rows) (signatures rows tasks)) d) s.task.deps (λ k d inside. hashed_is (get_or s.task.deps k d) (below k d inside)))
+    ∙ sym (signature_by_unihashes rows tasks t s is below)
+  where
+    lt : t < length tasks
+    lt = let c = signed_count rows tasks in let w = slice_get_within (signatures rows tasks) t s is in omega (arith, c, w)
+
+    task_here : (n : ℕ) (x : Signed) → slice_get (signatures rows tasks) n ≡ Some x → slice_get tasks n ≡ Some x.task
+    task_here n x here =
+        let w = slice_get_within (signatures rows tasks) n x here in
+        let c = signed_count rows tasks in
+        let at = slice_get-get_or tasks n x.task (omega (arith, c, w)) in
+        at ∙ ap (λ (y : PlanTask). Some y) (sym (signed_task rows tasks n x (get_or tasks n x.task) here at))
+
+    below : All (λ d. d < t) s.task.deps
+    below = subst (λ (o : Option PlanTask). All (λ d. d < t) (deps_in o)) (task_here t s is) (order t)
+
+    names_are : names ≡ names_over rows tasks
+    names_are = names_are_over rows tasks names unihashes order are
+
+    hashed_is : (d : ℕ) → d < t → hashed_at tasks unihashes d ≡ slice_get (map (hashed rows) (signatures rows tasks)) d
+    hashed_is d lower =
+        let x = signed_here rows tasks d (omega (arith, lt, lower)) in
+        let name : slice_get names d ≡ Some (name_of x.0.sig) = ap (λ (l : List Hash). slice_get l d) names_are ∙ slice_get-map (λ (y : Signed). name_of y.sig) (signatures rows tasks) d ∙ ap (option_map (λ (y : Signed). name_of y.sig)) x.1 in
+        let unihash = are.hashed d (name_of x.0.sig) name in
+        (λ i. paired (task_here d x.0 x.1 i) (unihash i))
+        ∙ sym (slice_get-map (hashed rows) (signatures rows tasks) d ∙ ap (option_map (hashed rows)) x.1)
+
+-- ---- outputs within the limits
+
+left_false : (a b : Bool) → (a || b) ≡ false → b ≡ false
+left_false true b e = absurd (false≢true (sym e))
+left_false false b e = e
+
+first_false : (a b : Bool) → (a || b) ≡ false → a ≡ false
+first_false true b e = absurd (false≢true (sym e))
+first_false false b e = refl
+
+at_most : (n : ℕ) → Rattle.std.specs.Prelude.nat_lt 3072 n ≡ false → n ≤ 3072
+at_most n e = elim (le_or_gt n 3072) [ inl le ↦ le | inr more ↦ absurd (false≢true (sym e ∙ (Decides-ltb 3072 n).1 more)) ]
+  where
+    le_or_gt : (a b : ℕ) → (a ≤ b) ⊎ (b < a)
+    le_or_gt zero b = inl (omega arith)
+    le_or_gt (suc a) zero = inr (omega arith)
+    le_or_gt (suc a) (suc b) = elim (le_or_gt a b) [ inl le ↦ inl (omega (arith, le)) | inr gt ↦ inr (omega (arith, gt)) ]
+
+none_long : (tree : Entries) → list_any is_long tree ≡ false → AreShort tree
+none_long [] e = λ k d lt. absurd (omega arith)
+none_long (x ∷ tree) e = λ k d lt. each k d lt (none_long tree (left_false (is_long x) (list_any is_long tree) e))
+  where
+    here : length x.0 ≤ 3072
+    here = at_most (length x.0) (first_false (is_long x) (list_any is_long tree) e)
+
+    each : (k : ℕ) (d : List ℕ × Entry) → k < length (x ∷ tree) → AreShort tree → length (slice_index_or (x ∷ tree) k d).0 ≤ 3072
+    each zero d lt more = here
+    each (suc k) d lt more = more k d (omega (arith, lt))
+
+-- an output within the limits has short paths
+pub within_short : (tree : Entries) → is_beyond tree ≡ false → AreShort tree
+unfolding is_beyond
+within_short tree e = none_long tree (left_false (exceeds (size_of tree) output_limit) (list_any is_long tree) e)
+
+-- ---- what is known of the plan's tasks
+
+abbrev pub view_of : Plan → List EquivRow → View
+view_of plan rows = record { plan = plan; rows = rows }
+
+abbrev pub IsBy : Plan → ℕ → SigRecord → Option Replan → Type 0
+IsBy plan t sig replan = IfSome replan (λ known. (own : PlanTask) → slice_get plan.tasks t ≡ Some own → sig ≡ signature_by plan.tasks (unihashes_in known) own)
+
+-- the signature by what is known is the task's own
+pub known_signature : (plan : Plan) (rows : List EquivRow) (replan : Option Replan) (t : ℕ) (task : PlanTask) (sig : SigRecord) (s : Signed) → IsSound plan → slice_get plan.tasks t ≡ Some task → IfSome replan (IsCurrent no_meaning (view_of plan rows)) → IsSome replan → IsBy plan t sig replan → slice_get (signatures rows plan.tasks) t ≡ Some s → s ≡ record { task = task; sig = sig }
+known_signature plan rows None t task sig s sound at current known by is = absurd (false≢true known)
+known_signature plan rows (Some r) t task sig s sound at current known by is =
+    let are : AreNamed rows plan.tasks (names_in r) (unihashes_in r) = record { long = current.made.long; wide = current.made.wide; named = current.made.named; hashed = current.hashed } in
+    let same = signed_task rows plan.tasks t s task is at in
+    let own = own_signature rows plan.tasks (names_in r) (unihashes_in r) (ordered plan sound) are t s is in
+    let sigs : s.sig ≡ sig = sym own ∙ ap (signature_by plan.tasks (unihashes_in r)) same ∙ sym (by task at) in
+    λ i. record { task = same i; sig = sigs i }
+
+-- Why a fault of a publication is kept: before it the disk hadn't failed.
+pub store_cause : (before count : ℕ) (rows : List EquivRow) (s : Signed) (tree : Entries) (f : StoreFault) → before ≡ 0 → Counts before count (is_disk_fault f) → IsRefusal rows s tree f → IsStoreCause count f
+unfolding name_of
+store_cause before count rows s tree fault_of.Disk none counts refused = let rose = counts.rose in omega (arith, rose, none)
+store_cause before count rows s tree (fault_of.Collision name held given) none counts refused = (
+  refused.differ,
+  refused.held_name,
+  ap sha256 refused.given_is ∙ sym (ap (λ (h : Hash). h.bytes) refused.name_is),
+)
+store_cause before count rows s tree (fault_of.Unsteady pn task held given) none counts refused =
+    let is : fault_of.Unsteady pn task held given ≡ fault_of.Unsteady s.task.id.pn s.task.id.task refused.row.manifest (manifest_lines tree) = refused.is in
+    let held_is : held ≡ refused.row.manifest = cc in
+    let given_is : given ≡ manifest_lines tree = cc in
+    λ same. refused.differ (sym held_is ∙ same ∙ given_is)
+store_cause before count rows s tree fault_of.Memory none counts refused = tt
+
+-- the task that stands at a place of a list
+pub indexed : (tasks items : List PlanTask) (t : ℕ) (x : PlanTask) → items ≡ tasks → t < length tasks → x ≡ get_or items t x → slice_get tasks t ≡ Some x
+indexed tasks items t x same lt is = slice_get-get_or tasks t x lt ∙ ap (λ (y : PlanTask). Some y) (ap (λ (l : List PlanTask). get_or l t x) (sym same) ∙ sym is)
+
+-- So it can be published.
+pub known_is : (plan : Plan) (rows : List EquivRow) (replan : Option Replan) (t : ℕ) (task : PlanTask) (sig : SigRecord) → IsSound plan → t < length plan.tasks → slice_get plan.tasks t ≡ Some task → IfSome replan (IsCurrent no_meaning (view_of plan rows)) → IsSome replan → IsBy plan t sig replan → IsSpelled sig × IsSignatureOf task sig
+known_is plan rows replan t task sig sound lt at current known by =
+    let x = signed_here rows plan.tasks t lt in
+    let same = known_signature plan rows replan t task sig x.0 sound at current known by x.1 in
+    let own = is_own plan rows t x.0 sound x.1 in (
+      subst (λ (s : Signed). IsSpelled s.sig) same own.spelled,
+      record { pn = ap (λ (s : Signed). s.sig.pn) (sym same) ∙ own.pn ∙ ap (λ (s : Signed). s.task.id.pn) same; task = ap (λ (s : Signed). s.sig.task) (sym same) ∙ own.task ∙ ap (λ (s : Signed). s.task.id.task) same },
+    )
+
+-- a fault that is handed on keeps its cause
+pub handed_on : {X : Type 0} (r : Result X StoreFault) (f : StoreFault) (P : StoreFault → Type 0) → IsErrAnd r (λ e. e ≡ f) → P f → IfErr r P
+handed_on (Ok x) f P is here = tt
+handed_on (Err e) f P is here = subst P (sym is) here
+
+-- ---- a restoring
+
+-- Why a fault of a restoring is kept.
+clash_cause : (before count : ℕ) (rows : List EquivRow) (sig : SigRecord) (f : StoreFault) → before ≡ 0 → Counts before count (is_disk_fault f) → IsClash rows (name_of sig) (signature_bytes sig) f → IsStoreCause count f
+unfolding name_of
+clash_cause before count rows sig fault_of.Disk none counts refused = let rose = counts.rose in omega (arith, rose, none)
+clash_cause before count rows sig (fault_of.Collision name held given) none counts refused = (
+  refused.differ,
+  refused.held_name,
+  ap sha256 refused.given_is ∙ sym (ap (λ (h : Hash). h.bytes) refused.name_is),
+)
+clash_cause before count rows sig (fault_of.Unsteady pn task held given) none counts refused = absurd refused
+clash_cause before count rows sig fault_of.Memory none counts refused = tt
+
+pub restore_cause : (before count : ℕ) (rows : List EquivRow) (sig : SigRecord) (r : Result Bool StoreFault) → before ≡ 0 → Counts before count (store_failed r) → IfErr r (IsClash rows (name_of sig) (signature_bytes sig)) → IfErr r (IsStoreCause count)
+restore_cause before count rows sig (Ok found) none counts refused = tt
+restore_cause before count rows sig (Err f) none counts refused = clash_cause before count rows sig f none counts refused
+
+-- What is answered of a task with its signature is answered of the task of its number.
+pub put_object : (tells : Type 0) (old new : Story) (rows : List EquivRow) (tasks : List PlanTask) (t : ℕ) (x : Signed) (r : Result Bool StoreFault) → ((s : Signed) → IsSignedAt rows tasks t s → s ≡ x)
+    → (tells → IfOk r (λ found. MatchBool found (EachNow new (IsRestored old.held rows x)) (HasNoObject old.held rows x))) → IfOk r (λ found. (s : Signed) → IsSignedAt rows tasks t s → HasPutObject tells old new rows s found)
+put_object tells old new rows tasks t x (Ok found) same is = λ s here told. subst (λ (y : Signed). MatchBool found (EachNow new (IsRestored old.held rows y)) (HasNoObject old.held rows y)) (sym (same s here)) (is told)
+put_object tells old new rows tasks t x (Err f) same is = tt

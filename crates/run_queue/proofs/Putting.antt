@@ -1,0 +1,313 @@
+-- What a run keeps of its store while a task's output is published.
+use Rattle.std.proofs.Common.{◌≡◌, ◌≢◌, ◌∙◌, sym, ap, subst, refl, ℕ, ◌+◌, ◌<◌, ◌≤◌, ◌-◌, ◌^◌, ◌⊎◌, inl, inr, zero, suc, arith, Bool, true, false, List, [], ◌∷◌, ◌++◌, length, take, Some, None, Ok, append_assoc, append-nil}
+use Rattle.std.specs.Prelude.{Option}
+use Rattle.std.specs.List.{AllByRecursion, slice_get}
+use Rattle.std.proofs.lemmas.Bool.{cases_eq, false≢true}
+use Rattle.std.proofs.lemmas.List.{take_all, take-append-le}
+use Rattle.outside_traits.specs.Passes.{Passes}
+use Rattle.outside_traits.specs.Store.{Store}
+use Rattle.outside_traits.specs.Story.{IsImage, IsImageSince, Story, moment}
+use Rattle.outside_traits.specs.Story as story_of
+use Rattle.outside_traits.proofs.Images.{held-image, now-since}
+use Rattle.meta_model.specs.declared.event.Avail.{Avail}
+use Rattle.meta_model.specs.declared.event.Logged.{Logged}
+use Rattle.meta_model.specs.declared.plan.PlanTask.{PlanTask}
+use Rattle.meta_model.specs.CleanBuild.{Entries}
+use Rattle.run_core.specs.Fates.{fate_at, fates_told, is_settled}
+use Rattle.run_core.specs.History.{EachAfter, IsOrderly}
+use Rattle.run_core.proofs.Seats.{by_fronts, settled_kept}
+use Rattle.run_core.proofs.Steps.{told_push}
+use Rattle.store_model.specs.Origins.{Book, Line, rows_of}
+use Rattle.store_model.specs.Premises.{HasNoCollision}
+use Rattle.store_model.specs.declared.signature.EquivRow.{EquivRow}
+use Rattle.store_model.specs.Recording.{recorded}
+use Rattle.store_model.specs.Reuse.{MayReuse}
+use Rattle.store_model.specs.Rows.{row_at}
+use Rattle.store_model.specs.Signatures.{Signed, signatures}
+use Rattle.store_model.specs.Spelling.{name_of, signature_bytes}
+use Rattle.store_model.specs.Valid.{IsValid, IsValidBook, IsValidLine}
+use Rattle.store_model.proofs.Ordered.{each_append}
+use Rattle.store_model.proofs.Standing.{split_last, stands_further}
+use Rattle.build_store.specs.Faults.{IsClear}
+use Rattle.build_store.specs.Laws.{HasLine}
+use Rattle.build_store.specs.Paths.{record_path}
+use Rattle.build_store.specs.Publication.{IsPublished, KeepsOthers, Publication, Publishes, line_for, publication}
+use Rattle.build_store.specs.Sound.{IsReadable}
+use Rattle.build_store.proofs.Others.{others_untouched}
+use Rattle.run_queue.specs.Opening.{HasFolders, Opening}
+use Rattle.run_queue.specs.Books.{book_after}
+use Rattle.run_queue.specs.Keeps.{IsRun}
+use Rattle.run_queue.specs.Seen.{IsBegun, Seen}
+use Rattle.run_queue.specs.Stands.{AllStand, IsAsBegun, IsLeft, IsSettledIn, IsStanding}
+use Rattle.run_queue.proofs.Aside.{folders_on, honest_on}
+use Rattle.run_queue.proofs.Clearing.{clear_is_no_collision, unihashes_are}
+use Rattle.run_queue.proofs.Enduring.{differ_at, front_book, keeps_object, standing_on}
+use Rattle.run_queue.proofs.Passed.{left_since}
+use Rattle.run_queue.proofs.Placing.{has_place}
+use Rattle.run_queue.proofs.Recorded.{IsPut, either_valid, front_again, published_valid, unknown, which, whole_again}
+
+-- ---- the book of a run in which no fault is kept
+
+abbrev pub book_now : Opening → Seen → Book
+book_now o s = book_after o.gives s.plan o.book s.tale
+
+pub durable_now : (o : Opening) (s : Seen) → IsRun o s → s.fault ≡ None → (image : Store) → IsImage s.story image → IsValid o.gives o.reading image (book_now o s)
+durable_now o s run faultless image is = subst (IsValid o.gives o.reading image) (sym run.grown) (run.durable faultless image is)
+
+pub valid_now : (o : Opening) (s : Seen) → IsRun o s → s.fault ≡ None → IsValidBook o.gives o.reading (book_now o s)
+valid_now o s run faultless = subst (IsValidBook o.gives o.reading) (sym run.grown) (run.valid faultless).lines
+
+pub readable_now : (o : Opening) (s : Seen) → IsRun o s → s.fault ≡ None → AllByRecursion IsReadable (book_now o s)
+readable_now o s run faultless =
+    subst (AllByRecursion IsReadable) (sym run.grown)
+    (subst (λ (b : Book). AllByRecursion IsReadable (o.book ++ b)) (ap (λ (b : Book). run.lines ++ b) (run.none_last faultless) ∙ append-nil run.lines) run.readable)
+
+-- Where no row of a task's name has other bytes, the plan may reuse the book as it is now.
+pub may_now : (o : Opening) (s : Seen) → IsRun o s → s.fault ≡ None → ((t : ℕ) (sg : Signed) → slice_get (signatures s.rows s.plan.tasks) t ≡ Some sg → IsClear s.rows (name_of sg.sig) (signature_bytes sg.sig)) → MayReuse o.gives o.reading o.story.held (book_now o s) s.plan.tasks
+may_now o s run faultless clear =
+    let valid = valid_now o s run faultless in
+    run.reusable (subst (λ (r : List EquivRow). HasNoCollision (book_now o s) r s.plan.tasks) (sym run.rows)
+    (clear_is_no_collision o.gives o.reading (book_now o s) valid (readable_now o s run faultless) s.plan.tasks
+    (λ t sg is. run.may.spellings (rows_of (book_now o s)) (unihashes_are o.gives o.reading (book_now o s) valid) t sg is)
+    (subst (λ (r : List EquivRow). (t : ℕ) (sg : Signed) → slice_get (signatures r s.plan.tasks) t ≡ Some sg → IsClear r (name_of sg.sig) (signature_bytes sg.sig)) run.rows clear)))
+
+-- ---- settled tasks of fronts
+
+-- what is settled in a front of an orderly tale is settled in the tale
+pub settled_front : (tasks : List PlanTask) (tale : List Logged) → EachAfter (IsOrderly tasks) tale → (t k : ℕ) → is_settled (fate_at (fates_told (length tasks) (take k tale)) t) ≡ true → is_settled (fate_at (fates_told (length tasks) tale) t) ≡ true
+settled_front tasks tale each t k settled =
+    by_fronts (IsOrderly tasks) (λ l. (n : ℕ) → is_settled (fate_at (fates_told (length tasks) (take n l)) t) ≡ true → is_settled (fate_at (fates_told (length tasks) l) t) ≡ true)
+    (λ n is. subst (λ (l : List Logged). is_settled (fate_at (fates_told (length tasks) l) t) ≡ true) (take_all n [] (omega arith)) is)
+    next tale each k settled
+  where
+    le_or : (a b : ℕ) → (a ≤ b) ⊎ (b < a)
+    le_or zero b = inl (omega arith)
+    le_or (suc a) zero = inr (omega arith)
+    le_or (suc a) (suc b) = elim (le_or a b) [ inl le ↦ inl (omega (arith, le)) | inr lt ↦ inr (omega (arith, lt)) ]
+
+    next : (before : List Logged) (entry : Logged) → ((n : ℕ) → is_settled (fate_at (fates_told (length tasks) (take n before)) t) ≡ true → is_settled (fate_at (fates_told (length tasks) before) t) ≡ true) → IsOrderly tasks before entry
+        → (n : ℕ) → is_settled (fate_at (fates_told (length tasks) (take n (before ++ entry ∷ []))) t) ≡ true → is_settled (fate_at (fates_told (length tasks) (before ++ entry ∷ [])) t) ≡ true
+    next before entry again order n is = elim (le_or n (length before)) [
+      | inl le ↦
+          subst (λ (l : List Rattle.run_core.specs.declared.fate.Fate.Fate). is_settled (fate_at l t) ≡ true) (sym (told_push (length tasks) before entry))
+          (settled_kept (fates_told (length tasks) before) entry.event order.can t (again n (subst (λ (l : List Logged). is_settled (fate_at (fates_told (length tasks) l) t) ≡ true) (take-append-le n before (entry ∷ []) le) is)))
+      | inr gt ↦ subst (λ (l : List Logged). is_settled (fate_at (fates_told (length tasks) l) t) ≡ true) (take_all n (before ++ entry ∷ []) (let m = Rattle.std.proofs.Common.length-append before (entry ∷ []) in omega (arith, m, gt))) is
+    ]
+
+-- ---- while a task is published
+
+-- a list of what is begun, in which a task is begun besides
+pub record Begins (old new : List (Option Avail)) (t : ℕ) : Type 0 where
+  pub there : Avail
+  pub here : slice_get new t ≡ Some (Some there)
+  pub others : (u : ℕ) → (u ≡ t → ⊥) → slice_get new u ≡ slice_get old u
+
+-- what was begun is begun
+pub more_begun : (s : Seen) (begun : List (Option Avail)) (t : ℕ) → Begins s.begun begun t → (u : ℕ) → IsBegun s u → IsBegun (record s { begun = begun }) u
+more_begun s begun t begins u was = elim (cases_eq u t) [
+  | inl same ↦ (begins.there, ap (slice_get begun) same ∙ begins.here)
+  | inr ne ↦ (was.0, begins.others u ne ∙ was.1)
+]
+
+module _ (o : Opening) (s : Seen) (run : IsRun o s) (faultless : s.fault ≡ None) (orderly : EachAfter (IsOrderly s.plan.tasks) s.tale) (may : MayReuse o.gives o.reading o.story.held (book_now o s) s.plan.tasks)
+    (t : ℕ) (sg : Signed) (at : slice_get s.plan.tasks t ≡ Some sg.task) (is_sg : slice_get (signatures (rows_of (book_now o s)) s.plan.tasks) t ≡ Some sg) (tree : Entries)
+    (put : IsPut o.gives o.reading (book_now o s) (publication (rows_of (book_now o s)) sg tree) sg tree) (rests : is_settled (fate_at (fates_told (length s.plan.tasks) s.tale) t) ≡ false)
+    (later : Story) (sound : story_of.IsSound s.story) (pass : Passes s.story later (Publishes (publication (rows_of (book_now o s)) sg tree)))
+    (aside : Passes s.story later (KeepsOthers (publication (rows_of (book_now o s)) sg tree).folder (publication (rows_of (book_now o s)) sg tree).object s.story.held)) where
+  abbrev p : Publication
+  p = publication (rows_of (book_now o s)) sg tree
+
+  held_now : IsImage s.story s.story.held
+  held_now = held-image s.story sound
+
+  valid : IsValidBook o.gives o.reading (book_now o s)
+  valid = may.valid
+
+  -- no record is held under a new name in an image
+  new_name : (image : Store) → IsImage s.story image → (publication (rows_of (book_now o s)) sg tree).is_new ≡ true → image (record_path (name_of sg.sig)) ≡ None
+  new_name image is = unknown o.gives o.reading (book_now o s) sg tree put image (durable_now o s run faultless image is)
+
+  -- the lines of the book, and the publication's
+  longer : book_now o s ++ put.more ≡ o.book ++ (run.lines ++ put.more)
+  longer = ap (λ (b : Book). b ++ put.more) run.grown ∙ append_assoc o.book run.lines put.more
+
+  either_or : (u : ℕ) (other : PlanTask) → slice_get s.plan.tasks u ≡ Some other → (other ≡ sg.task) ⊎ Rattle.store_model.specs.Premises.Differ other sg.task
+  either_or u other at_u = elim (cases_eq u t) [
+    | inl same ↦ inl (let e : Some other ≡ Some sg.task = sym at_u ∙ ap (slice_get s.plan.tasks) same ∙ at in cc)
+    | inr ne ↦ inr (differ_at s.plan run.may.sound u t other sg.task at_u at ne)
+  ]
+
+  -- ---- images
+
+  module _ (begun : List (Option Avail)) (begins : Begins s.begun begun t) where
+    abbrev after : Seen
+    after = record s { begun = begun }
+
+    was_not : (u : ℕ) → (IsBegun (record s { begun = begun }) u → ⊥) → (u ≡ t → ⊥) × (IsBegun s u → ⊥)
+    was_not u not_begun =
+        let ne : u ≡ t → ⊥ = λ same. not_begun (begins.there, ap (slice_get begun) same ∙ begins.here) in
+        (ne, λ b. not_begun (b.0, begins.others u ne ∙ b.1))
+
+    -- the objects of the opening's lines of a task that isn't begun
+    as_begun : (u : ℕ) (other : PlanTask) → slice_get s.plan.tasks u ≡ Some other → (u ≡ t → ⊥) → (old new : Store) → Publishes (publication (rows_of (book_now o s)) sg tree) old new → IsAsBegun o.book o.story.held old other → IsAsBegun o.book o.story.held new other
+    as_begun u other at_u ne old new publishes was =
+        let place = has_place s.plan t sg.task run.may.sound at in
+        let place' = has_place s.plan u other run.may.sound at_u in
+        let stays = others_untouched p sg.task other old new place place' (differ_at s.plan run.may.sound u t other sg.task at_u at ne) refl publishes in
+        record {
+          stamp = stays.stamp ∙ was.stamp;
+          work = λ q below. stays.work q below ∙ was.work q below;
+          objects = λ l has pn name q below.
+              (keeps_object o s.plan run.may.sound (book_now o s) valid p put.line t sg.task at refl put.of_task put.pn put.task (which o.gives o.reading (book_now o s) sg tree put) u other at_u ne l
+              (has.0, stands_further (book_now o s) o.book run.lines has.0 l run.grown has.1) pn name old new publishes).object q below ∙ was.objects l has pn name q below;
+        }
+
+    left_valid : (old new : Store) → IsImage s.story old → Publishes (publication (rows_of (book_now o s)) sg tree) old new → (c : ℕ) × IsValid o.gives o.reading new (o.book ++ take c (run.lines ++ put.more))
+    left_valid old new is publishes = by (either_valid o.gives o.reading (book_now o s) sg tree put old new (durable_now o s run faultless old is) publishes)
+      where
+        by : IsValid o.gives o.reading new (book_now o s) ⊎ IsValid o.gives o.reading new (book_now o s ++ put.more) → (c : ℕ) × IsValid o.gives o.reading new (o.book ++ take c (run.lines ++ put.more))
+        by (inl v) = let w = whole_again run.lines put.more in (w.0, subst (IsValid o.gives o.reading new) (run.grown ∙ ap (λ (b : Book). o.book ++ b) (sym w.1)) v)
+        by (inr v) = let l : List Line = run.lines ++ put.more in (length l, subst (IsValid o.gives o.reading new) (longer ∙ ap (λ (b : Book). o.book ++ b) (sym (take_all (length l) l (omega arith)))) v)
+
+    -- what an image is that the publication made
+    left_put : (old new : Store) → IsImage s.story old → HasFolders new → Publishes (publication (rows_of (book_now o s)) sg tree) old new → IsLeft o (record s { begun = begun }) (run.lines ++ put.more) new
+    left_put old new is folders publishes =
+        let was = left_since o s run old (now-since s.story (moment o.story) old run.later is) in
+        let v = left_valid old new is publishes in
+        record {
+          count = v.0;
+          valid = v.1;
+          honest = λ u other at_u. honest_on p o.story.held old new sg.task other (has_place s.plan t sg.task run.may.sound at) (has_place s.plan u other run.may.sound at_u) refl (either_or u other at_u) publishes (new_name old is) (was.honest u other at_u);
+          others = λ u other at_u not_begun. let w = was_not u not_begun in as_begun u other at_u w.0 old new publishes (was.others u other at_u w.1);
+          folders = folders;
+        }
+
+    -- and one that was there before
+    left_was : (image : Store) → IsLeft o s (run.lines ++ run.last) image → IsLeft o (record s { begun = begun }) (run.lines ++ put.more) image
+    left_was image was =
+        let none = ap (λ (b : Book). run.lines ++ b) (run.none_last faultless) ∙ append-nil run.lines in
+        let d = front_again was.count run.lines put.more in
+        record {
+          count = d.0;
+          valid = subst (λ (b : Book). IsValid o.gives o.reading image (o.book ++ b)) (ap (take was.count) none ∙ sym d.1) was.valid;
+          honest = was.honest;
+          others = λ u other at_u not_begun. was.others u other at_u (was_not u not_begun).1;
+          folders = was.folders;
+        }
+
+    -- whatever a crash left by now
+    pub left_after : (from : ℕ) (image : Store) → from ≤ moment o.story → IsImageSince later from image → IsImageSince o.story from image ⊎ IsLeft o (record s { begun = begun }) (run.lines ++ put.more) image
+    left_after from image le since = by (pass.since from image come since) (aside.since from image come since)
+      where
+        come : from ≤ moment s.story
+        come = let a = run.later in omega (arith, a, le)
+
+        folders : (i : Store) → IsImage s.story i → HasFolders i
+        folders i is = (left_since o s run i (now-since s.story (moment o.story) i run.later is)).folders
+
+        old : IsImageSince o.story from image ⊎ IsLeft o s (run.lines ++ run.last) image → IsImageSince o.story from image ⊎ IsLeft o (record s { begun = begun }) (run.lines ++ put.more) image
+        old (inl before) = inl before
+        old (inr left) = inr (left_was image left)
+
+        put_or : (made : (earlier : Store) × IsImage s.story earlier × Publishes (publication (rows_of (book_now o s)) sg tree) earlier image) → IsImageSince o.story from image ⊎ IsLeft o s (run.lines ++ run.last) image → IsImageSince o.story from image ⊎ IsLeft o (record s { begun = begun }) (run.lines ++ put.more) image
+        put_or made (inl before) = inl before
+        put_or made (inr left) = inr (left_put made.0 image made.1 left.folders made.2)
+
+        by : IsImageSince s.story from image ⊎ ((earlier : Store) × IsImage s.story earlier × Publishes (publication (rows_of (book_now o s)) sg tree) earlier image)
+            → IsImageSince s.story from image ⊎ ((earlier : Store) × IsImage s.story earlier × KeepsOthers (publication (rows_of (book_now o s)) sg tree).folder (publication (rows_of (book_now o s)) sg tree).object s.story.held earlier image)
+            → IsImageSince o.story from image ⊎ IsLeft o (record s { begun = begun }) (run.lines ++ put.more) image
+        by (inl was) other = old (run.images from image le was)
+        by (inr made) (inl was) = put_or made (run.images from image le was)
+        by (inr made) (inr kept) =
+            inr (left_put made.0 image made.1
+            (folders_on p s.story.held kept.0 image sg.task (has_place s.plan t sg.task run.may.sound at) refl kept.2 (folders s.story.held held_now) (folders kept.0 kept.1)) made.2)
+
+    -- the lines are of tasks that are begun
+    pub own_after : (l : Line) → HasLine (run.lines ++ put.more) l → (u : ℕ) (other : PlanTask) → slice_get s.plan.tasks u ≡ Some other → l.sig.pn ≡ other.id.pn → l.sig.task ≡ other.id.task → IsBegun (record s { begun = begun }) u
+    own_after l has u other at_u pn name = by put.stands
+      where
+        known : HasLine run.lines l → IsBegun (record s { begun = begun }) u
+        known it = more_begun s begun t begins u (run.own l it u other at_u pn name)
+
+        last : l ≡ put.line → (u ≡ t) ⊎ (u ≡ t → ⊥) → IsBegun (record s { begun = begun }) u
+        last is (inl same) = (begins.there, ap (slice_get begun) same ∙ begins.here)
+        last is (inr ne) =
+            absurd (differ_at s.plan run.may.sound u t other sg.task at_u at ne
+            (sym pn ∙ ap (λ (x : Line). x.sig.pn) is ∙ put.pn) (sym name ∙ ap (λ (x : Line). x.sig.task) is ∙ put.task))
+
+        by : (HasLine (book_now o s) put.line × (put.more ≡ []) × ((publication (rows_of (book_now o s)) sg tree).is_new ≡ false)) ⊎ (IsValidLine o.gives o.reading (book_now o s) put.line × (put.more ≡ put.line ∷ []) × (row_at (rows_of (book_now o s)) (name_of sg.sig) ≡ None) × (put.line ≡ recorded (rows_of (book_now o s)) sg tree)) → IsBegun (record s { begun = begun }) u
+        by (inl none) = known (subst (λ (b : Book). HasLine b l) (ap (λ (b : Book). run.lines ++ b) none.1 ∙ append-nil run.lines) has)
+        by (inr new) =
+            let it = subst (λ (b : Book). HasLine b l) (ap (λ (b : Book). run.lines ++ b) new.1) has in
+            elim (split_last run.lines it.0 put.line l it.1) [
+              | inl e ↦ last e.1 (cases_eq u t)
+              | inr stands ↦ known (it.0, stands)
+            ]
+
+  -- ---- settled tasks
+
+  -- a settled task of a front stands in an image that the publication made
+  standing_put : (k : ℕ) (earlier other_image image : Store) → Publishes (publication (rows_of (book_now o s)) sg tree) earlier image → KeepsOthers (publication (rows_of (book_now o s)) sg tree).folder (publication (rows_of (book_now o s)) sg tree).object s.story.held other_image image
+      → AllStand o s.plan (take k s.tale) s.story.held → AllStand o s.plan (take k s.tale) earlier → AllStand o s.plan (take k s.tale) other_image
+      → (u : ℕ) (other : PlanTask) → slice_get s.plan.tasks u ≡ Some other → (u ≡ t → ⊥) → IsSettledIn s.plan (take k s.tale) u → IsStanding o s.plan (take k s.tale) u other image
+  standing_put k earlier other_image image publishes keeps h st e u other at_u ne settled =
+      let f = front_book o.gives s.plan o.book s.tale k in
+      standing_on o s.plan run.may.sound (book_now o s) valid p put.line t sg.task at refl put.of_task put.pn put.task (which o.gives o.reading (book_now o s) sg tree put)
+      (take k s.tale) f.0 f.1 u other at_u ne s.story.held earlier other_image image publishes keeps
+      (h u other at_u settled) (st u other at_u settled) (e u other at_u settled)
+
+  -- the publication's task isn't settled in a front
+  not_settled : (k : ℕ) (u : ℕ) → IsSettledIn s.plan (take k s.tale) u → u ≡ t → ⊥
+  not_settled k u settled same =
+      false≢true (sym rests ∙ subst (λ (n : ℕ). is_settled (fate_at (fates_told (length s.plan.tasks) s.tale) n) ≡ true) same (settled_front s.plan.tasks s.tale orderly u k settled))
+
+  all_put : (k : ℕ) (earlier other_image image : Store) → Publishes (publication (rows_of (book_now o s)) sg tree) earlier image → KeepsOthers (publication (rows_of (book_now o s)) sg tree).folder (publication (rows_of (book_now o s)) sg tree).object s.story.held other_image image
+      → AllStand o s.plan (take k s.tale) s.story.held → AllStand o s.plan (take k s.tale) earlier → AllStand o s.plan (take k s.tale) other_image → AllStand o s.plan (take k s.tale) image
+  all_put k earlier other_image image publishes keeps h st e u other at_u settled = standing_put k earlier other_image image publishes keeps h st e u other at_u (not_settled k u settled) settled
+
+  -- Settled tasks stand in each image now.
+  pub stand_now : (image : Store) → IsImage later image → AllStand o s.plan s.tale image
+  stand_now image is =
+      let whole : take (length s.tale) s.tale ≡ s.tale = take_all (length s.tale) s.tale (omega arith) in
+      let on = λ (i : Store) (x : IsImage s.story i). subst (λ (l : List Logged). AllStand o s.plan l i) (sym whole) (run.stands i x) in
+      let made = pass.now image is in
+      let kept = aside.now image is in
+      subst (λ (l : List Logged). AllStand o s.plan l image) whole
+      (all_put (length s.tale) made.0 kept.0 image made.2 kept.2 (on s.story.held held_now) (on made.0 made.1) (on kept.0 kept.1))
+
+  -- And those of a front in each image since the moment of its last entry.
+  pub stand_since : (k : ℕ) (entry : Logged) → slice_get s.tale k ≡ Some entry → entry.moment < 2 ^ 64 - 1 → (image : Store) → IsImageSince later entry.moment image → AllStand o s.plan (take (k + 1) s.tale) image
+  stand_since k entry here lt image since = by (pass.since entry.moment image (run.marked k entry here) since) (aside.since entry.moment image (run.marked k entry here) since)
+    where
+      now : (i : Store) → IsImage s.story i → AllStand o s.plan (take (k + 1) s.tale) i
+      now i is = run.settled k entry here lt i (now-since s.story entry.moment i (run.marked k entry here) is)
+
+      by : IsImageSince s.story entry.moment image ⊎ ((earlier : Store) × IsImage s.story earlier × Publishes (publication (rows_of (book_now o s)) sg tree) earlier image)
+          → IsImageSince s.story entry.moment image ⊎ ((earlier : Store) × IsImage s.story earlier × KeepsOthers (publication (rows_of (book_now o s)) sg tree).folder (publication (rows_of (book_now o s)) sg tree).object s.story.held earlier image) → AllStand o s.plan (take (k + 1) s.tale) image
+      by (inl was) other = run.settled k entry here lt image was
+      by (inr made) (inl was) = run.settled k entry here lt image was
+      by (inr made) (inr kept) = all_put (k + 1) made.0 kept.0 image made.2 kept.2 (now s.story.held held_now) (now made.0 made.1) (now kept.0 kept.1)
+
+  -- ---- what can be read again
+
+  pub readable_more : IsReadable (line_for (rows_of (book_now o s)) sg tree) → AllByRecursion IsReadable put.more
+  readable_more is = by put.stands
+    where
+      same : IsReadable put.line
+      same = record {
+        spelled = subst (λ (x : Rattle.store_model.specs.declared.signature.StoredSig.StoredSig). Rattle.sig_gen.specs.Stored.SpellsStored (Rattle.store_model.specs.Spelling.record_bytes x) x) (λ i. record { sig = sym put.sig i; manifest = sym put.manifest i; unihash = sym put.unihash i }) is.spelled;
+        short = subst (λ (l : List Rattle.tree_model.specs.declared.manifest.ManifestLine.ManifestLine). Rattle.build_store.specs.Sound.HasShortPaths l) (sym put.manifest) is.short;
+      }
+
+      by : (HasLine (book_now o s) put.line × (put.more ≡ []) × ((publication (rows_of (book_now o s)) sg tree).is_new ≡ false)) ⊎ (IsValidLine o.gives o.reading (book_now o s) put.line × (put.more ≡ put.line ∷ []) × (row_at (rows_of (book_now o s)) (name_of sg.sig) ≡ None) × (put.line ≡ recorded (rows_of (book_now o s)) sg tree)) → AllByRecursion IsReadable put.more
+      by (inl known) = subst (AllByRecursion IsReadable) (sym known.1) tt
+      by (inr new) = subst (AllByRecursion IsReadable) (sym new.1) (same, tt)
+
+  pub readable_after : AllByRecursion IsReadable put.more → AllByRecursion IsReadable (o.book ++ (run.lines ++ put.more))
+  readable_after more = subst (AllByRecursion IsReadable) longer (each_append IsReadable (book_now o s) put.more (readable_now o s run faultless) more)
+
+  -- behind it each image is valid with the longer book
+  pub durable_after : ((image : Store) → IsImage later image → IsPublished (publication (rows_of (book_now o s)) sg tree) image) → (image : Store) → IsImage later image → IsValid o.gives o.reading image (o.book ++ (run.lines ++ put.more))
+  durable_after published image is =
+      let made = pass.now image is in
+      subst (IsValid o.gives o.reading image) longer (published_valid o.gives o.reading (book_now o s) sg tree put made.0 image (durable_now o s run faultless made.0 made.1) made.2 (published image is))

@@ -1,0 +1,173 @@
+-- What the state of a run keeps.
+use Rattle.std.specs.Prelude.{◌≡◌, ◌≢◌, ◌⊎◌, ◌<◌, ◌≤◌, ◌+◌, ◌++◌, ℕ, Bool, true, false, List, length, Option, Some, None, IfSome, []}
+use Rattle.std.specs.Bool.{OnTrue, OnFalse}
+use Rattle.std.specs.List.{AllByRecursion, slice_get}
+use Rattle.sha2.specs.Sha256.{sha256}
+use Rattle.tree_model.specs.declared.hash.Hash.{Hash}
+use Rattle.outside_traits.specs.Story.{IsImageSince, Story, moment}
+use Rattle.outside_traits.specs.Passes.{EachNow}
+use Rattle.outside_traits.specs.Store.{Store}
+use Rattle.meta_model.specs.declared.event.Avail.{Avail}
+use Rattle.meta_model.specs.declared.event.Logged.{Logged}
+use Rattle.meta_model.specs.declared.plan.Options.{Options}
+use Rattle.meta_model.specs.declared.plan.Plan.{Plan}
+use Rattle.run_core.specs.declared.fate.Fate.{Fate}
+use Rattle.run_core.specs.Fates.{running_count}
+use Rattle.run_core.specs.History.{EachAfter, IsOrderly}
+use Rattle.run_core.specs.Need.{IsIn, IsNeed}
+use Rattle.plan_model.specs.Sound.{IsSound}
+use Rattle.store_model.specs.declared.signature.EquivRow.{EquivRow}
+use Rattle.build_store.specs.Sound.{IsReadable}
+use Rattle.store_model.specs.Origins.{Book, Line, rows_of}
+use Rattle.build_store.specs.Laws.{HasLine}
+use Rattle.meta_model.specs.declared.plan.PlanTask.{PlanTask}
+use Rattle.store_model.specs.Premises.{HasNoCollision}
+use Rattle.store_model.specs.Reuse.{MayReuse}
+use Rattle.store_model.specs.Rows.{row_at}
+use Rattle.store_model.specs.Valid.{IsValid}
+use Rattle.meta_model.specs.declared.event.Avail.TheVariants.{Missing, Object}
+use Rattle.store_model.specs.Available.{IsAvailable}
+use Rattle.store_model.specs.Signatures.{Signed, signatures}
+use Rattle.store_model.specs.Spelling.{name_of, signature_bytes}
+use Rattle.build_store.specs.Faults.{IsClear}
+use Rattle.setscene_plan.specs.Names.{names_over}
+use Rattle.build_store.specs.View.{View}
+use Rattle.build_store.specs.declared.fault.StoreFault.{StoreFault}
+use Rattle.build_store.specs.declared.fault.StoreFault.TheVariants as fault_of
+use Rattle.bb_report.specs.Written.{WritesFront}
+use Rattle.run_queue.specs.declared.fault.RunFault.{RunFault}
+use Rattle.run_queue.specs.declared.fault.RunFault.TheVariants as ends
+use Rattle.run_queue.specs.Opening.{MayRun, Opening}
+use Rattle.run_queue.specs.Books.{book_after, rows_after}
+use Rattle.run_queue.specs.Courses.{IsLegalTale, IsReal}
+use Rattle.run_queue.specs.Seen.{IsBegun, Known, RunView, Seen}
+use Rattle.run_queue.specs.Stands.{AllStand, HasEnded, HasStarted, KeepObjects, IsLeft, IsSettledIn, StandSince}
+
+-- ---- in every state
+
+-- What is known is up to date: each task has its name over the rows, no row of a task's name has another signature, what is needed is so
+-- by what is there, and what is there has a row.
+pub record IsUpToDate (plan : Plan) (rows : List EquivRow) (k : Known) : Type 0 where
+  pub names : k.names ≡ names_over rows plan.tasks
+  pub clear : (t : ℕ) (s : Signed) → slice_get (signatures rows plan.tasks) t ≡ Some s → IsClear rows (name_of s.sig) (signature_bytes s.sig)
+  pub long : length k.avail ≡ length plan.tasks
+  pub need : IsNeed plan k.avail k.need
+  pub stored : (t : ℕ) (name : Hash) → IsIn k.need t → slice_get k.avail t ≢ Some Missing → slice_get k.names t ≡ Some name → row_at rows name ≢ None
+
+-- Why a fault of the store is kept: the disk's count is above 0; two signatures that differ have the name as their digest; two
+-- manifests differ; a publication wanted memory, for which nothing is asked.
+abbrev pub IsStoreCause : ℕ → StoreFault → Type 0
+IsStoreCause count fault_of.Disk = 0 < count
+IsStoreCause count (fault_of.Collision name held given) = (held ≢ given) × (sha256 held ≡ name.bytes) × (sha256 given ≡ name.bytes)
+IsStoreCause count (fault_of.Unsteady pn task held given) = held ≢ given
+IsStoreCause count fault_of.Memory = Unit {0}
+
+abbrev pub IsCause : ℕ → Bool → RunFault → Type 0
+IsCause count sink_failed (ends.Store f) = IsStoreCause count f
+IsCause count sink_failed ends.Write = sink_failed ≡ true
+
+-- the fault isn't that a task's output differs from one run to another
+abbrev pub IsSteadyAnswer : StoreFault → Type 0
+IsSteadyAnswer fault_of.Disk = Unit {0}
+IsSteadyAnswer (fault_of.Collision name held given) = Unit {0}
+IsSteadyAnswer (fault_of.Unsteady pn task held given) = ⊥
+IsSteadyAnswer fault_of.Memory = Unit {0}
+
+-- no such fault is kept
+abbrev pub IsSteady : Option RunFault → Type 0
+IsSteady None = Unit {0}
+IsSteady (Some (ends.Store f)) = IsSteadyAnswer f
+IsSteady (Some ends.Write) = Unit {0}
+
+-- What every state keeps; `count` is the disk's count of faults.
+pub record IsState {D W : Type 0} (count : ℕ) (s : RunView D W) : Type 0 where
+  -- the plan is sound, and of each task it is kept whether it was begun
+  pub sound : IsSound s.plan
+  pub long : length s.begun ≡ length s.plan.tasks
+  -- each event could be marked, and by the seat that marked it
+  pub orderly : EachAfter (IsOrderly s.plan.tasks) s.tale
+  -- what is known of the plan's tasks is up to date
+  pub current : IfSome s.known (IsUpToDate s.plan s.store.rows)
+  -- while no fault is kept neither the disk has failed nor the sink, and a kept one has its cause
+  pub unharmed : s.fault ≡ None → count ≡ 0
+  pub heard : s.fault ≡ None → s.sink_failed ≡ false
+  pub cause : IfSome s.fault (IsCause count s.sink_failed)
+
+-- In the tale there is room for what comes of each running task.
+abbrev pub HasRoom : ℕ → ℕ → List Fate → Type 0
+HasRoom capacity events fates = events + running_count fates ≤ capacity
+
+-- ---- where the opening is kept
+
+-- How the output of a task is there, by its signature over the rows as they are now, in what was held when the run began.
+abbrev pub WasThere : Opening → Seen → ℕ → Avail → Type 0
+WasThere o s t a = (sg : Signed) → slice_get (signatures s.rows s.plan.tasks) t ≡ Some sg → IsAvailable o.story.held s.rows s.options.setscene sg a
+
+-- What was written behind the base is this text or, where the sink failed, some front of it.
+pub record Prints (base now text : List ℕ) (failed : Bool) : Type 0 where
+  pub whole : OnFalse failed (now ≡ base ++ text)
+  pub front : OnTrue failed (WritesFront base now text)
+
+-- a text begins with this one
+pub record IsFront (front text : List ℕ) : Type 0 where
+  pub rest : List ℕ
+  pub is : text ≡ front ++ rest
+
+-- What a run keeps besides over an opening whose premises hold.
+pub record IsRun (o : Opening) (s : Seen) : Type 0 where
+  pub may : MayRun o s.plan
+  -- the book grows by the lines of what ended, and the rows are its rows
+  pub rows : s.rows ≡ rows_after o s.plan s.tale
+  pub lines : Book
+  pub grown : book_after o.gives s.plan o.book s.tale ≡ o.book ++ lines
+  -- the lines behind the opening's are of tasks that were begun
+  pub own : (line : Line) → HasLine lines line → (t : ℕ) (task : PlanTask) → slice_get s.plan.tasks t ≡ Some task → line.sig.pn ≡ task.id.pn → line.sig.task ≡ task.id.task → IsBegun s t
+  -- a crash may have left one line more: that of a publication in which a fault was met; all lines can be read again
+  pub last : Book
+  pub none_last : s.fault ≡ None → last ≡ []
+  pub readable : AllByRecursion IsReadable (o.book ++ (lines ++ last))
+  -- while no fault is kept, what is held, and what a crash leaves now, is valid with that book
+  pub valid : s.fault ≡ None → IsValid o.gives o.reading s.story.held (o.book ++ lines)
+  pub durable : s.fault ≡ None → EachNow s.story (λ image. IsValid o.gives o.reading image (o.book ++ lines))
+  -- and the objects of tasks that haven't ended are as they were when the run began
+  pub objects : s.fault ≡ None → EachNow s.story (KeepObjects o s.plan s.tale)
+  -- the run began, and each event came, at a moment that is not to come
+  pub later : moment o.story ≤ moment s.story
+  pub marked : (k : ℕ) (entry : Logged) → slice_get s.tale k ≡ Some entry → entry.moment ≤ moment s.story
+  -- where no line of it has the name of a task and another signature, the plan may reuse the book as it is now
+  pub reusable : HasNoCollision (book_after o.gives s.plan o.book s.tale) s.rows s.plan.tasks → MayReuse o.gives o.reading o.story.held (book_after o.gives s.plan o.book s.tale) s.plan.tasks
+  -- the tale is legal, and each failure in it is one that the clean build says
+  pub legal : IsLegalTale o s.plan s.options s.tale
+  pub real : (k : ℕ) (entry : Logged) → slice_get s.tale k ≡ Some entry → IsReal o.gives s.plan.tasks entry.event
+  -- the name of each settled task has a row
+  pub stored : (t : ℕ) (sg : Signed) → IsSettledIn s.plan s.tale t → slice_get (signatures s.rows s.plan.tasks) t ≡ Some sg → row_at s.rows (name_of sg.sig) ≢ None
+  -- what is known of needed tasks that haven't ended was so when the run began; so was, while no fault is kept, what was answered of
+  -- those that were begun and haven't ended, and it was an object; and the output of a settled task that didn't end was there then
+  pub there : IfSome s.known (λ k. (t : ℕ) (a : Avail) → IsIn k.need t → (HasEnded s.plan s.tale t → ⊥) → slice_get k.avail t ≡ Some a → WasThere o s t a)
+  pub answered : s.fault ≡ None → (t : ℕ) (a : Avail) → slice_get s.begun t ≡ Some (Some a) → (HasEnded s.plan s.tale t → ⊥) → WasThere o s t a × (a ≡ Object)
+  pub met : (t : ℕ) → IsSettledIn s.plan s.tale t → (HasEnded s.plan s.tale t → ⊥) → (a : Avail) × WasThere o s t a × (a ≢ Missing)
+  -- each task that was begun was started, or was there as an object when the run began
+  pub tried : (t : ℕ) → IsBegun s t → HasStarted s.tale t ⊎ WasThere o s t Object
+  -- whatever a crash left was left before the run began, or it is valid, has no stamp that lies, and has the tasks that weren't begun as
+  -- they were
+  pub images : (t : ℕ) (image : Store) → t ≤ moment o.story → IsImageSince s.story t image → IsImageSince o.story t image ⊎ IsLeft o s (lines ++ last) image
+  -- settled tasks stand, now and since the moment of their events
+  pub stands : EachNow s.story (AllStand o s.plan s.tale)
+  pub settled : StandSince o s
+
+-- ---- how a run begins
+
+-- the opening of a run over a store that was just opened
+pub record IsOpening (o : Opening) (story : Story) (rows : List EquivRow) : Type 0 where
+  pub story_is : o.story ≡ story
+  pub rows_are : rows ≡ rows_of o.book
+
+-- the state of a run that begins
+pub record Begun {D W : Type 0} (plan : Plan) (options : Options) (store : View D) (sink : W) (s : RunView D W) : Type 0 where
+  pub plan_is : s.plan ≡ plan
+  pub options_are : s.options ≡ options
+  pub store_is : s.store ≡ store
+  pub sink_is : s.sink ≡ sink
+  pub stands : s.sink_failed ≡ false
+  pub no_fault : s.fault ≡ None
+  pub no_tale : s.tale ≡ []

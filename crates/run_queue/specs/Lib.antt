@@ -1,0 +1,12 @@
+pub mod Opening
+pub mod Books
+pub mod Courses
+pub mod Seen
+pub mod Outputs
+pub mod Stands
+pub mod Keeps
+pub mod Turns
+pub mod Laws
+pub mod Puts
+pub mod Asking
+pub mod AskingLaws

@@ -1,0 +1,50 @@
+-- What publishing the output of a task of the plan does, or restoring it.
+use Rattle.std.specs.Prelude.{◌≡◌, ℕ, Bool, List, MatchBool, Option, Some, None, Ok, length}
+use Rattle.std.specs.List.{slice_get}
+use Rattle.outside_traits.specs.Passes.{EachNow, Passes}
+use Rattle.outside_traits.specs.Story.{Story}
+use Rattle.meta_model.specs.declared.event.Avail.{Avail}
+use Rattle.meta_model.specs.declared.plan.PlanTask.{PlanTask}
+use Rattle.meta_model.specs.CleanBuild.{Built, Entries, Gives, clean_build}
+use Rattle.store_model.specs.declared.signature.EquivRow.{EquivRow}
+use Rattle.store_model.specs.Signatures.{Signed, signatures}
+use Rattle.store_model.specs.Available.{task_folder}
+use Rattle.build_store.specs.Publication.{HasNoObject, IsPublished, IsRestored, KeepsOthers, Publication, Publishes, Restores, publication, rows_with}
+use Rattle.run_queue.specs.Courses.{clean_says, said}
+
+-- What it does to the disk, whatever is answered.
+pub record Puts (tells : Type 0) (old new : Story) (p : Publication) : Type 0 where
+  pub images : tells → Passes old new (Publishes p)
+  pub others : tells → Passes old new (KeepsOthers p.folder p.object old.held)
+
+-- Where it is answered that the output was published: the rows, and what a crash leaves.
+pub record HasPut (tells : Type 0) (new : Story) (rows later : List EquivRow) (s : Signed) (tree : Entries) : Type 0 where
+  pub rows_are : later ≡ rows_with rows s tree
+  pub published : tells → EachNow new (IsPublished (publication rows s tree))
+
+-- What restoring a task does to the disk, whatever is answered.
+pub record PutsObject (tells : Type 0) (old new : Story) (rows : List EquivRow) (s : Signed) : Type 0 where
+  pub images : tells → Passes old new (Restores old.held rows s)
+  pub others : tells → Passes old new (KeepsOthers (task_folder s.task) None old.held)
+
+-- Where it is answered that the task was restored, or that it has no object: what a crash leaves, or what was held.
+abbrev pub HasPutObject : Type 0 → Story → Story → List EquivRow → Signed → Bool → Type 0
+HasPutObject tells old new rows s found = tells → MatchBool found (EachNow new (IsRestored old.held rows s)) (HasNoObject old.held rows s)
+
+-- the task of a number has this signature over these rows
+abbrev pub IsSignedAt : List EquivRow → List PlanTask → ℕ → Signed → Type 0
+IsSignedAt rows tasks t s = slice_get (signatures rows tasks) t ≡ Some s
+
+-- the list with this task begun besides
+pub record IsBegunBesides (old new : List (Option Avail)) (t : ℕ) : Type 0 where
+  pub long : length new ≡ length old
+  pub there : Avail
+  pub here : slice_get new t ≡ Some (Some there)
+  pub others : (u : ℕ) → (u ≡ t → ⊥) → slice_get new u ≡ slice_get old u
+
+-- The tree is the task's clean output, and that is what the clean build says.
+pub record IsCleanOutput (gives : Gives) (tasks : List PlanTask) (t : ℕ) (tree : Entries) : Type 0 where
+  pub built : Built
+  pub is_built : slice_get (clean_build gives tasks) t ≡ Some built
+  pub clean : built.outcome ≡ Ok tree
+  pub says : clean_says gives tasks t ≡ said (Ok tree)

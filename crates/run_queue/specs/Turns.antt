@@ -1,0 +1,191 @@
+-- What one turn does to a run's tale.
+use Rattle.std.specs.Prelude.{◌≡◌, ◌⊎◌, ◌-◌, ◌^◌, min, ℕ, Bool, false, List, [], ◌∷◌, ◌++◌, length, set, Option, Some, None, IsSome, Result, Ok, Err}
+use Rattle.std.specs.List.{slice_get}
+use Rattle.meta_model.specs.declared.event.Avail.{Avail}
+use Rattle.meta_model.specs.declared.event.Avail.TheVariants.{Missing}
+use Rattle.meta_model.specs.declared.event.Cut.TheVariants as cut
+use Rattle.meta_model.specs.declared.event.Event.{Event}
+use Rattle.meta_model.specs.declared.event.Event.TheVariants as events
+use Rattle.meta_model.specs.declared.event.Logged.{Logged}
+use Rattle.meta_model.specs.declared.event.Why.TheVariants as why
+use Rattle.meta_model.specs.declared.plan.Options.{Options}
+use Rattle.meta_model.specs.declared.plan.Plan.{Plan}
+use Rattle.meta_model.specs.declared.plan.PlanTask.{PlanTask}
+use Rattle.meta_model.specs.CleanBuild.{Gives, is_beyond_layout}
+use Rattle.tree_model.specs.declared.text.Mem.{Mem}
+use Rattle.outside_traits.specs.Story.{Story, moment}
+use Rattle.run_core.specs.declared.fate.Fate.TheVariants.{Running}
+use Rattle.run_core.specs.declared.fate.Next.{Next}
+use Rattle.run_core.specs.Choice.{IsFinished, MayAnswer}
+use Rattle.run_core.specs.Fates.{HoldsFailure, SomeRuns, fate_at, fates_told}
+use Rattle.run_core.specs.History.{Course}
+use Rattle.run_core.specs.Need.{IsNeed}
+use Rattle.build_store.specs.View.{SameBooks}
+use Rattle.task_worker.specs.declared.given.Given.{Given}
+use Rattle.task_worker.specs.declared.given.Given.TheVariants as given
+use Rattle.task_worker.specs.declared.given.Job.{Job}
+use Rattle.task_worker.specs.Jobs.{job_output, outcome_of}
+use Rattle.task_worker.specs.Layouts.{layout_over}
+use Rattle.task_worker.specs.OneTask.{AreClean}
+use Rattle.std.specs.Prelude.{map}
+use Rattle.run_queue.specs.declared.restoring.Restoring.{Restoring}
+use Rattle.run_queue.specs.declared.restoring.Restoring.TheVariants as restoring
+use Rattle.run_queue.specs.declared.state.Claim.{Claim}
+use Rattle.run_queue.specs.declared.state.Claim.TheVariants as claim
+use Rattle.run_queue.specs.Courses.{IsCourse}
+use Rattle.run_queue.specs.Opening.{Opening}
+use Rattle.run_queue.specs.Seen.{Known, RunView, Seen}
+
+-- one event more, marked by a seat
+pub record Marks (seat : ℕ) (event : Event) (old new : List Logged) : Type 0 where
+  pub moment : ℕ
+  pub is : new ≡ old ++ record { event = event; seat = seat; moment = moment } ∷ []
+
+-- the job of a task of the plan, which began under a seat
+pub record Begins (seat : ℕ) (tasks : List PlanTask) (old new : List Logged) (job : Job) : Type 0 where
+  pub task : PlanTask
+  pub is_task : slice_get tasks job.task ≡ Some task
+  pub script : job.script ≡ task.script
+  pub marks : Marks seat (events.Started job.task seat) old new
+
+-- a task was found or restored, or failed since its layout is too large
+abbrev pub Settles : ℕ → ℕ → List Logged → List Logged → Type 0
+Settles seat t old new = Marks seat (events.Found t) old new ⊎ (Marks seat (events.Restored t) old new ⊎ Marks seat (events.Failed t why.TooLarge) old new)
+
+abbrev pub fates_of : {D W : Type 0} → RunView D W → List Rattle.run_core.specs.declared.fate.Fate.Fate
+fates_of s = fates_told (length s.plan.tasks) s.tale
+
+-- the run is finished, by some lists of what is needed and there that fit each other
+pub record IsAtEnd (plan : Plan) (options : Options) (tale : List Logged) : Type 0 where
+  pub need : List Bool
+  pub avail : List Avail
+  pub needed : IsNeed plan avail need
+  pub finished : IsFinished options plan.tasks need avail (fates_told (length plan.tasks) tale)
+
+-- What a claim does, by its answer. With Wait another seat's task runs. Stopped comes only where a task failed without `keep_going`, or a
+-- fault is kept.
+abbrev pub Claims : {D W : Type 0} → ℕ → RunView D W → RunView D W → Result Claim Mem → Type 0
+Claims seat old new (Ok (claim.Run job)) = Begins seat old.plan.tasks old.tale new.tale job
+Claims seat old new (Ok (claim.Settled t)) = Settles seat t old.tale new.tale
+Claims seat old new (Ok claim.Wait) = (new.tale ≡ old.tale) × SomeRuns (fates_of old)
+Claims seat old new (Ok claim.Finished) = (new.tale ≡ old.tale) × IsAtEnd old.plan old.options old.tale
+Claims seat old new (Ok claim.Stopped) = (new.tale ≡ old.tale) × ((HoldsFailure (fates_of old) × (old.options.keep_going ≡ false)) ⊎ IsSome new.fault)
+Claims seat old new (Err e) = new.tale ≡ old.tale
+
+-- The layout of a job is the clean build's: over the clean outputs of the tasks that the task needs, and within the limits.
+pub record IsCleanJob (o : Opening) (s : Seen) (job : Job) : Type 0 where
+  pub task : PlanTask
+  pub is_task : slice_get s.plan.tasks job.task ≡ Some task
+  pub outputs : List (ℕ × List (List ℕ × Rattle.tree_model.specs.declared.entry.Entry.Entry))
+  pub numbers : map (λ x. x.0) outputs ≡ task.deps
+  pub clean : AreClean o.gives s.plan.tasks outputs
+  pub script : job.script ≡ task.script
+  pub layout : job.layout ≡ layout_over s.plan.tasks task outputs
+  pub within : is_beyond_layout job.layout ≡ false
+
+abbrev pub ClaimsClean : Opening → Seen → Result Claim Mem → Type 0
+ClaimsClean o s (Ok (claim.Run job)) = IsCleanJob o s job
+ClaimsClean o s (Ok (claim.Settled t)) = Unit {0}
+ClaimsClean o s (Ok claim.Wait) = Unit {0}
+ClaimsClean o s (Ok claim.Finished) = (course : Course) → course.plan ≡ s.plan → IsCourse o s.options s.tale course → IsFinished s.options s.plan.tasks (course.need (length s.tale)) (course.avail (length s.tale)) (fates_told (length s.plan.tasks) s.tale)
+ClaimsClean o s (Ok claim.Stopped) = Unit {0}
+ClaimsClean o s (Err e) = Unit {0}
+
+-- What was given is what the task's job gives.
+abbrev pub IsGivenBy : Gives → List PlanTask → Job → Given → Type 0
+IsGivenBy run tasks job g = (task : PlanTask) → slice_get tasks job.task ≡ Some task → job_output run task.sstate task.places job ≡ outcome_of g
+
+-- the event that closes a job, where nothing was wanting
+abbrev pub closed_as : ℕ → Given → Event
+closed_as t (given.Tree tree) = events.Ended t
+closed_as t (given.Fails status) = events.Failed t (why.Status status)
+closed_as t given.TooLarge = events.Failed t why.TooLarge
+
+-- What becomes of a job that was done: it is closed as it was given, or it broke: with Memory exactly where the answer is want of memory,
+-- with Fault only where a fault is kept, and always where one was kept before. A fault that is met once the output was published, as the store
+-- is asked anew or the line is written, is kept, and the job is closed all the same. Want of memory in a publication is kept as a fault too:
+-- what that left on the disk has no row, and nothing is published behind it.
+abbrev pub Ends : {D W : Type 0} → ℕ → ℕ → Given → RunView D W → RunView D W → Result (Unit {0}) Mem → Type 0
+Ends seat t g old new (Err e) = Marks seat (events.Broke t cut.Memory) old.tale new.tale × IsSome new.fault
+Ends seat t g old new (Ok u) =
+    (Marks seat (closed_as t g) old.tale new.tale × (old.fault ≡ None))
+    ⊎ (Marks seat (events.Broke t cut.Fault) old.tale new.tale × IsSome new.fault)
+
+-- the job's task runs under this seat
+abbrev pub RunsUnder : {D W : Type 0} → RunView D W → ℕ → ℕ → Type 0
+RunsUnder s t seat = fate_at (fates_of s) t ≡ Running seat
+
+-- after a fault the store isn't called again
+abbrev pub RestsAfterFault : {D W : Type 0} → RunView D W → RunView D W → Type 0
+RestsAfterFault old new = IsSome old.fault → (new.store ≡ old.store) × (new.fault ≡ old.fault)
+
+-- No fault is kept, and nothing but what is known of the plan's tasks, what is begun, and the store may have changed.
+pub record IsAnew {D W : Type 0} (old new : RunView D W) : Type 0 where
+  pub plan : new.plan ≡ old.plan
+  pub options : new.options ≡ old.options
+  pub sink : new.sink ≡ old.sink
+  pub sink_failed : new.sink_failed ≡ old.sink_failed
+  pub fault : new.fault ≡ None
+  pub tale : new.tale ≡ old.tale
+
+-- One try of a claim, by its answer: what a claim does with that answer; or a task turned out to have no object, and nothing was marked.
+abbrev pub TurnsTo : {D W : Type 0} → ℕ → RunView D W → RunView D W → Result (Option Claim) Mem → Type 0
+TurnsTo seat old new (Ok (Some c)) = Claims seat old new (Ok c)
+TurnsTo seat old new (Ok None) = IsAnew old new
+TurnsTo seat old new (Err e) = new.tale ≡ old.tale
+
+abbrev pub TurnsClean : Opening → Seen → Result (Option Claim) Mem → Type 0
+TurnsClean o s (Ok (Some c)) = ClaimsClean o s (Ok c)
+TurnsClean o s (Ok None) = Unit {0}
+TurnsClean o s (Err e) = Unit {0}
+
+-- the name of a run
+pub record SameRun {D W : Type 0} (old new : RunView D W) : Type 0 where
+  pub plan : new.plan ≡ old.plan
+  pub options : new.options ≡ old.options
+
+-- one event more, at the disk's moment
+pub record MarksAt (story : Story) (seat : ℕ) (event : Event) (old new : List Logged) : Type 0 where
+  pub is : new ≡ old ++ record { event = event; seat = seat; moment = min (moment story) (2 ^ 64 - 1) } ∷ []
+
+-- nothing but the sink, whether it has failed, and the fault may have changed
+pub record SameButSink {D W : Type 0} (old new : RunView D W) : Type 0 where
+  pub plan : new.plan ≡ old.plan
+  pub options : new.options ≡ old.options
+  pub store : new.store ≡ old.store
+  pub tale : new.tale ≡ old.tale
+  pub begun : new.begun ≡ old.begun
+  pub known : new.known ≡ old.known
+
+-- nothing but the sink, whether it has failed, and the fault may have changed, and one event more stands in the tale
+pub record Notes {D W : Type 0} (seat : ℕ) (event : Event) (old new : RunView D W) : Type 0 where
+  pub plan : new.plan ≡ old.plan
+  pub options : new.options ≡ old.options
+  pub store : new.store ≡ old.store
+  pub marks : Marks seat event old.tale new.tale
+  pub begun : new.begun ≡ old.begun
+  pub known : new.known ≡ old.known
+
+-- what is known gives this answer to the question what is next
+pub record MayDo {D W : Type 0} (s : RunView D W) (answer : Next) : Type 0 where
+  pub known : Known
+  pub is_known : s.known ≡ Some known
+  pub may : MayAnswer s.options s.plan.tasks known.need known.avail (fates_of s) answer
+
+-- What a restoring does, by its answer: the task was marked as restored; or it has no object, which is kept, and nothing is known of the
+-- plan's tasks any more; or a fault is kept. Want of memory marks nothing, keeps no fault, and leaves what is known.
+abbrev pub RestoresTo : {D W : Type 0} → ℕ → ℕ → RunView D W → RunView D W → Result Restoring Mem → Type 0
+RestoresTo seat t old new (Ok restoring.Done) = Marks seat (events.Restored t) old.tale new.tale
+RestoresTo seat t old new (Ok restoring.Gone) = IsAnew old new × (new.known ≡ None) × (new.begun ≡ set old.begun t (Some Missing))
+RestoresTo seat t old new (Ok restoring.Fault) = (new.tale ≡ old.tale) × IsSome new.fault
+RestoresTo seat t old new (Err e) = IsAnew old new × (new.known ≡ old.known)
+
+-- nothing but what is known of the plan's tasks, the disk, and the fault may have changed
+pub record Looks {D W : Type 0} (old new : RunView D W) : Type 0 where
+  pub plan : new.plan ≡ old.plan
+  pub options : new.options ≡ old.options
+  pub books : SameBooks old.store new.store
+  pub sink : new.sink ≡ old.sink
+  pub sink_failed : new.sink_failed ≡ old.sink_failed
+  pub tale : new.tale ≡ old.tale
+  pub begun : new.begun ≡ old.begun

@@ -1,0 +1,166 @@
+// What a seat is to do next.
+ghost use Rattle.std.specs.Prelude.{◌≡◌, ◌<◌, ◌≤◌, ℕ, List, IfSome, IsSome, MatchBool, None, Ok, Some};
+ghost use Rattle.std.specs.List.{slice_get};
+ghost use Rattle.outside_traits.specs.Fault.{Counts};
+ghost use Rattle.meta_model.specs.declared.event.Avail.TheVariants as avails;
+ghost use Rattle.run_core.specs.Fates.{IsFree};
+ghost use Rattle.run_core.specs.declared.fate.Next.TheVariants as next;
+ghost use Rattle.bb_report.specs.Runs.{tale_text};
+ghost use Rattle.run_queue.specs.Opening.{Opening};
+ghost use Rattle.run_queue.specs.Keeps.{IsFront, IsRun, IsSteady, Prints};
+ghost use Rattle.run_queue.specs.Seen.{seen};
+ghost use Rattle.run_queue.specs.Turns.{Claims, ClaimsClean, MayDo, RestsAfterFault, SameRun, TurnsClean, TurnsTo, fates_of};
+
+use crate::restoring::Restoring;
+use crate::state::{Claim, RunState};
+use meta_model::Avail;
+use outside_traits::{Disk, Sink};
+use run_core::Next;
+use std::alloc::Global;
+use tree_model::Mem;
+
+impl<D: Disk, W: Sink> RunState<D, W> {
+    /// Whether a fault is kept. Where one is, no script is to run, be it that a job was handed out in the turn that met it.
+    pub fn has_fault(&self) -> bool
+        ensures { MatchBool result (IsSome self.now.fault) (self.now.fault ≡ None) }
+    {
+        self.fault.is_some()
+    }
+
+    /// What is next, by what is known of the plan's tasks.
+    fn next(&self) -> Next
+        requires known { IsSome self.now.known }
+        ensures { MayDo self.now result }
+    {
+        match &self.replan {
+            Some(known) => {
+                self.board
+                    .next(&self.plan, known.need(), known.avail(), &self.options)
+            }
+            None => Next::Stopped,
+        }
+    }
+
+    /// Whether the output of a task that can be settled is in its work folder. Else there is an object of it.
+    fn is_in_work(&self, task: u32) -> bool
+        requires answer { MayDo self.now (next.Settle task) }
+        ensures { MatchBool result (IfSome self.now.known (λ k. slice_get k.avail task ≡ Some avails.Work)) (IfSome self.now.known (λ k. slice_get k.avail task ≡ Some avails.Object)) }
+    {
+        match &self.replan {
+            Some(known) => matches!(known.avail()[task as usize], Avail::Work),
+            None => false,
+        }
+    }
+
+    /// A task whose output is there is found or restored. Nothing where it turned out to have no object.
+    fn settle(&mut self, alloc: Global, number: u32, task: u32) -> Result<Option<Claim>, Mem>
+        requires reach { 3600 ≤ D.reach }
+        requires faultless { self.old.fault ≡ None }
+        requires free { IsFree (fates_of self.old) number }
+        requires answer { MayDo self.old (next.Settle task) }
+        ensures turns { TurnsTo number self.old self.new result }
+        ensures same { SameRun self.old self.new }
+        ensures sink { (before : ℕ) → Counts before (W.faults self.old.sink) self.old.sink_failed → Counts before (W.faults self.new.sink) self.new.sink_failed }
+        ensures text { W.tells → (base : List ℕ) → Prints base (W.written self.old.sink) (tale_text self.old.plan.tasks self.old.tale) self.old.sink_failed → Prints base (W.written self.new.sink) (tale_text self.old.plan.tasks self.new.tale) self.new.sink_failed }
+        ensures stays { W.tells → (front : List ℕ) → IsFront front (W.written self.old.sink) → IsFront front (W.written self.new.sink) }
+        ensures steady { IsSteady self.old.fault → IsSteady self.new.fault }
+
+        // Where the disk tells.
+        ensures run { D.tells → (o : Opening) → IsRun o (seen D.story W.written self.old) → IsRun o (seen D.story W.written self.new) }
+        ensures clean { D.tells → (o : Opening) → IsRun o (seen D.story W.written self.old) → TurnsClean o (seen D.story W.written self.old) result }
+    {
+        if self.is_in_work(task) {
+            self.find(number, task)?;
+            return Ok(Some(Claim::Settled(task)));
+        }
+        match self.restore(alloc, number, task)? {
+            Restoring::Done => Ok(Some(Claim::Settled(task))),
+            Restoring::Gone => Ok(None),
+            Restoring::Fault => Ok(Some(Claim::Stopped)),
+        }
+    }
+
+    /// What is to be done by what is known of the plan's tasks. Nothing where a task turned out to have no object.
+    fn act(&mut self, alloc: Global, number: u32) -> Result<Option<Claim>, Mem>
+        requires reach { 3600 ≤ D.reach }
+        requires faultless { self.old.fault ≡ None }
+        requires known { IsSome self.old.known }
+        requires free { IsFree (fates_of self.old) number }
+        ensures turns { TurnsTo number self.old self.new result }
+        ensures same { SameRun self.old self.new }
+        ensures sink { (before : ℕ) → Counts before (W.faults self.old.sink) self.old.sink_failed → Counts before (W.faults self.new.sink) self.new.sink_failed }
+        ensures text { W.tells → (base : List ℕ) → Prints base (W.written self.old.sink) (tale_text self.old.plan.tasks self.old.tale) self.old.sink_failed → Prints base (W.written self.new.sink) (tale_text self.old.plan.tasks self.new.tale) self.new.sink_failed }
+        ensures stays { W.tells → (front : List ℕ) → IsFront front (W.written self.old.sink) → IsFront front (W.written self.new.sink) }
+        ensures steady { IsSteady self.old.fault → IsSteady self.new.fault }
+
+        // Where the disk tells.
+        ensures run { D.tells → (o : Opening) → IsRun o (seen D.story W.written self.old) → IsRun o (seen D.story W.written self.new) }
+        ensures clean { D.tells → (o : Opening) → IsRun o (seen D.story W.written self.old) → TurnsClean o (seen D.story W.written self.old) result }
+    {
+        self.kept();
+        match self.next() {
+            Next::Settle(task) => self.settle(alloc, number, task),
+            Next::Start(task) => Ok(Some(self.start(alloc, number, task)?)),
+            Next::Wait => Ok(Some(Claim::Wait)),
+            Next::Finished => Ok(Some(Claim::Finished)),
+            Next::Stopped => Ok(Some(Claim::Stopped)),
+        }
+    }
+
+    /// One try of a claim, where no fault is kept. Nothing where a task turned out to have no object.
+    fn turn(&mut self, alloc: Global, number: u32) -> Result<Option<Claim>, Mem>
+        requires reach { 3600 ≤ D.reach }
+        requires faultless { self.old.fault ≡ None }
+        requires free { IsFree (fates_of self.old) number }
+        ensures turns { TurnsTo number self.old self.new result }
+        ensures same { SameRun self.old self.new }
+        ensures sink { (before : ℕ) → Counts before (W.faults self.old.sink) self.old.sink_failed → Counts before (W.faults self.new.sink) self.new.sink_failed }
+        ensures text { W.tells → (base : List ℕ) → Prints base (W.written self.old.sink) (tale_text self.old.plan.tasks self.old.tale) self.old.sink_failed → Prints base (W.written self.new.sink) (tale_text self.old.plan.tasks self.new.tale) self.new.sink_failed }
+        ensures stays { W.tells → (front : List ℕ) → IsFront front (W.written self.old.sink) → IsFront front (W.written self.new.sink) }
+        ensures steady { IsSteady self.old.fault → IsSteady self.new.fault }
+
+        // Where the disk tells.
+        ensures run { D.tells → (o : Opening) → IsRun o (seen D.story W.written self.old) → IsRun o (seen D.story W.written self.new) }
+        ensures clean { D.tells → (o : Opening) → IsRun o (seen D.story W.written self.old) → TurnsClean o (seen D.story W.written self.old) result }
+    {
+        if self.look(alloc)? {
+            return self.act(alloc, number);
+        }
+        Ok(Some(Claim::Stopped))
+    }
+
+    /// What the seat of a number, under which no task runs, is to do next. One turn: it marks that a task was found or restored, that it
+    /// failed since its layout is too large, or that it was started, for which the job is handed out; or nothing. Where a task turns out to
+    /// have no object, what is next is asked anew.
+    ///
+    /// Where the sink fails at the event's line the event is marked all the same. Want of memory changes nothing but what a restoring that
+    /// was begun may have changed of its own task.
+    pub fn claim(&mut self, alloc: Global, number: u32) -> Result<Claim, Mem>
+        requires reach { 3600 ≤ D.reach }
+        requires free { IsFree (fates_of self.old) number }
+        ensures claims { Claims number self.old self.new result }
+        ensures stops { IsSome self.old.fault → result ≡ Ok Claim.Stopped }
+        ensures same { SameRun self.old self.new }
+        ensures rests { RestsAfterFault self.old self.new }
+        ensures sink { (before : ℕ) → Counts before (W.faults self.old.sink) self.old.sink_failed → Counts before (W.faults self.new.sink) self.new.sink_failed }
+        ensures text { W.tells → (base : List ℕ) → Prints base (W.written self.old.sink) (tale_text self.old.plan.tasks self.old.tale) self.old.sink_failed → Prints base (W.written self.new.sink) (tale_text self.old.plan.tasks self.new.tale) self.new.sink_failed }
+        ensures stays { W.tells → (front : List ℕ) → IsFront front (W.written self.old.sink) → IsFront front (W.written self.new.sink) }
+        ensures steady { IsSteady self.old.fault → IsSteady self.new.fault }
+
+        // Where the disk tells.
+        ensures run { D.tells → (o : Opening) → IsRun o (seen D.story W.written self.old) → IsRun o (seen D.story W.written self.new) }
+        ensures clean { D.tells → (o : Opening) → IsRun o (seen D.story W.written self.old) → ClaimsClean o (seen D.story W.written self.old) result }
+    {
+        if self.has_fault() {
+            return Ok(Claim::Stopped);
+        }
+        // Each try that answers nothing keeps of one more task that it has no object, and a plan has at most 65,536 tasks. That the end
+        // isn't reached isn't proved.
+        for _ in 0..65537 {
+            if let Some(claim) = self.turn(alloc, number)? {
+                return Ok(claim);
+            }
+        }
+        Err(Mem)
+    }
+}

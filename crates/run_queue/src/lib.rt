@@ -1,0 +1,27 @@
+//! The run that its workers share: what each turn does on a state in hand.
+//!
+//! `RunState` holds a plan and its options, the store, the sink, what is known of the plan's tasks, and the tale. A seat asks for work by
+//! `claim`, does a job outside, and says by `ended` or `broke` how it came to an end. Each call is one turn, and marks at most one event.
+//!
+//! What every state keeps, whatever the disk tells, is the record `IsState` (`specs/Keeps`): each event could be marked, by its seat;
+//! settled tasks have rows; while no fault is kept neither disk nor sink has failed, and a kept one has its cause. What a run keeps
+//! besides, over an opening whose premises hold, is the record `IsRun`: the book grows by what ended, the tale is legal, settled tasks stand,
+//! whatever a crash left is valid, what was begun was started or there as an object, and what was written is the text of the tale. The turns
+//! keep it for every opening.
+#![tactic(auto)]
+
+mod claims;
+mod closing;
+mod fault;
+mod laws;
+mod looking;
+mod outputs;
+mod probe;
+mod restoring;
+mod settling;
+mod starting;
+mod state;
+
+pub use fault::RunFault;
+pub use laws::{begin_law, claim_law, end_laws, growth_laws, job_laws};
+pub use state::{Claim, RunParts, RunState};

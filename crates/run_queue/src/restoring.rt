@@ -1,0 +1,109 @@
+// Tasks whose outputs are there as shared state objects.
+ghost use Rattle.std.specs.Prelude.{◌≡◌, ◌<◌, ◌≤◌, ℕ, List, Err, IfErr, IfOk, IfSome, None, OnOk, Some, length};
+ghost use Rattle.std.specs.List.{slice_get};
+ghost use Rattle.outside_traits.specs.Fault.{Counts};
+ghost use Rattle.meta_model.specs.declared.event.Avail.TheVariants as avails;
+ghost use Rattle.plan_model.specs.Sound.{IsSound};
+ghost use Rattle.store_model.specs.Signatures.{Signed};
+ghost use Rattle.setscene_plan.specs.Replans.{IsCurrent};
+ghost use Rattle.build_store.specs.View.{SameBooks};
+ghost use Rattle.run_core.specs.Fates.{IsFree};
+ghost use Rattle.run_core.specs.declared.fate.Next.TheVariants as next;
+ghost use Rattle.bb_report.specs.Runs.{tale_text};
+ghost use Rattle.run_queue.specs.Opening.{Opening};
+ghost use Rattle.run_queue.specs.Keeps.{IsFront, IsRun, IsSteady, IsSteadyAnswer, IsStoreCause, Prints};
+ghost use Rattle.run_queue.specs.Puts.{HasPutObject, IsSignedAt, PutsObject};
+ghost use Rattle.run_queue.specs.Seen.{no_meaning, seen};
+ghost use Rattle.run_queue.specs.Turns.{MayDo, RestoresTo, SameRun, fates_of};
+
+use crate::closing::signature;
+use crate::fault::keep;
+use crate::state::RunState;
+use build_store::{Store, StoreFault};
+use meta_model::{Avail, Event, Plan};
+use outside_traits::{Disk, Sink};
+use setscene_plan::Replan;
+use std::alloc::Global;
+use tree_model::Mem;
+
+/// What became of a restoring.
+#[derive(Debug, Drop)]
+pub(crate) enum Restoring {
+    /// The task was restored, and marked so.
+    Done,
+    /// It has no object. That is kept, and what was known of the plan's tasks isn't.
+    Gone,
+    /// A fault was met, which is kept.
+    Fault,
+}
+
+/// Restores a task of the plan, which has its signature by what is known.
+fn restore_in<D: Disk>(
+    alloc: Global,
+    store: &mut Store<D>,
+    plan: &Plan,
+    replan: &Option<Replan>,
+    task: u32,
+) -> Result<bool, StoreFault>
+    requires reach { 3600 ≤ D.reach }
+    requires sound { IsSound plan.now }
+    requires task { task < length plan.now.tasks }
+    requires current { IfSome replan.now (IsCurrent no_meaning (record { plan = plan.now; rows = store.old.rows })) }
+    requires unharmed { D.faults store.old.disk ≡ 0 }
+    ensures restored { IfOk result (λ found. (s : Signed) → IsSignedAt store.old.rows plan.now.tasks task s → HasPutObject D.tells (D.story store.old.disk) (D.story store.new.disk) store.old.rows s found) }
+    ensures cause { IfErr result (IsStoreCause (D.faults store.new.disk)) }
+    ensures steady { IfErr result IsSteadyAnswer }
+    ensures unharmed { OnOk result (D.faults store.new.disk ≡ 0) }
+    ensures wanting { result ≡ Err StoreFault.Memory → D.faults store.new.disk ≡ 0 }
+
+    // Whatever it answers.
+    ensures books { SameBooks store.old store.new }
+    ensures puts { (s : Signed) → IsSignedAt store.old.rows plan.now.tasks task s → PutsObject D.tells (D.story store.old.disk) (D.story store.new.disk) store.old.rows s }
+{
+    let sig = signature(alloc, plan, replan, task)?;
+    store.restore(alloc, &plan.tasks.as_slice()[task as usize], &sig)
+}
+
+impl<D: Disk, W: Sink> RunState<D, W> {
+    /// A task whose output is there as a shared state object is restored from it, and marked so. Where it has none that is kept, and what
+    /// was known of the plan's tasks isn't. Want of memory marks nothing.
+    pub(crate) fn restore(
+        &mut self,
+        alloc: Global,
+        number: u32,
+        task: u32,
+    ) -> Result<Restoring, Mem>
+        requires reach { 3600 ≤ D.reach }
+        requires faultless { self.old.fault ≡ None }
+        requires free { IsFree (fates_of self.old) number }
+        requires answer { MayDo self.old (next.Settle task) }
+        requires there { IfSome self.old.known (λ k. slice_get k.avail task ≡ Some avails.Object) }
+        ensures restores { RestoresTo number task self.old self.new result }
+        ensures same { SameRun self.old self.new }
+        ensures sink { (before : ℕ) → Counts before (W.faults self.old.sink) self.old.sink_failed → Counts before (W.faults self.new.sink) self.new.sink_failed }
+        ensures text { W.tells → (base : List ℕ) → Prints base (W.written self.old.sink) (tale_text self.old.plan.tasks self.old.tale) self.old.sink_failed → Prints base (W.written self.new.sink) (tale_text self.old.plan.tasks self.new.tale) self.new.sink_failed }
+        ensures stays { W.tells → (front : List ℕ) → IsFront front (W.written self.old.sink) → IsFront front (W.written self.new.sink) }
+        ensures steady { IsSteady self.old.fault → IsSteady self.new.fault }
+
+        // Where the disk tells.
+        ensures run { D.tells → (o : Opening) → IsRun o (seen D.story W.written self.old) → IsRun o (seen D.story W.written self.new) }
+    {
+        self.begun[task as usize] = Some(Avail::Object);
+        match restore_in(alloc, &mut self.store, &self.plan, &self.replan, task) {
+            Ok(true) => {
+                self.note_waiting(number, Event::Restored { task })?;
+                Ok(Restoring::Done)
+            }
+            Ok(false) => {
+                self.begun[task as usize] = Some(Avail::Missing);
+                self.replan = None;
+                Ok(Restoring::Gone)
+            }
+            Err(StoreFault::Memory) => Err(Mem),
+            Err(fault) => {
+                keep(&mut self.fault, fault);
+                Ok(Restoring::Fault)
+            }
+        }
+    }
+}
