@@ -1,0 +1,126 @@
+-- What a run that has begun leaves.
+use Rattle.std.proofs.Common.{append-nil, ◌≡◌, ◌∙◌, sym, ap, subst, refl, ℕ, List, [], ◌++◌, Bool, true, false, Some, None, inl, inr}
+use Rattle.std.specs.Prelude.{◌⊎◌, Option, IsSome}
+use Rattle.std.proofs.lemmas.Bool.{false≢true}
+use Rattle.outside_traits.specs.Story.{Story}
+use Rattle.meta_model.specs.declared.event.Logged.{Logged}
+use Rattle.meta_model.specs.declared.event.Status.{Status}
+use Rattle.meta_model.specs.declared.event.Status.TheVariants as status
+use Rattle.meta_model.specs.declared.plan.Options.{Options}
+use Rattle.meta_model.specs.declared.plan.Plan.{Plan}
+use Rattle.meta_model.specs.CleanBuild.{Entries, Gives}
+use Rattle.build_store.specs.declared.fault.StoreFault.{StoreFault}
+use Rattle.build_store.specs.declared.fault.StoreFault.TheVariants as fault
+use Rattle.bb_report.specs.Runs.{has_failure}
+use Rattle.run_queue.specs.declared.fault.RunFault.{RunFault}
+use Rattle.run_queue.specs.declared.fault.RunFault.TheVariants as kept
+use Rattle.run_queue.specs.Keeps.{IsRun}
+use Rattle.run_queue.specs.Opening.{Opening}
+use Rattle.run_queue.specs.Seen.{RunView, seen}
+use Rattle.run_queue.specs.Turns.{IsAtEnd, SameRun}
+use Rattle.build_resume.specs.Build.{RanThese, started_in}
+use Rattle.build_resume.specs.Drive.{Drove, IsHalted}
+use Rattle.build_resume.specs.Ends.{EndsBy, status_by, status_of}
+use Rattle.build_resume.specs.Outcome.{EndsAs, KeptTo, RanStarted}
+use Rattle.build_resume.specs.declared.drive.Halt.{Halt}
+use Rattle.build_resume.specs.declared.drive.Halt.TheVariants as halt
+use Rattle.build_resume.proofs.Outcomes.{failure_told}
+
+-- ---- the status
+
+-- what is told to the end: the status comes from the fault, the halt and the tale, or memory or the sink failed at the end
+abbrev pub EndsSo : Type 0 → Option RunFault → Halt → Bool → Status → Type 0
+EndsSo sink f h failed s = EndsBy sink (status_by f h failed) s
+
+store_not_ok : (f : StoreFault) → status_of f ≡ status.Ok → ⊥
+store_not_ok fault.Disk e = let n : status.DiskFault ≡ status.Ok = e in cc
+store_not_ok (fault.Collision name held given) e = let n : status.Collision name held given ≡ status.Ok = e in cc
+store_not_ok (fault.Unsteady pn task held given) e = let n : status.Unsteady pn task held given ≡ status.Ok = e in cc
+store_not_ok fault.Memory e = let n : status.OutOfMemory ≡ status.Ok = e in cc
+
+store_not_failed : (f : StoreFault) → status_of f ≡ status.TaskFailed → ⊥
+store_not_failed fault.Disk e = let n : status.DiskFault ≡ status.TaskFailed = e in cc
+store_not_failed (fault.Collision name held given) e = let n : status.Collision name held given ≡ status.TaskFailed = e in cc
+store_not_failed (fault.Unsteady pn task held given) e = let n : status.Unsteady pn task held given ≡ status.TaskFailed = e in cc
+store_not_failed fault.Memory e = let n : status.OutOfMemory ≡ status.TaskFailed = e in cc
+
+-- Ok comes where no fault was kept, no task failed, and the run halted since nothing was left, or nothing may begin
+ok_by : (f : Option RunFault) (h : Halt) (failed : Bool) → status_by f h failed ≡ status.Ok → (f ≡ None) × (failed ≡ false) × ((h ≡ halt.Finished) ⊎ (h ≡ halt.Stopped))
+ok_by (Some (kept.Store f)) h failed e = absurd (store_not_ok f e)
+ok_by (Some kept.Write) h failed e = absurd (let n : status.WriteFault ≡ status.Ok = e in cc)
+ok_by None halt.Finished true e = absurd (let n : status.TaskFailed ≡ status.Ok = e in cc)
+ok_by None halt.Finished false e = (refl, refl, inl refl)
+ok_by None halt.Stopped true e = absurd (let n : status.TaskFailed ≡ status.Ok = e in cc)
+ok_by None halt.Stopped false e = (refl, refl, inr refl)
+ok_by None halt.Memory failed e = absurd (let n : status.OutOfMemory ≡ status.Ok = e in cc)
+ok_by None halt.Bench failed e = absurd (let n : status.BenchFault ≡ status.Ok = e in cc)
+
+failed_by_status : (f : Option RunFault) (h : Halt) (failed : Bool) → status_by f h failed ≡ status.TaskFailed → failed ≡ true
+failed_by_status (Some (kept.Store f)) h failed e = absurd (store_not_failed f e)
+failed_by_status (Some kept.Write) h failed e = absurd (let n : status.WriteFault ≡ status.TaskFailed = e in cc)
+failed_by_status None halt.Finished true e = refl
+failed_by_status None halt.Finished false e = absurd (let n : status.Ok ≡ status.TaskFailed = e in cc)
+failed_by_status None halt.Stopped true e = refl
+failed_by_status None halt.Stopped false e = absurd (let n : status.Ok ≡ status.TaskFailed = e in cc)
+failed_by_status None halt.Memory failed e = absurd (let n : status.OutOfMemory ≡ status.TaskFailed = e in cc)
+failed_by_status None halt.Bench failed e = absurd (let n : status.BenchFault ≡ status.TaskFailed = e in cc)
+
+told_ok : (sink : Type 0) (f : Option RunFault) (h : Halt) (failed : Bool) (s : Status) → EndsSo sink f h failed s → s ≡ status.Ok → status_by f h failed ≡ status.Ok
+told_ok sink f h failed s (inl is) e = sym is ∙ e
+told_ok sink f h failed s (inr (inl is)) e = absurd (let n : status.OutOfMemory ≡ status.Ok = sym is ∙ e in cc)
+told_ok sink f h failed s (inr (inr is)) e = absurd (let n : status.WriteFault ≡ status.Ok = sym is.0 ∙ e in cc)
+
+told_failed : (sink : Type 0) (f : Option RunFault) (h : Halt) (failed : Bool) (s : Status) → EndsSo sink f h failed s → s ≡ status.TaskFailed → status_by f h failed ≡ status.TaskFailed
+told_failed sink f h failed s (inl is) e = sym is ∙ e
+told_failed sink f h failed s (inr (inl is)) e = absurd (let n : status.OutOfMemory ≡ status.TaskFailed = sym is ∙ e in cc)
+told_failed sink f h failed s (inr (inr is)) e = absurd (let n : status.WriteFault ≡ status.TaskFailed = sym is.0 ∙ e in cc)
+
+-- how a run ended by its last state
+pub ends_as : {D W : Type 0} (sink : Type 0) (old last : RunView D W) (h : Halt) (tale : List Logged) (s : Status) → SameRun old last → tale ≡ last.tale → IsHalted last h → EndsSo sink last.fault h (has_failure last.tale) s → EndsAs old.plan old.options tale s
+ends_as sink old last h tale s same tale_is halted told = record {
+  ok = λ e.
+      let by = ok_by last.fault h (has_failure last.tale) (told_ok sink last.fault h (has_failure last.tale) s told e) in
+      (subst (λ (l : List Logged). IsAtEnd old.plan old.options l) (sym tale_is) (finished by.0 by.1 by.2), ap has_failure tale_is ∙ by.1);
+  failed = λ e. ap has_failure tale_is ∙ failed_by_status last.fault h (has_failure last.tale) (told_failed sink last.fault h (has_failure last.tale) s told e);
+}
+  where
+    at_end : IsHalted last halt.Finished → IsAtEnd old.plan old.options last.tale
+    at_end is = subst (λ (p : Plan). IsAtEnd p old.options last.tale) same.plan (subst (λ (x : Options). IsAtEnd last.plan x last.tale) same.options is)
+
+    some_none : (f : Option RunFault) → f ≡ None → IsSome f → ⊥
+    some_none None e is = false≢true is
+    some_none (Some f) e is = let n : Some f ≡ None = e in cc
+
+    finished : last.fault ≡ None → has_failure last.tale ≡ false → (h ≡ halt.Finished) ⊎ (h ≡ halt.Stopped) → IsAtEnd old.plan old.options last.tale
+    finished none calm (inl is) = at_end (subst (IsHalted last) is halted)
+    finished none calm (inr is) = elim (subst (IsHalted last) is halted) [
+      | inl failed ↦ absurd (false≢true (sym calm ∙ failure_told (Rattle.std.specs.Prelude.length last.plan.tasks) last.tale failed.0))
+      | inr fault ↦ absurd (some_none last.fault none fault)
+    ]
+
+-- ---- what was kept
+
+pub kept_to : {D W : Type 0} (story : D → Story) (written : W → List ℕ) (o : Opening) (old last : RunView D W) (disk : D) (tale : List Logged) → SameRun old last → disk ≡ last.store.disk → tale ≡ last.tale → IsRun o (seen story written last) → KeptTo o old.plan old.options tale (story disk)
+kept_to story written o old last disk tale same disk_is tale_is run = record {
+  last = seen story written last;
+  run = run;
+  plan_is = same.plan;
+  options_are = same.options;
+  tale_is = sym tale_is;
+  story_is = ap story (sym disk_is);
+}
+
+pub ran_started : (gives : Gives) (plan : Plan) (h : Halt) (old tale new : List Logged) (before now : List (List ℕ × Entries)) → old ≡ [] → tale ≡ new → Drove gives plan (Some h) old new before now → RanStarted gives plan tale before now
+ran_started gives plan h old tale new before now none tale_is d = record {
+  runs = d.runs;
+  ran = d.ran;
+  these = subst (λ (l : List Logged). RanThese gives plan (started_in l) d.runs) (sym (tale_is ∙ d.tale ∙ ap (λ (l : List Logged). l ++ d.more) none)) d.these;
+}
+
+-- where no turn was taken
+pub ran_nothing : (gives : Gives) (plan : Plan) (tale : List Logged) (before now : List (List ℕ × Entries)) → tale ≡ [] → now ≡ before → RanStarted gives plan tale before now
+ran_nothing gives plan tale before now none same = record {
+  runs = [];
+  ran = same ∙ sym (append-nil before);
+  these = subst (λ (l : List Logged). RanThese gives plan (started_in l) []) (sym none) tt;
+}

@@ -1,0 +1,86 @@
+-- What a run leaves of a disk on which it began, over a book.
+use Rattle.std.proofs.Common.{◌≡◌, subst, refl, ℕ, List}
+use Rattle.std.specs.Prelude.{◌≢◌, Contains}
+use Rattle.outside_traits.specs.Passes.{EachNow, Passes}
+use Rattle.outside_traits.specs.Store.{Store}
+use Rattle.outside_traits.specs.Story.{IsFresh, IsImageSince, IsSound as IsStorySound, Story}
+use Rattle.meta_model.specs.declared.event.Logged.{Logged}
+use Rattle.meta_model.specs.declared.event.Status.{Status}
+use Rattle.meta_model.specs.declared.event.Status.TheVariants as status
+use Rattle.meta_model.specs.declared.plan.Options.{Options}
+use Rattle.meta_model.specs.declared.plan.Plan.{Plan}
+use Rattle.meta_model.specs.CleanBuild.{Gives}
+use Rattle.plan_model.specs.Sound.{AreWanted}
+use Rattle.store_model.specs.Origins.{Book, Reading}
+use Rattle.store_model.specs.declared.signature.EquivRow.{EquivRow}
+use Rattle.build_store.specs.Opening.{Clears, IsOpened}
+use Rattle.build_store.specs.Reopened.{IsBookAgain}
+use Rattle.build_store.proofs.Reopened.{opened_is_valid}
+use Rattle.run_queue.specs.Keeps.{IsOpening}
+use Rattle.run_queue.specs.Opening.{MayRun, Opening}
+use Rattle.run_queue.specs.Stands.{AllStand}
+use Rattle.build_resume.specs.Build.{AllClean, FailsClean, HasRun, HasTargets, IsCrash, IsEntry, LeavesOthers}
+use Rattle.build_resume.specs.Ends.{failed_in}
+use Rattle.build_resume.specs.Outcome.{EndsAs, KeptTo}
+use Rattle.build_resume.proofs.Alone.{early_alone, kept_others}
+use Rattle.build_resume.proofs.Outcomes.{kept_all, kept_clean, kept_crash, kept_exact, kept_real, opened_crash, opened_may_run, opening_of}
+
+-- A store was opened on a disk that was fresh: what is held is what opening leaves, and durable; and at each moment nothing went that it
+-- leaves alone.
+pub record WasOpened (before after : Story) (rows : List EquivRow) : Type 0 where
+  pub fresh : IsFresh before
+  pub opened : IsOpened before.held after.held rows
+  pub durable : EachNow after (λ image. image ≡ after.held)
+  pub clears : Passes before after (Clears before.held)
+
+module _ (gives : Gives) (reading : Reading) (book : Book) (plan : Plan) (options : Options) (before after : Story) (rows : List EquivRow) (was : WasOpened before after rows) (entry : IsEntry gives reading book before.held plan) where
+  abbrev again : IsBookAgain gives reading book after.held rows
+  again = opened_is_valid before.held after.held rows was.opened gives reading book entry.valid entry.readable
+
+  abbrev pub opening : Opening
+  opening = opening_of gives reading book before.held after.held rows after again
+
+  pub may_run : MayRun opening plan
+  may_run = opened_may_run gives reading book plan before.held after rows again entry was.opened was.durable
+
+  pub is_opening : IsOpening opening after rows
+  is_opening = record { story_is = refl; rows_are = again.rows_are }
+
+  module _ (tale : List Logged) (s : Status) (story : Story) (k : KeptTo opening plan options tale story) (ends : EndsAs plan options tale s) where
+    pub built_exact : s ≡ status.Ok → EachNow story (HasTargets gives plan)
+    built_exact ok = kept_exact opening plan options tale story k (ends.ok ok).0 (ends.ok ok).1
+
+    pub built_crashes : (image : Store) → IsImageSince story 0 image → IsCrash gives reading book image
+    built_crashes = kept_crash opening plan options tale story k gives reading book refl refl again.same (λ image since. opened_crash gives reading book plan before after image was.fresh entry was.clears since)
+
+    pub built_complete : IsStorySound story → AreWanted plan → (s ≡ status.Ok → AllClean gives plan) × (AllClean gives plan → s ≢ status.TaskFailed)
+    built_complete lawful wanted = (
+      λ ok. kept_all opening plan options tale story k lawful entry.sound wanted (ends.ok ok).0 (ends.ok ok).1,
+      λ clean failed. kept_clean opening plan options tale story k clean (ends.failed failed),
+    )
+
+    pub built_legal : HasRun gives reading book before.held plan options tale story
+    built_legal = record {
+      opening = opening;
+      same_gives = refl;
+      same_reading = refl;
+      same_lines = again.same;
+      opened = subst (λ (r : List EquivRow). IsOpened before.held after.held r) again.rows_are was.opened;
+      legal = subst (λ (l : List Logged). Rattle.run_queue.specs.Courses.IsLegalTale opening plan options l) k.tale_is
+          (subst (λ (x : Options). Rattle.run_queue.specs.Courses.IsLegalTale opening plan x k.last.tale) k.options_are (subst (λ (p : Plan). Rattle.run_queue.specs.Courses.IsLegalTale opening p k.last.options k.last.tale) k.plan_is k.run.legal));
+      stands = subst (λ (x : Story). EachNow x (AllStand opening plan tale)) k.story_is
+          (subst (λ (l : List Logged). EachNow k.last.story (AllStand opening plan l)) k.tale_is (subst (λ (p : Plan). EachNow k.last.story (AllStand opening p k.last.tale)) k.plan_is k.run.stands));
+    }
+
+    pub built_others : (image : Store) → IsImageSince story 0 image → LeavesOthers gives book before.held plan options tale image
+    built_others image since = kept_others opening book before.held rows was.opened again.same plan options tale story k image (early_alone book before after image was.fresh was.clears) since
+
+    pub built_real : (t : ℕ) → Contains (failed_in tale) t → FailsClean gives plan t
+    built_real = kept_real opening plan options tale story k
+
+-- The plan and the options of a run are those that it was begun with.
+pub as_begun : (o : Opening) (p plan : Plan) (x options : Options) (tale : List Logged) (story : Story) (s : Status) → p ≡ plan → x ≡ options → KeptTo o p x tale story → EndsAs p x tale s → KeptTo o plan options tale story × EndsAs plan options tale s
+as_begun o p plan x options tale story s plan_is options_are kept ends = (
+  subst (λ (y : Options). KeptTo o plan y tale story) options_are (subst (λ (q : Plan). KeptTo o q x tale story) plan_is kept),
+  subst (λ (y : Options). EndsAs plan y tale s) options_are (subst (λ (q : Plan). EndsAs q x tale s) plan_is ends),
+)

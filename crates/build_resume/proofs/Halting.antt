@@ -1,0 +1,43 @@
+-- Why a run goes on, or halts.
+use Rattle.std.proofs.Common.{◌≡◌, sym, subst, refl, ℕ, List, ◌<◌, Some, None, Ok}
+use Rattle.std.specs.Prelude.{IfSome, IsSome, MatchOption, Option, Result}
+use Rattle.outside_traits.specs.Story.{Story}
+use Rattle.meta_model.specs.declared.plan.Plan.{Plan}
+use Rattle.task_worker.specs.declared.given.Job.{Job}
+use Rattle.tree_model.specs.declared.text.Mem.{Mem}
+use Rattle.run_queue.specs.declared.fault.RunFault.{RunFault}
+use Rattle.run_queue.specs.declared.state.Claim.{Claim}
+use Rattle.run_queue.specs.declared.state.Claim.TheVariants as claim
+use Rattle.run_queue.specs.Opening.{Opening}
+use Rattle.run_queue.specs.Seen.{RunView, seen}
+use Rattle.run_queue.specs.Turns.{IsCleanJob}
+use Rattle.build_resume.specs.Drive.{IsHalted, left_over}
+use Rattle.build_resume.specs.declared.drive.Halt.{Halt}
+
+-- a job is handed out only where no fault is kept
+pub none_before : (fault : Option RunFault) (job : Job) → (IsSome fault → ◌≡◌ {A = Result Claim Mem} (Ok (claim.Run job)) (Ok claim.Stopped)) → fault ≡ None
+none_before None job stops = refl
+none_before (Some f) job stops = absurd (let n : ◌≡◌ {A = Result Claim Mem} (Ok (claim.Run job)) (Ok claim.Stopped) = stops refl in cc)
+
+-- nor is a task settled then
+pub none_settled : (fault : Option RunFault) (t : ℕ) → (IsSome fault → ◌≡◌ {A = Result Claim Mem} (Ok (claim.Settled t)) (Ok claim.Stopped)) → fault ≡ None
+none_settled None t stops = refl
+none_settled (Some f) t stops = absurd (let n : ◌≡◌ {A = Result Claim Mem} (Ok (claim.Settled t)) (Ok claim.Stopped) = stops refl in cc)
+
+-- an answer by which the run goes on, or halts
+pub goes_or_halts : {D W : Type 0} (old new : RunView D W) (halt : Option Halt) → (halt ≡ None → left_over new < left_over old) → IfSome halt (IsHalted new) → MatchOption halt (left_over new < left_over old) (IsHalted new)
+goes_or_halts old new None less halted = less refl
+goes_or_halts old new (Some h) less halted = halted
+
+-- a clean job stays one, since it speaks of the plan alone
+pub clean_still : {D W : Type 0} (story : D → Story) (written : W → List ℕ) (o : Opening) (old new : RunView D W) (job : Job) → new.plan ≡ old.plan → IsCleanJob o (seen story written old) job → IsCleanJob o (seen story written new) job
+clean_still story written o old new job same j = record {
+  task = j.task;
+  is_task = subst (λ (p : Plan). Rattle.std.specs.List.slice_get p.tasks job.task ≡ Some j.task) (sym same) j.is_task;
+  outputs = j.outputs;
+  numbers = j.numbers;
+  clean = subst (λ (p : Plan). Rattle.task_worker.specs.OneTask.AreClean o.gives p.tasks j.outputs) (sym same) j.clean;
+  script = j.script;
+  layout = subst (λ (p : Plan). job.layout ≡ Rattle.task_worker.specs.Layouts.layout_over p.tasks j.task j.outputs) (sym same) j.layout;
+  within = j.within;
+}

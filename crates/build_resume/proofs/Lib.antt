@@ -1,0 +1,13 @@
+pub mod Given
+pub mod Turning
+pub mod Driving
+pub mod Halting
+pub mod Failed
+pub mod Outcomes
+pub mod Reports
+pub mod Alone
+pub mod Begun
+pub mod Built
+pub mod Entered
+pub mod Printing
+pub mod Statuses

@@ -1,0 +1,115 @@
+-- Which statuses come.
+use Rattle.std.proofs.Common.{◌≡◌, ◌∙◌, append_assoc, sym, ap, refl, ℕ, arith, Bool, true, false, List, ◌++◌, Some, None, Ok, Err, inl, inr}
+use Rattle.std.specs.Prelude.{◌≢◌, ◌↔◌, Option, OnErr, OnOk, Result}
+use Rattle.std.proofs.lemmas.Bool.{false≢true}
+use Rattle.outside_traits.specs.Fault.{Counts, Rose, sink_failed}
+use Rattle.outside_traits.specs.declared.fault.SinkFault.{SinkFault}
+use Rattle.meta_model.specs.declared.event.Logged.{Logged}
+use Rattle.meta_model.specs.declared.event.Status.{Status}
+use Rattle.meta_model.specs.declared.event.Status.TheVariants as status
+use Rattle.meta_model.specs.declared.plan.Plan.{Plan}
+use Rattle.bb_report.specs.Runs.{last_line, tale_text}
+use Rattle.bb_report.specs.Written.{WritesFront}
+use Rattle.bb_report.proofs.Chains.{front_then}
+use Rattle.build_store.specs.Faults.{IsOutside, is_disk_fault}
+use Rattle.build_store.specs.declared.fault.StoreFault.{StoreFault}
+use Rattle.build_store.specs.declared.fault.StoreFault.TheVariants as fault
+use Rattle.run_queue.specs.declared.fault.RunFault.{RunFault}
+use Rattle.run_queue.specs.declared.fault.RunFault.TheVariants as kept
+use Rattle.run_queue.specs.Keeps.{IsFront, IsSteady, IsSteadyAnswer}
+use Rattle.run_queue.proofs.Printed.{front_all, front_some}
+use Rattle.build_resume.specs.Build.{MayEndSo, WritesReport, is_collision, is_unsteady}
+use Rattle.build_resume.specs.Ends.{EndsBy, is_plain, status_at, status_by, status_of}
+use Rattle.build_resume.specs.declared.drive.Halt.{Halt}
+use Rattle.build_resume.specs.declared.drive.Halt.TheVariants as halt
+
+-- ---- the last line
+
+-- what was written stays in front, whatever the sink answered
+pub wrote : {T : Type 0} (r : Result T SinkFault) (tells : Type 0) (old new text : List ℕ) → OnOk r (tells → new ≡ old ++ text) → OnErr r (tells → WritesFront old new text) → tells → (front : List ℕ) → IsFront front old → IsFront front new
+wrote (Ok x) tells old new text ok err told front is = front_all front old new text (ok told) is
+wrote (Err e) tells old new text ok err told front is = front_some front old new text (err told) is
+
+-- the last line of a run that wanted memory
+pub wrote_want : {T : Type 0} (r : Result T SinkFault) (tells : Type 0) (old new : List ℕ) (before now : ℕ) (plan : Plan) (tale : List Logged) (base : List ℕ) → OnOk r (tells → new ≡ old ++ last_line plan tale status.OutOfMemory) → OnErr r (tells → WritesFront old new (last_line plan tale status.OutOfMemory)) → Counts before now (sink_failed r) → tells
+    → old ≡ base ++ tale_text plan.tasks tale → WritesReport (Rose before now) base new plan tale status.OutOfMemory
+wrote_want (Ok x) tells old new before now plan tale base ok err counts told is =
+    inl (ok told ∙ ap (λ (l : List ℕ). l ++ last_line plan tale status.OutOfMemory) is ∙ append_assoc base (tale_text plan.tasks tale) (last_line plan tale status.OutOfMemory))
+wrote_want (Err e) tells old new before now plan tale base ok err counts told is =
+    inr (counts.rose, (status.OutOfMemory, front_then base old new (tale_text plan.tasks tale) (last_line plan tale status.OutOfMemory) is (err told)))
+
+-- a status whose line couldn't be written
+pub ends_unwritten : (sink : Type 0) (cause s : Status) → (is_plain cause ≡ true → s ≡ status.WriteFault) → (is_plain cause ≡ false → s ≡ cause) → sink → EndsBy sink cause s
+ends_unwritten sink cause s plain other failed = by (is_plain cause) refl
+  where
+    by : (b : Bool) → is_plain cause ≡ b → EndsBy sink cause s
+    by true is = inr (inr (plain is, is, failed))
+    by false is = inl (other is)
+
+-- ---- no Unsteady
+
+by_fault : (f : StoreFault) → IsSteadyAnswer f → is_unsteady (status_of f) ≡ false
+by_fault fault.Disk is = refl
+by_fault (fault.Collision name held given) is = refl
+by_fault (fault.Unsteady pn task held given) is = absurd is
+by_fault fault.Memory is = refl
+
+at_halt : (h : Halt) (failed : Bool) → is_unsteady (status_at h failed) ≡ false
+at_halt halt.Finished true = refl
+at_halt halt.Finished false = refl
+at_halt halt.Stopped true = refl
+at_halt halt.Stopped false = refl
+at_halt halt.Memory failed = refl
+at_halt halt.Bench failed = refl
+
+by_steady : (f : Option RunFault) (h : Halt) (failed : Bool) → IsSteady f → is_unsteady (status_by f h failed) ≡ false
+by_steady (Some (kept.Store f)) h failed is = by_fault f is
+by_steady (Some kept.Write) h failed is = refl
+by_steady None h failed is = at_halt h failed
+
+ends_steady : (sink : Type 0) (cause s : Status) → EndsBy sink cause s → is_unsteady cause ≡ false → is_unsteady s ≡ false
+ends_steady sink cause s (inl is) steady = ap is_unsteady is ∙ steady
+ends_steady sink cause s (inr (inl is)) steady = ap is_unsteady is
+ends_steady sink cause s (inr (inr is)) steady = ap is_unsteady is.0
+
+-- a run that keeps no such fault doesn't end by one
+pub ended_steady : (sink : Type 0) (f : Option RunFault) (h : Halt) (failed : Bool) (s : Status) → EndsBy sink (status_by f h failed) s → IsSteady f → is_unsteady s ≡ false
+ended_steady sink f h failed s by is = ends_steady sink (status_by f h failed) s by (by_steady f h failed is)
+
+outside_answer : (f : StoreFault) → IsOutside f → IsSteadyAnswer f
+outside_answer fault.Disk is = tt
+outside_answer (fault.Collision name held given) is = absurd is
+outside_answer (fault.Unsteady pn task held given) is = absurd is
+outside_answer fault.Memory is = tt
+
+-- nor does one whose store couldn't be opened
+pub refused_steady : (sink : Type 0) (f : StoreFault) (s : Status) → EndsBy sink (status_of f) s → IsOutside f → is_unsteady s ≡ false
+refused_steady sink f s by is = ends_steady sink (status_of f) s by (by_fault f (outside_answer f is))
+
+-- where no device failed it wanted memory
+pub refused_never : (sink : Type 0) (f : StoreFault) (before now : ℕ) (s : Status) → IsOutside f → Counts before now (is_disk_fault f) → EndsBy sink (status_of f) s → now ≡ 0 → (sink → ⊥) → s ≢ status.OutOfMemory → ⊥
+refused_never sink fault.Disk before now s out counts (inl is) none sink_none memory = let rose = counts.rose in omega (arith, rose, none)
+refused_never sink fault.Disk before now s out counts (inr (inl is)) none sink_none memory = memory is
+refused_never sink fault.Disk before now s out counts (inr (inr is)) none sink_none memory = sink_none is.2
+refused_never sink fault.Memory before now s out counts (inl is) none sink_none memory = memory is
+refused_never sink fault.Memory before now s out counts (inr (inl is)) none sink_none memory = memory is
+refused_never sink fault.Memory before now s out counts (inr (inr is)) none sink_none memory = sink_none is.2
+refused_never sink (fault.Collision name held given) before now s out counts by none sink_none memory = absurd out
+refused_never sink (fault.Unsteady pn task held given) before now s out counts by none sink_none memory = absurd out
+
+-- ---- exactly
+
+-- where nothing failed outside the status is Ok or TaskFailed
+pub ended_exactly : (disk : ℕ) (bench sink clean : Type 0) (s : Status) → MayEndSo disk bench sink s → is_unsteady s ≡ false → (s ≡ status.Ok → clean) × (clean → s ≢ status.TaskFailed) → disk ≡ 0 → (bench → ⊥) → (sink → ⊥) → s ≢ status.OutOfMemory → is_collision s ≡ false → (s ≡ status.Ok) ↔ clean
+ended_exactly disk bench sink clean status.Ok may steady both disk_none bench_none sink_none memory alone = (both.0, λ c. refl)
+ended_exactly disk bench sink clean status.TaskFailed may steady both disk_none bench_none sink_none memory alone = (both.0, λ c. absurd (both.1 c refl))
+ended_exactly disk bench sink clean status.Usage may steady both disk_none bench_none sink_none memory alone = absurd may
+ended_exactly disk bench sink clean (status.Metadata file line kind detail) may steady both disk_none bench_none sink_none memory alone = absurd may
+ended_exactly disk bench sink clean status.DiskFault may steady both disk_none bench_none sink_none memory alone = absurd (omega (arith, may, disk_none))
+ended_exactly disk bench sink clean status.BenchFault may steady both disk_none bench_none sink_none memory alone = absurd (bench_none may)
+ended_exactly disk bench sink clean status.ReadFault may steady both disk_none bench_none sink_none memory alone = absurd may
+ended_exactly disk bench sink clean status.WriteFault may steady both disk_none bench_none sink_none memory alone = absurd (sink_none may)
+ended_exactly disk bench sink clean (status.Collision name held given) may steady both disk_none bench_none sink_none memory alone = absurd (false≢true (sym alone))
+ended_exactly disk bench sink clean (status.Unsteady pn task held given) may steady both disk_none bench_none sink_none memory alone = absurd (false≢true (sym steady))
+ended_exactly disk bench sink clean (status.Limit kind) may steady both disk_none bench_none sink_none memory alone = absurd may
+ended_exactly disk bench sink clean status.OutOfMemory may steady both disk_none bench_none sink_none memory alone = absurd (memory refl)

@@ -1,0 +1,65 @@
+use Rattle.std.proofs.Common.{◌∙◌, sym, ap, subst, refl, List, [], ◌++◌, append_assoc, append-nil, None, Some}
+use Rattle.bb_report.specs.Runs.{tale_text}
+use Rattle.meta_model.specs.declared.event.Logged.{Logged}
+use Rattle.meta_model.specs.declared.plan.Plan.{Plan}
+use Rattle.run_queue.specs.Keeps.{Prints}
+use Rattle.build_resume.specs.Drive.{RanSaid}
+use Rattle.build_resume.proofs.Driving.{drove_first, drove_on, drove_same}
+use Rattle.build_resume.proofs.drive.drive.Goals as goal
+
+pub loop-halt-init : goal.loop-halt-init
+loop-halt-init g c = record {
+  none = c.requires.none;
+  same = record { plan = refl; options = refl };
+  grows = record { more = []; is = sym (append-nil c.args.state.now.tale) };
+  sink = λ before counts. counts;
+  text = λ heard base prints. prints;
+  printed = λ heard told base before said. said;
+  gives = refl;
+  faults = refl;
+  run = λ tells told o gives run. (run, drove_first (g.B.Bench.gives c.args.bench.now) c.args.state.now.plan c.args.state.now.tale (g.B.Bench.place c.args.bench.now).runs);
+  steady = λ tells told o gives run held. held;
+}
+
+pub returns-in-Some-clause-run : goal.returns-in-Some-clause-run
+returns-in-Some-clause-run g c tells told o gives run =
+    let before = c.loop-halt.invariant.run tells told o gives run in
+    let did = c.in-Some.ensures.run tells told o (gives ∙ sym c.loop-halt.invariant.gives) before.0 in (
+      did.0,
+      drove_on (g.B.Bench.gives c.args.bench.now) c.args.state.now.plan (Some c.in-Some.halt) c.args.state.now.tale c.loop-halt.state.tale c.turn.new.state.tale (g.B.Bench.place c.args.bench.now).runs (g.B.Bench.place c.loop-halt.bench).runs (g.B.Bench.place c.turn.new.bench).runs before.1
+          (drove_same (Some c.in-Some.halt) c.loop-halt.state.tale c.turn.new.state.tale (g.B.Bench.place c.loop-halt.bench).runs (g.B.Bench.place c.turn.new.bench).runs c.loop-halt.invariant.gives c.loop-halt.invariant.same.plan did.1),
+    )
+
+pub loop-halt-preserved : goal.loop-halt-preserved
+loop-halt-preserved g c = record {
+  none = c.in_default.ensures.none;
+  same = record { plan = c.in_default.ensures.same.plan ∙ c.loop-halt.invariant.same.plan; options = c.in_default.ensures.same.options ∙ c.loop-halt.invariant.same.options };
+  grows = record {
+    more = c.loop-halt.invariant.grows.more ++ c.in_default.ensures.grows.more;
+    is = c.in_default.ensures.grows.is ∙ ap (λ (l : List Logged). l ++ c.in_default.ensures.grows.more) c.loop-halt.invariant.grows.is ∙ append_assoc c.args.state.now.tale c.loop-halt.invariant.grows.more c.in_default.ensures.grows.more;
+  };
+  sink = λ before counts. c.in_default.ensures.sink before (c.loop-halt.invariant.sink before counts);
+  text = λ heard base prints. subst (λ (p : Plan). Prints base (g.W.Sink.written c.turn.new.state.sink) (tale_text p.tasks c.turn.new.state.tale) c.turn.new.state.sink_failed) c.loop-halt.invariant.same.plan
+      (c.in_default.ensures.text heard base (subst (λ (p : Plan). Prints base (g.W.Sink.written c.loop-halt.state.sink) (tale_text p.tasks c.loop-halt.state.tale) c.loop-halt.state.sink_failed) (sym c.loop-halt.invariant.same.plan) (c.loop-halt.invariant.text heard base prints)));
+  printed = λ heard told base before said. subst (λ (p : Plan). RanSaid p None c.turn.new.state.fault c.turn.new.state.tale before (g.B.Bench.place c.turn.new.bench).runs base (g.W.Sink.written c.turn.new.state.sink)) c.loop-halt.invariant.same.plan
+      (c.in_default.ensures.printed heard told base before (subst (λ (p : Plan). RanSaid p None c.loop-halt.state.fault c.loop-halt.state.tale before (g.B.Bench.place c.loop-halt.bench).runs base (g.W.Sink.written c.loop-halt.state.sink)) (sym c.loop-halt.invariant.same.plan) (c.loop-halt.invariant.printed heard told base before said)));
+  gives = c.in_default.ensures.gives ∙ c.loop-halt.invariant.gives;
+  faults = c.in_default.ensures.cause.stayed ∙ c.loop-halt.invariant.faults;
+  run = λ tells told o gives run.
+      let before = c.loop-halt.invariant.run tells told o gives run in
+      let did = c.in_default.ensures.run tells told o (gives ∙ sym c.loop-halt.invariant.gives) before.0 in (
+        did.0,
+        drove_on (g.B.Bench.gives c.args.bench.now) c.args.state.now.plan None c.args.state.now.tale c.loop-halt.state.tale c.turn.new.state.tale (g.B.Bench.place c.args.bench.now).runs (g.B.Bench.place c.loop-halt.bench).runs (g.B.Bench.place c.turn.new.bench).runs before.1
+            (drove_same None c.loop-halt.state.tale c.turn.new.state.tale (g.B.Bench.place c.loop-halt.bench).runs (g.B.Bench.place c.turn.new.bench).runs c.loop-halt.invariant.gives c.loop-halt.invariant.same.plan did.1),
+      );
+  steady = λ tells told o gives run held. c.in_default.ensures.steady tells told o (gives ∙ sym c.loop-halt.invariant.gives) (c.loop-halt.invariant.run tells told o gives run).0 (c.loop-halt.invariant.steady tells told o gives run held);
+}
+
+pub returns-in-Some-clause-printed : goal.returns-in-Some-clause-printed
+returns-in-Some-clause-printed g c heard told base before said =
+    subst (λ (p : Plan). RanSaid p (Some c.in-Some.halt) c.turn.new.state.fault c.turn.new.state.tale before (g.B.Bench.place c.turn.new.bench).runs base (g.W.Sink.written c.turn.new.state.sink)) c.loop-halt.invariant.same.plan
+    (c.in-Some.ensures.printed heard told base before (subst (λ (p : Plan). RanSaid p None c.loop-halt.state.fault c.loop-halt.state.tale before (g.B.Bench.place c.loop-halt.bench).runs base (g.W.Sink.written c.loop-halt.state.sink)) (sym c.loop-halt.invariant.same.plan) (c.loop-halt.invariant.printed heard told base before said)))
+
+pub returns-in-Some-clause-steady : goal.returns-in-Some-clause-steady
+returns-in-Some-clause-steady g c tells told o gives run held =
+    c.in-Some.ensures.steady tells told o (gives ∙ sym c.loop-halt.invariant.gives) (c.loop-halt.invariant.run tells told o gives run).0 (c.loop-halt.invariant.steady tells told o gives run held)

@@ -1,0 +1,185 @@
+-- What a run of a plan leaves.
+use Rattle.std.specs.Prelude.{◌≡◌, ◌≢◌, ◌⊎◌, ◌<◌, ℕ, Bool, true, false, List, [], ◌∷◌, ◌++◌, map, Contains, Some, Ok, Err}
+use Rattle.std.specs.List.{slice_get, AllByRecursion}
+use Rattle.sha2.specs.Sha256.{sha256}
+use Rattle.tree_model.specs.Path.{IsAtOrBelow}
+use Rattle.tree_model.specs.Tree.{IsTree}
+use Rattle.outside_traits.specs.Passes.{EachNow}
+use Rattle.outside_traits.specs.Store.{Store}
+use Rattle.outside_traits.specs.Story.{Story}
+use Rattle.meta_model.specs.declared.event.Avail.TheVariants.{Object}
+use Rattle.meta_model.specs.declared.event.Event.{Event}
+use Rattle.meta_model.specs.declared.event.Event.TheVariants as events
+use Rattle.meta_model.specs.declared.event.Logged.{Logged}
+use Rattle.meta_model.specs.declared.event.Status.{Status}
+use Rattle.meta_model.specs.declared.event.Status.TheVariants as status
+use Rattle.meta_model.specs.declared.plan.Options.{Options}
+use Rattle.meta_model.specs.declared.plan.Plan.{Plan}
+use Rattle.meta_model.specs.declared.plan.PlanTask.{PlanTask}
+use Rattle.meta_model.specs.CleanBuild.{Built, Entries, Gives, clean_build, fails}
+use Rattle.plan_model.specs.Sound.{IsSound}
+use Rattle.plan_model.specs.Spellings.{HasSpellings}
+use Rattle.store_model.specs.Available.{HoldsClean, IsAvailable, object_folder, stamp_path, work_folder}
+use Rattle.store_model.specs.Origins.{Book, Line, Reading, rows_of}
+use Rattle.store_model.specs.Reuse.{MayReuse}
+use Rattle.store_model.specs.Signatures.{Signed, signatures}
+use Rattle.store_model.specs.Valid.{IsValid}
+use Rattle.build_store.specs.Laws.{HasLine}
+use Rattle.build_store.specs.Opening.{IsLeft, IsOpened}
+use Rattle.build_store.specs.Reopened.{HaveSameLines}
+use Rattle.build_store.specs.Sound.{IsReadable}
+use Rattle.bb_report.specs.Runs.{run_text, tale_text}
+use Rattle.bb_report.specs.Written.{WritesFront}
+use Rattle.task_worker.specs.Layouts.{layout_over}
+use Rattle.task_worker.specs.OneTask.{AreClean}
+use Rattle.run_queue.specs.Books.{book_after}
+use Rattle.run_queue.specs.Courses.{IsLegalTale}
+use Rattle.run_queue.specs.Opening.{HasFolders, Opening}
+use Rattle.run_queue.specs.Stands.{AllStand, HasStarted}
+
+-- What is asked of a run: the plan is sound; what the disk holds is valid with a book of lines that can be read again, and has folders
+-- where the store keeps them; the plan may reuse of the book what it wants; what scripts give are trees; and a program can hold the
+-- signatures of the plan's tasks.
+pub record IsEntry (gives : Gives) (reading : Reading) (book : Book) (held : Store) (plan : Plan) : Type 0 where
+  pub sound : IsSound plan
+  pub valid : IsValid gives reading held book
+  pub readable : AllByRecursion IsReadable book
+  pub folders : HasFolders held
+  pub may : MayReuse gives reading held book plan.tasks
+  pub trees : (script : List ℕ) (tree out : Entries) → gives script tree ≡ Ok out → IsTree out
+  pub spellings : HasSpellings plan
+
+-- *Exact outputs*: for each target what a crash now leaves holds in its work folder exactly its clean output.
+abbrev pub HasTargets : Gives → Plan → Store → Type 0
+HasTargets gives plan image = (t : ℕ) (task : PlanTask) (built : Built) → Contains plan.targets t → slice_get plan.tasks t ≡ Some task → slice_get (clean_build gives plan.tasks) t ≡ Some built → HoldsClean image (work_folder task) built
+
+-- every task of the plan has a clean output
+abbrev pub AllClean : Gives → Plan → Type 0
+AllClean gives plan = (t : ℕ) (built : Built) → slice_get (clean_build gives plan.tasks) t ≡ Some built → (tree : Entries) × (built.outcome ≡ Ok tree)
+
+-- *Every crash leaves a valid store*: its book has the lines of the entry's, and behind them lines that this run recorded; all of them
+-- can be read again, and folders stand where the store keeps them.
+pub record IsCrash (gives : Gives) (reading : Reading) (book : Book) (image : Store) : Type 0 where
+  pub again : Book
+  pub same : HaveSameLines book again
+  pub lines : Book
+  pub valid : IsValid gives reading image (again ++ lines)
+  pub readable : AllByRecursion IsReadable (again ++ lines)
+  pub folders : HasFolders image
+
+-- A tale that is legal over the store as it was opened, with the lines of the entry's book in its own order, after which each settled
+-- task stands.
+pub record HasRun (gives : Gives) (reading : Reading) (book : Book) (held : Store) (plan : Plan) (options : Options) (tale : List Logged) (now : Story) : Type 0 where
+  pub opening : Opening
+  pub same_gives : opening.gives ≡ gives
+  pub same_reading : opening.reading ≡ reading
+  pub same_lines : HaveSameLines book opening.book
+  pub opened : IsOpened held opening.story.held (rows_of opening.book)
+  pub legal : IsLegalTale opening plan options tale
+  pub stands : EachNow now (AllStand opening plan tale)
+
+-- ---- the bench runs
+
+-- the tasks that were started, in order
+abbrev pub started_in : List Logged → List ℕ
+started_in [] = []
+started_in (entry ∷ tale) = of entry.event (started_in tale)
+  where
+    of : Event → List ℕ → List ℕ
+    of (events.Started t seat) more = t ∷ more
+    of _ more = more
+
+-- A run of the bench is a task's script over the layout of the clean outputs of what it needs.
+pub record IsRunOf (gives : Gives) (plan : Plan) (t : ℕ) (run : List ℕ × Entries) : Type 0 where
+  pub task : PlanTask
+  pub is_task : slice_get plan.tasks t ≡ Some task
+  pub outputs : List (ℕ × Entries)
+  pub numbers : map (λ x. x.0) outputs ≡ task.deps
+  pub clean : AreClean gives plan.tasks outputs
+  pub is : run ≡ (task.script, layout_over plan.tasks task outputs)
+
+-- the bench ran these tasks, one after the other; the last one may have no run, where it broke
+abbrev pub RanThese : Gives → Plan → List ℕ → List (List ℕ × Entries) → Type 0
+RanThese gives plan [] [] = Unit {0}
+RanThese gives plan [] (run ∷ runs) = ⊥
+RanThese gives plan (t ∷ ts) [] = ts ≡ []
+RanThese gives plan (t ∷ ts) (run ∷ runs) = IsRunOf gives plan t run × RanThese gives plan ts runs
+
+-- ---- what ran was printed
+
+-- the script of the task of a number
+pub record IsScriptOf (plan : Plan) (t : ℕ) (script : List ℕ) : Type 0 where
+  pub task : PlanTask
+  pub is_task : slice_get plan.tasks t ≡ Some task
+  pub is : script ≡ task.script
+
+-- the bench ran the scripts of these tasks, one after the other; the last one may have no run, where it broke
+abbrev pub RanScripts : Plan → List ℕ → List (List ℕ × Entries) → Type 0
+RanScripts plan [] [] = Unit {0}
+RanScripts plan [] (run ∷ runs) = ⊥
+RanScripts plan (t ∷ ts) [] = ts ≡ []
+RanScripts plan (t ∷ ts) (run ∷ runs) = IsScriptOf plan t run.0 × RanScripts plan ts runs
+
+-- What ran had been printed: the bench ran the scripts of just those tasks that a front of the tale starts, and behind what was written
+-- before the run the lines of that front stand whole.
+pub record RanPrinted (plan : Plan) (tale : List Logged) (before now : List (List ℕ × Entries)) (old new : List ℕ) : Type 0 where
+  pub front : List Logged
+  pub back : List Logged
+  pub cut : tale ≡ front ++ back
+  pub runs : List (List ℕ × Entries)
+  pub ran : now ≡ before ++ runs
+  pub these : RanScripts plan (started_in front) runs
+  pub rest : List ℕ
+  pub written : new ≡ old ++ (tale_text plan.tasks front ++ rest)
+
+-- ---- what a run leaves alone
+
+-- All that is at or under a task's work folder, the objects of the book's lines that are of it, and its stamp, where opening the store
+-- leaves that alone, are as they were.
+pub record IsLeftAlone (book : Book) (held image : Store) (of : PlanTask) : Type 0 where
+  pub work : (q : List ℕ) → IsAtOrBelow (work_folder of) q → image q ≡ held q
+  pub objects : (line : Line) → HasLine book line → line.sig.pn ≡ of.id.pn → line.sig.task ≡ of.id.task → (q : List ℕ) → IsAtOrBelow (object_folder line.unihash) q → image q ≡ held q
+  pub stamp : IsLeft held (stamp_path of) → image (stamp_path of) ≡ held (stamp_path of)
+
+-- Each task of the plan is left alone that the tale doesn't start, and that had no object to be restored from: none by its signature over
+-- the lines of the book, in some order, and those that the tale puts behind them.
+pub record LeavesOthers (gives : Gives) (book : Book) (held : Store) (plan : Plan) (options : Options) (tale : List Logged) (image : Store) : Type 0 where
+  pub again : Book
+  pub same : HaveSameLines book again
+  pub others : (t : ℕ) (task : PlanTask) → slice_get plan.tasks t ≡ Some task → (HasStarted tale t → ⊥)
+      → ((sg : Signed) → slice_get (signatures (rows_of (book_after gives plan again tale)) plan.tasks) t ≡ Some sg → IsAvailable held (rows_of (book_after gives plan again tale)) options.setscene sg Object → ⊥)
+      → IsLeftAlone book held image task
+
+-- ---- failed tasks
+
+abbrev pub FailsClean : Gives → Plan → ℕ → Type 0
+FailsClean gives plan t = (built : Built) → slice_get (clean_build gives plan.tasks) t ≡ Some built → (cause : Rattle.meta_model.specs.declared.event.Why.Why) × (built.outcome ≡ Err (fails cause))
+
+-- ---- how a run may end
+
+-- whether the status is that two signatures have one digest
+abbrev pub is_collision : Status → Bool
+is_collision (status.Collision name held given) = true
+is_collision _ = false
+
+-- whether the status is that an output differs from one run to another
+abbrev pub is_unsteady : Status → Bool
+is_unsteady (status.Unsteady pn task held given) = true
+is_unsteady _ = false
+
+-- Each status has its cause: the disk's count is above 0, the bench's rose, the sink's rose, two signatures have one digest as their name,
+-- two manifests of one record differ. Ok, TaskFailed and want of memory have none outside. No other status comes.
+abbrev pub MayEndSo : ℕ → Type 0 → Type 0 → Status → Type 0
+MayEndSo disk bench sink status.Ok = Unit {0}
+MayEndSo disk bench sink status.TaskFailed = Unit {0}
+MayEndSo disk bench sink status.DiskFault = 0 < disk
+MayEndSo disk bench sink status.BenchFault = bench
+MayEndSo disk bench sink status.WriteFault = sink
+MayEndSo disk bench sink (status.Collision name held given) = (held ≢ given) × (sha256 held ≡ name.bytes) × (sha256 given ≡ name.bytes)
+MayEndSo disk bench sink (status.Unsteady pn task held given) = held ≢ given
+MayEndSo disk bench sink status.OutOfMemory = Unit {0}
+MayEndSo disk bench sink _ = ⊥
+
+-- What was written is the text of the run, or, where the sink failed, some front of the text that some status gives.
+abbrev pub WritesReport : Type 0 → List ℕ → List ℕ → Plan → List Logged → Status → Type 0
+WritesReport failed old new plan tale s = (new ≡ old ++ run_text plan tale s) ⊎ (failed × ((met : Status) × WritesFront old new (run_text plan tale met)))

@@ -1,0 +1,54 @@
+-- How a run ends.
+use Rattle.std.specs.Prelude.{◌≡◌, ◌⊎◌, ℕ, Bool, true, false, List, [], ◌∷◌, Option, Some, None, if◌then◌else◌}
+use Rattle.meta_model.specs.declared.event.Event.{Event}
+use Rattle.meta_model.specs.declared.event.Event.TheVariants as events
+use Rattle.meta_model.specs.declared.event.Logged.{Logged}
+use Rattle.meta_model.specs.declared.event.Status.{Status}
+use Rattle.meta_model.specs.declared.event.Status.TheVariants as status
+use Rattle.build_store.specs.declared.fault.StoreFault.{StoreFault}
+use Rattle.build_store.specs.declared.fault.StoreFault.TheVariants as fault
+use Rattle.run_queue.specs.declared.fault.RunFault.{RunFault}
+use Rattle.run_queue.specs.declared.fault.RunFault.TheVariants as kept
+use Rattle.build_resume.specs.declared.drive.Halt.{Halt}
+use Rattle.build_resume.specs.declared.drive.Halt.TheVariants as halt
+
+-- a fault of the store, as a status
+abbrev pub status_of : StoreFault → Status
+status_of fault.Disk = status.DiskFault
+status_of (fault.Collision name held given) = status.Collision name held given
+status_of (fault.Unsteady pn task held given) = status.Unsteady pn task held given
+status_of fault.Memory = status.OutOfMemory
+
+-- how a run ends in which no fault was met
+abbrev pub status_at : Halt → Bool → Status
+status_at halt.Finished failed = if failed then status.TaskFailed else status.Ok
+status_at halt.Stopped failed = if failed then status.TaskFailed else status.Ok
+status_at halt.Memory failed = status.OutOfMemory
+status_at halt.Bench failed = status.BenchFault
+
+-- The status of a run, by the first fault that it met, by why it halted, and by whether a task failed.
+abbrev pub status_by : Option RunFault → Halt → Bool → Status
+status_by (Some (kept.Store f)) h failed = status_of f
+status_by (Some kept.Write) h failed = status.WriteFault
+status_by None h failed = status_at h failed
+
+-- whether the status says that nothing failed outside
+abbrev pub is_plain : Status → Bool
+is_plain status.Ok = true
+is_plain status.TaskFailed = true
+is_plain _ = false
+
+-- How a run ends whose first cause is this one: so it does; or memory was wanting for the last line, or for the list of the tasks that
+-- failed; or nothing failed outside before, and the sink did now.
+abbrev pub EndsBy : Type 0 → Status → Status → Type 0
+EndsBy sink cause s = (s ≡ cause) ⊎ ((s ≡ status.OutOfMemory) ⊎ ((s ≡ status.WriteFault) × (is_plain cause ≡ true) × sink))
+
+-- the task of an event, if it is that the task failed
+abbrev pub failed_by : Event → List ℕ → List ℕ
+failed_by (events.Failed t why) more = t ∷ more
+failed_by _ more = more
+
+-- the tasks that failed in a tale, in its order
+abbrev pub failed_in : List Logged → List ℕ
+failed_in [] = []
+failed_in (entry ∷ tale) = failed_by entry.event (failed_in tale)

@@ -1,0 +1,5 @@
+pub mod Build
+pub mod Drive
+pub mod Ends
+pub mod Laws
+pub mod Outcome

@@ -1,0 +1,145 @@
+// The turns of a run on the calling thread, under seat 0.
+ghost use Rattle.std.specs.Prelude.{◌≡◌, ◌<◌, ◌≤◌, ◌⊎◌, ℕ, List, IfSome, IsSome, MatchOption, None, Some, length};
+ghost use Rattle.outside_traits.specs.Fault.{Counts};
+ghost use Rattle.meta_model.specs.CleanBuild.{Entries};
+ghost use Rattle.run_core.specs.Fates.{NoneRuns};
+ghost use Rattle.task_worker.specs.Jobs.{ran_job};
+ghost use Rattle.bb_report.specs.Runs.{tale_text};
+ghost use Rattle.run_queue.specs.Opening.{Opening};
+ghost use Rattle.run_queue.specs.Seen.{seen};
+ghost use Rattle.run_queue.specs.Keeps.{IsFront, IsRun, IsSteady, Prints};
+ghost use Rattle.run_queue.specs.Turns.{IsCleanJob, RunsUnder, SameRun, fates_of};
+ghost use Rattle.build_resume.specs.Drive.{Closes, Drove, GoesOnBehind, Grows, IsHalted, RanSaid, by_bench, left_over};
+
+use meta_model::Cut;
+use outside_traits::{Bench, Disk, Sink};
+use run_queue::{Claim, RunState};
+use std::alloc::Global;
+use task_worker::{Job, WorkFault, do_job};
+use tree_model::Mem;
+
+/// Why a run does no more.
+#[derive(Clone, Copy, Debug, PartialEq, Eq)]
+pub(crate) enum Halt {
+    /// Nothing is left to do.
+    Finished,
+    /// Nothing new may begin.
+    Stopped,
+    /// Memory was wanting.
+    Memory,
+    /// The bench failed.
+    Bench,
+}
+
+/// Does a job that was claimed, and says how it came to an end. Where a fault is kept, as that the line of its start couldn't be written,
+/// its script doesn't run. Where the run goes on its task doesn't wait again, or a fault is kept.
+fn do_claimed<D: Disk, B: Bench, W: Sink>(
+    alloc: Global,
+    state: &mut RunState<D, W>,
+    bench: &mut B,
+    job: Job,
+) -> Option<Halt>
+    requires reach { 3600 ≤ D.reach }
+    requires runs { RunsUnder state.old job.task 0 }
+    requires task { job.task < length state.old.plan.tasks }
+    ensures same { SameRun state.old state.new }
+    ensures closes { Closes job.task state.old.tale state.new.tale }
+    ensures goes_on { GoesOnBehind job.task state.new result }
+    ensures fault { IsSome state.old.fault → state.new.fault ≡ state.old.fault }
+    ensures halted { IfSome result (IsHalted state.new) }
+    ensures sink { (before : ℕ) → Counts before (W.faults state.old.sink) state.old.sink_failed → Counts before (W.faults state.new.sink) state.new.sink_failed }
+    ensures text { W.tells → (base : List ℕ) → Prints base (W.written state.old.sink) (tale_text state.old.plan.tasks state.old.tale) state.old.sink_failed → Prints base (W.written state.new.sink) (tale_text state.old.plan.tasks state.new.tale) state.new.sink_failed }
+    ensures stays { W.tells → (front : List ℕ) → IsFront front (W.written state.old.sink) → IsFront front (W.written state.new.sink) }
+    ensures gives { B.gives bench.new ≡ B.gives bench.old }
+    ensures ran { B.tells → ((B.place bench.new).runs ≡ ran_job (B.place bench.old).runs job) ⊎ (((B.place bench.new).runs ≡ (B.place bench.old).runs) × IsSome result) }
+    ensures unheard { IsSome state.old.fault → IsSome result × (B.tells → (B.place bench.new).runs ≡ (B.place bench.old).runs) }
+    ensures cause { Counts (B.faults bench.old) (B.faults bench.new) (by_bench result) }
+    ensures run { D.tells → B.tells → (o : Opening) → o.gives ≡ B.gives bench.old → IsRun o (seen D.story W.written state.old) → IsCleanJob o (seen D.story W.written state.old) job → IsRun o (seen D.story W.written state.new) }
+    ensures steady { D.tells → B.tells → (o : Opening) → o.gives ≡ B.gives bench.old → IsRun o (seen D.story W.written state.old) → IsCleanJob o (seen D.story W.written state.old) job → IsSteady state.old.fault → IsSteady state.new.fault }
+{
+    if state.has_fault() {
+        state.broke(alloc, 0, job, Cut::Fault);
+        return Some(Halt::Stopped);
+    }
+    let task = &state.plan().tasks.as_slice()[job.task as usize];
+    match do_job(alloc, bench, task.places.as_slice(), task.sstate, &job) {
+        Ok(given) => match state.ended(alloc, 0, job, given) {
+            Ok(()) => None,
+            Err(Mem) => Some(Halt::Memory),
+        },
+        Err(WorkFault::Bench) => {
+            state.broke(alloc, 0, job, Cut::Bench);
+            Some(Halt::Bench)
+        }
+        Err(WorkFault::Memory) => {
+            state.broke(alloc, 0, job, Cut::Memory);
+            Some(Halt::Memory)
+        }
+    }
+}
+
+/// One turn of the seat, and the job that it was given, if it was. `None`: there may be more to do.
+fn turn<D: Disk, B: Bench, W: Sink>(
+    alloc: Global,
+    state: &mut RunState<D, W>,
+    bench: &mut B,
+) -> Option<Halt>
+    requires reach { 3600 ≤ D.reach }
+    requires none { NoneRuns (fates_of state.old) }
+    ensures none { NoneRuns (fates_of state.new) }
+    ensures same { SameRun state.old state.new }
+    ensures grows { Grows state.old.tale state.new.tale }
+    ensures goes_on { MatchOption result (left_over state.new < left_over state.old) (IsHalted state.new) }
+    ensures sink { (before : ℕ) → Counts before (W.faults state.old.sink) state.old.sink_failed → Counts before (W.faults state.new.sink) state.new.sink_failed }
+    ensures text { W.tells → (base : List ℕ) → Prints base (W.written state.old.sink) (tale_text state.old.plan.tasks state.old.tale) state.old.sink_failed → Prints base (W.written state.new.sink) (tale_text state.old.plan.tasks state.new.tale) state.new.sink_failed }
+    ensures printed { W.tells → B.tells → (base : List ℕ) (before : List (List ℕ × Entries)) → RanSaid state.old.plan None state.old.fault state.old.tale before (B.place bench.old).runs base (W.written state.old.sink) → RanSaid state.old.plan result state.new.fault state.new.tale before (B.place bench.new).runs base (W.written state.new.sink) }
+    ensures gives { B.gives bench.new ≡ B.gives bench.old }
+    ensures cause { Counts (B.faults bench.old) (B.faults bench.new) (by_bench result) }
+    ensures run { D.tells → B.tells → (o : Opening) → o.gives ≡ B.gives bench.old → IsRun o (seen D.story W.written state.old) → IsRun o (seen D.story W.written state.new) × Drove (B.gives bench.old) state.old.plan result state.old.tale state.new.tale (B.place bench.old).runs (B.place bench.new).runs }
+    ensures steady { D.tells → B.tells → (o : Opening) → o.gives ≡ B.gives bench.old → IsRun o (seen D.story W.written state.old) → IsSteady state.old.fault → IsSteady state.new.fault }
+{
+    state.kept();
+    match state.claim(alloc, 0) {
+        Ok(Claim::Run(job)) => {
+            state.kept();
+            let halt = do_claimed(alloc, state, bench, job);
+            state.kept();
+            halt
+        }
+        Ok(Claim::Settled(_)) => {
+            state.kept();
+            None
+        }
+        Ok(Claim::Wait) => unreachable!(),
+        Ok(Claim::Finished) => Some(Halt::Finished),
+        Ok(Claim::Stopped) => Some(Halt::Stopped),
+        Err(Mem) => Some(Halt::Memory),
+    }
+}
+
+/// Takes turns until nothing more is done.
+pub(crate) fn drive<D: Disk, B: Bench, W: Sink>(
+    alloc: Global,
+    state: &mut RunState<D, W>,
+    bench: &mut B,
+) -> Halt
+    requires reach { 3600 ≤ D.reach }
+    requires none { NoneRuns (fates_of state.old) }
+    ensures same { SameRun state.old state.new }
+    ensures grows { Grows state.old.tale state.new.tale }
+    ensures halted { IsHalted state.new result }
+    ensures none { NoneRuns (fates_of state.new) }
+    ensures sink { (before : ℕ) → Counts before (W.faults state.old.sink) state.old.sink_failed → Counts before (W.faults state.new.sink) state.new.sink_failed }
+    ensures text { W.tells → (base : List ℕ) → Prints base (W.written state.old.sink) (tale_text state.old.plan.tasks state.old.tale) state.old.sink_failed → Prints base (W.written state.new.sink) (tale_text state.old.plan.tasks state.new.tale) state.new.sink_failed }
+    ensures printed { W.tells → B.tells → (base : List ℕ) (before : List (List ℕ × Entries)) → RanSaid state.old.plan None state.old.fault state.old.tale before (B.place bench.old).runs base (W.written state.old.sink) → RanSaid state.old.plan (Some result) state.new.fault state.new.tale before (B.place bench.new).runs base (W.written state.new.sink) }
+    ensures gives { B.gives bench.new ≡ B.gives bench.old }
+    ensures cause { Counts (B.faults bench.old) (B.faults bench.new) (by_bench (Some result)) }
+    ensures run { D.tells → B.tells → (o : Opening) → o.gives ≡ B.gives bench.old → IsRun o (seen D.story W.written state.old) → IsRun o (seen D.story W.written state.new) × Drove (B.gives bench.old) state.old.plan (Some result) state.old.tale state.new.tale (B.place bench.old).runs (B.place bench.new).runs }
+    ensures steady { D.tells → B.tells → (o : Opening) → o.gives ≡ B.gives bench.old → IsRun o (seen D.story W.written state.old) → IsSteady state.old.fault → IsSteady state.new.fault }
+{
+    loop {
+        if let Some(halt) = turn(alloc, state, bench) {
+            return halt;
+        }
+    }
+}
