@@ -6,12 +6,14 @@
 //                                   disk write KIND PATH TEXT  bench K run SCRIPT
 //   sink TEXT                       disk remove PATH           bench K take ENTRIES LARGEST BYTES
 //                                   disk rename FROM TO
-//   other CALL                      disk sync
+//   other CALL                      disk sync                  bench K failed
 //                                   disk moment
 //
 //   stamp stage FOLDER DIGEST       stamp put FOLDER           stamp current FOLDER       stamp invalidate FOLDER
 //
-// `other` makes a call of the disk on another object over the same folder, and says what that says of its first fault. KIND is `file`, `program` or `link`. `disk sync` answers what was synced, each file and folder by its path.
+// `other` makes a call of the disk on another object over the same folder, and says what that says of its first fault. Calls of one
+// bench behind one another are made on one object; a call of another bench begins with a new one. `bench K failed` answers which runs
+// failed, each with the place of its log. KIND is `file`, `program` or `link`. `disk sync` answers what was synced, each file and folder by its path.
 use crate::answers::{entry_of, of_a_line, of_paths, of_tree, of_word, on_a_line};
 use crate::disk_calls::{disk_answer, other_answer};
 use crate::rooms::{no_call, shell};
@@ -23,10 +25,14 @@ use std::cell::RefCell;
 use std::io;
 use tree_model::{Bytes, Mem, Size, is_clean};
 
+/// The bench of the last call that was one of a bench, with its number.
+pub type LastBench = Option<(u32, ShBench<HostRuntime>)>;
+
 /// What the call of a line answers.
 pub fn answer(
     rt: &HostRuntime,
     disk: &mut FolderDisk<Watch<'_>>,
+    bench: &mut LastBench,
     synced: &RefCell<String>,
     line: &str,
 ) -> io::Result<String> {
@@ -48,7 +54,7 @@ pub fn answer(
             let watch = Watch::new(rt.clone()?, synced);
             other_answer(rt.alloc(), watch, synced, call)
         }
-        "bench" => numbered_answer(rt, call),
+        "bench" => numbered_answer(rt, bench, call),
         "sink" => sink_answer(rt, call),
         _ => Err(no_call()),
     }
@@ -93,13 +99,16 @@ fn read_word(fault: ReadFault) -> &'static str {
 }
 
 /// What the bench with a number answers.
-fn numbered_answer(rt: &HostRuntime, call: &str) -> io::Result<String> {
-    match call.split_once(' ') {
-        Some((k, call)) => {
-            let number = u32::try_from(number(k)?).map_err(|_| no_call())?;
-            let mut bench = ShBench::new(rt.clone()?, number)?;
-            bench_answer(rt, &mut bench, call)
-        }
+fn numbered_answer(rt: &HostRuntime, last: &mut LastBench, call: &str) -> io::Result<String> {
+    let Some((k, call)) = call.split_once(' ') else {
+        return Err(no_call());
+    };
+    let number = u32::try_from(number(k)?).map_err(|_| no_call())?;
+    if !matches!(last, Some((before, _)) if *before == number) {
+        *last = Some((number, ShBench::new(rt.clone()?, number)?));
+    }
+    match last {
+        Some((_, bench)) => bench_answer(rt, bench, call),
         None => Err(no_call()),
     }
 }
@@ -121,8 +130,24 @@ fn bench_answer(
             }
         }
         "take" => take_answer(rt, bench, rest),
+        "failed" => failed_answer(rt, bench),
         _ => Err(no_call()),
     }
+}
+
+/// The runs of a bench that failed: the number of each, and the place of its log.
+fn failed_answer(rt: &HostRuntime, bench: &ShBench<HostRuntime>) -> io::Result<String> {
+    let mut said = String::new(rt.alloc());
+    for run in bench.failed_runs() {
+        let number = format!(in rt.alloc(); "{} ", run.number)?;
+        said.push_str(number.as_str())?;
+        match &run.log {
+            Ok(log) => said.push_str(log.as_str())?,
+            Err(_) => said.push_str("not kept")?,
+        }
+        said.push_str("; ")?;
+    }
+    Ok(said)
 }
 
 fn bench_word(rt: &HostRuntime, done: Result<(), BenchFault>) -> io::Result<String> {

@@ -54,9 +54,10 @@ fn run_all(rt: &HostRuntime) -> io::Result<()> {
 fn run_room(rt: &HostRuntime, lines: &str) -> io::Result<()> {
     let synced = RefCell::new(String::new(rt.alloc()));
     let mut disk = FolderDisk::new(Watch::new(rt.clone()?, &synced));
+    let mut bench = None;
     for line in lines.lines() {
         if !line.is_empty() {
-            let said = answer(rt, &mut disk, &synced, line)?;
+            let said = answer(rt, &mut disk, &mut bench, &synced, line)?;
             println!(rt; "{line} -> {said}")?;
         }
     }

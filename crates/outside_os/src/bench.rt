@@ -5,14 +5,16 @@ use crate::faults::{FirstFault, is_memory, one_more};
 use crate::folder::{
     Item, Part, is_too_long, join, list_items, look, open_up, put_entry, read_entry,
 };
+use crate::runs::{FailedRun, LOG, Runs};
 use outside_traits::{Bench, BenchFault, Taken};
 use std::alloc::{AllocError, Global};
 use std::env::VarError;
-use std::fs::File;
+use std::fs::{File, FileTimes};
 use std::io::ErrorKind;
 use std::os::unix::process::ExitStatusExt;
 use std::process::{Command, ExitStatus, Processes, Stdio};
 use std::rt::{Env, Files};
+use std::time::{Duration, UNIX_EPOCH};
 use std::{env, fs, io};
 use tree_model::{Entry, Size, Text, Tree, TreeFault};
 
@@ -29,14 +31,22 @@ const PARTS: [(&str, &str); 3] = [
 /// The only variable that a script has from the program's own environment.
 const SEARCH_PATH: &str = "PATH";
 
+/// The time of change of each file that is laid, in seconds since 1970: the year 2000 begins, by UTC.
+const LAID_AT: u64 = 946_684_800;
+
 /// A folder `build/bench/K` of the current folder, which is made at first use.
 ///
 /// Scripts run in its folder `work`, by the `sh` that the search path names, with an empty standard input; what they
-/// write goes to its file `log`. It tells nothing.
+/// write goes to its file `log`, which the next run writes anew. All files that are laid have one time of change, so
+/// that no script sees when or in which order they were laid; what a script makes has the time of its making. It tells
+/// nothing.
+///
+/// The log of a script that fails is kept in a file of its own; `failed_runs` says where.
 #[derive(Drop)]
 pub struct ShBench<R> {
     rt: R,
     folder: String,
+    runs: Runs,
     faults: u64,
     first: FirstFault,
 }
@@ -47,6 +57,11 @@ impl<R: AllocGlobal> ShBench<R> {
     /// What is said of the first fault.
     pub fn first_fault(&self) -> Option<&str> {
         self.first.as_str()
+    }
+
+    /// The runs of scripts that ended with another status than 0, in their order.
+    pub fn failed_runs(&self) -> &[FailedRun] {
+        self.runs.failed()
     }
 
     /// Counts the fault where a call of the system failed, for a call of the bench.
@@ -70,9 +85,11 @@ impl<R: Files<File = File> + Env + Processes + AllocGlobal + Clone + Drop> ShBen
     /// The bench of a number, without a fault so far.
     pub fn new(rt: R, number: u32) -> Result<Self, AllocError> {
         let folder = format!(in rt.alloc(); "build/bench/{number}")?;
+        let runs = Runs::none(rt.alloc(), number)?;
         Ok(ShBench {
             rt,
             folder,
+            runs,
             faults: 0,
             first: FirstFault::none(),
         })
@@ -95,12 +112,11 @@ impl<R: Files<File = File> + Env + Processes + AllocGlobal + Clone + Drop> ShBen
     }
 
     fn try_clear(&self) -> io::Result<()> {
-        let folder = self.folder.as_str();
-        match look(&self.rt, folder)? {
-            Some(metadata) if metadata.is_dir() => remove_folder(&self.rt, folder)?,
-            Some(_) => fs::remove_file(&self.rt, folder)?,
-            None => {}
+        if self.runs.is_empty() {
+            // Logs of an earlier process. Where they can't go, a log that can't be kept for it says so.
+            let _ = remove_place(&self.rt, self.runs.folder());
         }
+        remove_place(&self.rt, self.folder.as_str())?;
         for (part, _) in PARTS {
             fs::create_dir_all(&self.rt, self.place(part)?.as_str())?;
         }
@@ -131,7 +147,7 @@ impl<R: Files<File = File> + Env + Processes + AllocGlobal + Clone + Drop> ShBen
 
     /// Runs a command, whose output goes to the log.
     fn run_command(&self, command: Command) -> io::Result<u32> {
-        match File::create(&self.rt, self.place("log")?.as_str()) {
+        match File::create(&self.rt, self.place(LOG)?.as_str()) {
             Ok(log) => self.run_logged(command, log),
             Err(error) => Err(error),
         }
@@ -227,13 +243,20 @@ impl<R: Files<File = File> + Env + Processes + AllocGlobal + Clone + Drop> Bench
     }
 
     fn put(&mut self, _alloc: Global, path: &str, entry: &Entry) -> Result<(), BenchFault> {
-        let done = put_entry(&self.rt, self.folder.as_str(), path, entry);
+        let done = put_entry(
+            &self.rt,
+            self.folder.as_str(),
+            path,
+            entry,
+            Some(laid_times()),
+        );
         self.count("laying", done)
     }
 
     fn run(&mut self, _alloc: Global, script: &str) -> Result<u32, BenchFault> {
         let done = self.try_run(script);
-        self.count("run", done)
+        let counted = self.runs.count(&self.rt, self.folder.as_str(), done);
+        self.count("run", counted)
     }
 
     fn take(&mut self, _alloc: Global, max: Size) -> Result<Taken, BenchFault> {
@@ -242,6 +265,20 @@ impl<R: Files<File = File> + Env + Processes + AllocGlobal + Clone + Drop> Bench
             Some(tree) => Ok(Taken::Tree(tree)),
             None => Ok(Taken::TooLarge),
         }
+    }
+}
+
+/// The times of a file that is laid.
+fn laid_times() -> FileTimes {
+    FileTimes::new().set_modified(UNIX_EPOCH + Duration::from_secs(LAID_AT))
+}
+
+/// Removes what stands at a path, a folder with all that it holds.
+fn remove_place<R: Files + AllocGlobal + Clone + Drop>(rt: &R, path: &str) -> io::Result<()> {
+    match look(rt, path)? {
+        Some(metadata) if metadata.is_dir() => remove_folder(rt, path),
+        Some(_) => fs::remove_file(rt, path),
+        None => Ok(()),
     }
 }
 

@@ -68,7 +68,9 @@ impl<R: AllocGlobal> FolderDisk<R> {
     ghost use Rattle.outside_traits.specs.Fault.{Counts, disk_failed};
 
     /// The folder as it is, without a fault or a change so far.
-    pub fn new(rt: R) -> Self {
+    pub fn new(rt: R) -> Self
+        ensures { result.faults ≡ 0 }
+    {
         let changed = BTreeSet::new(rt.alloc());
         let settled = BTreeSet::new(rt.alloc());
         FolderDisk {
@@ -214,7 +216,7 @@ impl<R: Files + Locking + AllocGlobal + Clone + Drop> BuildFolder<R> {
         if let Entry::File { exec: _, bytes: _ } = entry {
             note(&mut self.changed, self.rt.alloc(), whole.as_str())?;
         }
-        put_entry(&self.rt, ROOT, path, entry)
+        put_entry(&self.rt, ROOT, path, entry, None)
     }
 
     fn rename(&mut self, from: &str, to: &str) -> io::Result<()> {

@@ -2,7 +2,7 @@
 ghost use Rattle.std.specs.Prelude.{◌≤◌, IfOk, IfSome, length};
 
 use std::alloc::Global;
-use std::fs::{DirEntry, Metadata, OpenFile, OpenOptions, Permissions};
+use std::fs::{DirEntry, FileTimes, Metadata, OpenFile, OpenOptions, Permissions};
 use std::io::{ErrorKind, Read, Write};
 use std::os::unix::fs::{MetadataExt, OpenOptionsExt, PermissionsExt, symlink};
 use std::rt::Files;
@@ -102,10 +102,12 @@ pub fn read_bytes<R: Files + AllocGlobal>(rt: &R, path: &str, max: u64) -> io::R
     ensures { IfOk result (λ found. IfSome found (λ bytes. length bytes ≤ max)) }
 {
     let file = fs::open(rt, path)?;
-    if file.metadata()?.len() > max {
+    let length = file.metadata()?.len();
+    if length > max {
         return Ok(None);
     }
-    let mut bytes = Vec::new(rt.alloc());
+    // By the room of one byte more the end is seen without growing.
+    let mut bytes = Vec::with_capacity(rt.alloc(), length.saturating_add(1) as usize)?;
     file.take(max.saturating_add(1)).read_to_end(&mut bytes)?;
     if bytes.len() as u64 > max {
         return Ok(None);
@@ -167,18 +169,22 @@ fn open_folder<R: Files>(rt: &R, path: &str) -> io::Result<bool> {
 }
 
 /// Puts an entry at a path inside the root, in place of a file or link that stands there, or of a folder under which
-/// no file or link stands. Makes the folders above it where they are missing; a file or link there is an error.
+/// no file or link stands. Makes the folders above it where they are missing; a file or link there is an error. A file
+/// has these times, if any are given, else that of its making.
 pub fn put_entry<R: Files + AllocGlobal + Clone + Drop>(
     rt: &R,
     root: &str,
     path: &str,
     entry: &Entry,
+    times: Option<FileTimes>,
 ) -> io::Result<()> {
     make_above(rt, root, path)?;
     let whole = join(rt.alloc(), root, path)?;
     clear_place(rt, whole.as_str())?;
     match entry {
-        Entry::File { exec, bytes } => make_file(rt, whole.as_str(), *exec, bytes.as_slice()),
+        Entry::File { exec, bytes } => {
+            make_file(rt, whole.as_str(), *exec, bytes.as_slice(), times)
+        }
         Entry::Link { target } => symlink(rt, target.as_str(), whole.as_str()),
     }
 }
@@ -249,8 +255,14 @@ fn clear_place<R: Files + AllocGlobal + Clone + Drop>(rt: &R, path: &str) -> io:
     }
 }
 
-/// Makes a file where nothing stands, whatever the process's mask of modes.
-fn make_file<R: Files>(rt: &R, path: &str, exec: bool, bytes: &[u8]) -> io::Result<()> {
+/// Makes a file where nothing stands, whatever the process's mask of modes, with these times, if any are given.
+fn make_file<R: Files>(
+    rt: &R,
+    path: &str,
+    exec: bool,
+    bytes: &[u8],
+    times: Option<FileTimes>,
+) -> io::Result<()> {
     let mode = if exec { 0o755 } else { 0o644 };
     let mut file = OpenOptions::new()
         .write(true)
@@ -258,7 +270,11 @@ fn make_file<R: Files>(rt: &R, path: &str, exec: bool, bytes: &[u8]) -> io::Resu
         .mode(mode)
         .open(rt, path)?;
     file.set_permissions(Permissions::from_mode(mode))?;
-    file.write_all(bytes)
+    file.write_all(bytes)?;
+    match times {
+        Some(times) => file.set_times(times),
+        None => Ok(()),
+    }
 }
 
 /// Whether nothing at all stands in a folder. One that can't be read is taken as not empty.

@@ -13,6 +13,7 @@ mod faults;
 mod folder;
 mod layers;
 mod lock;
+mod runs;
 mod sink;
 
 pub use bench::ShBench;
@@ -20,4 +21,5 @@ pub use disk::FolderDisk;
 pub use faults::is_memory;
 pub use layers::FolderLayers;
 pub use lock::Locking;
+pub use runs::FailedRun;
 pub use sink::StdSink;
