@@ -12,7 +12,7 @@ use Rattle.meta_model.specs.GraphRefusal.{GraphRefusal, nothing_provides, severa
 use Rattle.meta_model.specs.Text.{begins_with}
 use Rattle.meta_model.specs.Frozen.{frozen}
 use Rattle.load_model.specs.LoadRefusal.{◌>>=◌, refused_as, LoadCause, missing_required, missing_class, include_depth, syntax, no_value, file_bytes}
-use Rattle.load_model.specs.Loading.{Sources}
+use Rattle.load_model.specs.Loading.{Sources, sources_of}
 use Rattle.load_model.specs.Layers.{Config, LayerRefusal, no_such_layer, bad_pattern, load as layer_load, no_list, config}
 use Rattle.load_model.specs.Recipes.{SetRefusal, bad_name, dangling_append, load as set_load, too_many, no_value as set_value, text_of}
 use Rattle.load_model.specs.Facts.{RecipeSet, recipe_set}
@@ -22,6 +22,11 @@ use Rattle.run_targets.specs.Targets.{target_of}
 use Rattle.run_targets.specs.Refused.{IsGraphStatus, lacking, cycle, many}
 use Rattle.run_targets.specs.Asked.{Asked, asked, asked_under, asked_over, asked_with, config_text, default_task, moved, target_in, targets_in, targets_of, threads_text}
 use Rattle.run_targets.specs.Runs.{IsRunRefused, asking, graph as no_graph, value as no_text, threads as no_threads}
+use Rattle.plan_model.specs.Inputs.{Files}
+use Rattle.plan_model.specs.PlanRefusal.{PlanRefusal, bad_flag, no_value as plan_no_value, missing_file, input_bytes, plan_bytes}
+use Rattle.run_plan.specs.Plans.{IsPlanRefused}
+use Rattle.run_plan.specs.Plans.IsPlanRefused.{no_plan, no_run}
+use Rattle.run_plan.specs.Refused.{plan_status}
 
 -- whether a status says that something isn't built
 abbrev says_unbuilt : Status → Bool
@@ -145,3 +150,15 @@ refused_other sources paths words task s (no_threads what graph text is has has_
 
 pub refused_is_built : (sources : Sources) (paths words : List (List ℕ)) (task : Option (List ℕ)) (s : Status) → IsRunRefused sources paths words task s → s ≡ not_built → ⊥
 refused_is_built sources paths words task s refused = differs s (refused_other sources paths words task s refused)
+
+plan_other : (r : PlanRefusal) → IsOther (plan_status r)
+plan_other (bad_flag file flag word) = refl
+plan_other (plan_no_value file refusal) = value_other file 0 refusal
+plan_other (missing_file file word) = refl
+plan_other (input_bytes path) = refl
+plan_other plan_bytes = refl
+
+-- neither does a refusal of a plan
+pub plan_refused_is_built : (files : Files) (paths words : List (List ℕ)) (task : Option (List ℕ)) (force : Bool) (s : Status) → IsPlanRefused files paths words task force s → s ≡ not_built → ⊥
+plan_refused_is_built files paths words task force s (no_run refused) = refused_is_built (sources_of files) paths words task s refused
+plan_refused_is_built files paths words task force s (no_plan refusal has is) = differs s (subst IsOther (sym is) (plan_other refusal))

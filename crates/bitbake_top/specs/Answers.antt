@@ -1,10 +1,10 @@
 -- What is answered where there is no run.
 use Rattle.std.specs.Prelude.{◌≡◌, ◌⊎◌, ℕ, Bool, true, false, List, ◌++◌, Result, Err, IsOk}
+use Rattle.outside_traits.specs.Fault.{Rose}
 use Rattle.meta_model.specs.declared.event.Status.{Status}
 use Rattle.meta_model.specs.declared.event.Status.TheVariants as status
 use Rattle.bb_report.specs.Written.{WritesFront}
 use Rattle.project_reading.specs.Answered.{is_refusal}
-use Rattle.single_run.specs.Run.{IsUnchanged}
 
 -- the status is that of the refusal that was meant, unless memory ran out
 abbrev pub IsRefusal : {A : Type 0} → Result A Status → Status → Type 0
@@ -35,8 +35,7 @@ HasRead status.ReadFault meant = Unit {0}
 HasRead status.OutOfMemory meant = Unit {0}
 HasRead _ meant = ⊥
 
--- A text was written behind the base: a front of it, and all of it where the sink didn't fail. The numbers are the counts of
--- the sink's faults, before and after.
-pub record Says (text base now : List ℕ) (before after : ℕ) : Type 0 where
-  pub whole : IsUnchanged before after → now ≡ base ++ text
-  pub front : WritesFront base now text
+-- A text was written behind the base, or, where the sink failed, a front of it. The numbers are the counts of the sink's faults,
+-- before and after.
+abbrev pub Says : List ℕ → List ℕ → List ℕ → ℕ → ℕ → Type 0
+Says text base now before after = (now ≡ base ++ text) ⊎ (Rose before after × WritesFront base now text)

@@ -1,5 +1,5 @@
 -- What the words behind the program's name ask for, of what is built so far.
-use Rattle.std.specs.Prelude.{◌≡◌, ◌||◌, Bool, not, ℕ, List, Result, Ok, Err, if◌then◌else◌}
+use Rattle.std.specs.Prelude.{◌≡◌, ℕ, List, Result, Ok, Err}
 use Rattle.std.specs.Option.{option_map_or}
 use Rattle.meta_model.specs.declared.event.Status.{Status}
 use Rattle.meta_model.specs.declared.event.Status.TheVariants as status
@@ -12,29 +12,26 @@ use Rattle.read_modes.specs.declared.modes.ReadMode.{ReadMode}
 use Rattle.read_modes.specs.declared.modes.ReadMode.TheVariants as read
 use Rattle.project_reading.specs.Project.{not_built}
 use Rattle.bitbake_top.specs.declared.asked.Asked.{Asked}
-use Rattle.bitbake_top.specs.declared.asked.Asked.TheVariants.{Runs, Reads}
+use Rattle.bitbake_top.specs.declared.asked.Asked.TheVariants.{Runs, Reads, Plans}
+use Rattle.bitbake_top.specs.declared.asked.DryRequest.{DryRequest}
 use Rattle.bitbake_top.specs.declared.asked.RunRequest.{RunRequest}
 
--- `-f`, `-k` or `--no-setscene` was given. None of them is built so far (own rule).
-abbrev pub has_unbuilt_option : Request → Bool
-has_unbuilt_option request = request.force || (request.keep_going || not request.setscene)
-
--- A run is asked for whatever its options are: where one isn't built, that is said once the run is found (own rule).
+-- What a run is asked for: its targets, and how it goes on.
 abbrev pub run_of : Request → RunRequest
-run_of request = record { targets = request.targets; task = request.task; built = not (has_unbuilt_option request) }
+run_of request = record { targets = request.targets; task = request.task; force = request.force; options = record { keep_going = request.keep_going; setscene = request.setscene } }
 
--- What a mode that only reads is asked for. Of the options it ignores `-c` and nothing else: those that aren't built are refused at
--- once (own rules).
-abbrev pub reading_of : ReadMode → Request → Result Asked Status
-reading_of mode request = if has_unbuilt_option request then Err not_built else Ok (Reads mode request.targets)
+-- What a dry run is asked for. It prints the plan, on which the options `-f`, `-k` and `--no-setscene` have no bearing (own rule).
+abbrev pub dry_of : Request → DryRequest
+dry_of request = record { targets = request.targets; task = request.task }
 
--- What a mode asks for. `-n` and `--sample` aren't built so far (own rule).
+-- What a mode asks for. A mode that only reads looks at the targets, and at no option (own rule). `--sample` isn't built so far (own
+-- rule).
 abbrev pub asked_in : Mode → Request → Result Asked Status
 asked_in mode.Run request = Ok (Runs (run_of request))
-asked_in mode.Environment request = reading_of read.Environment request
-asked_in mode.Versions request = reading_of read.Versions request
-asked_in mode.Parse request = reading_of read.Parse request
-asked_in mode.Dry request = Err not_built
+asked_in mode.Environment request = Ok (Reads read.Environment request.targets)
+asked_in mode.Versions request = Ok (Reads read.Versions request.targets)
+asked_in mode.Parse request = Ok (Reads read.Parse request.targets)
+asked_in mode.Dry request = Ok (Plans (dry_of request))
 asked_in (mode.Sample size) request = Err not_built
 
 -- what a request asks for
@@ -53,6 +50,10 @@ AskRun words request = asked_of words ≡ Ok (Runs request)
 -- the words ask for what this mode prints of these targets
 abbrev pub AskReading : List (List ℕ) → ReadMode → List (List ℕ) → Type 0
 AskReading words mode targets = asked_of words ≡ Ok (Reads mode targets)
+
+-- the words ask for this dry run
+abbrev pub AskDry : List (List ℕ) → DryRequest → Type 0
+AskDry words request = asked_of words ≡ Ok (Plans request)
 
 -- the words ask for no run
 abbrev pub AskNoRun : List (List ℕ) → Type 0

@@ -1,3 +1,6 @@
 pub mod Asked
 pub mod Answers
+pub mod Devices
 pub mod Run
+pub mod Headline
+pub mod Dry

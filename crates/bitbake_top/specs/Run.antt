@@ -1,68 +1,71 @@
--- Which runs are built so far, and what comes of one.
-use Rattle.std.specs.Prelude.{◌≡◌, ◌⊎◌, ℕ, true, false, List, [], ◌∷◌, Option, IsOk}
+-- Which plan a run has, why others aren't begun, and what a run writes.
+use Rattle.std.specs.Prelude.{◌≡◌, ◌⊎◌, ℕ, true, List, [], ◌∷◌, ◌++◌, Option, Contains}
 use Rattle.outside_traits.specs.Bench.{Gives}
-use Rattle.outside_traits.specs.Store.{IsListing}
 use Rattle.meta_model.specs.declared.event.Logged.{Logged}
 use Rattle.meta_model.specs.declared.event.Status.{Status}
 use Rattle.meta_model.specs.declared.event.Status.TheVariants as status
-use Rattle.load_model.specs.Loading.{sources_of}
+use Rattle.meta_model.specs.declared.plan.Plan.{Plan}
+use Rattle.bb_report.specs.Runs.{has_failure, report}
+use Rattle.bb_report.specs.Texts.{fault_text, plan_text}
+use Rattle.bb_report.specs.Written.{WritesFront}
 use Rattle.project_reading.specs.Answered.{is_refusal}
-use Rattle.project_reading.specs.Project.{not_built}
-use Rattle.run_targets.specs.Runs.{IsRunRefused}
-use Rattle.single_plan.specs.Single.{IsSingle, IsUnbuilt}
-use Rattle.single_run.specs.Run.{ConcludesRun, clean_task}
+use Rattle.run_plan.specs.Plans.{HasPlan, IsPlanRefused}
+use Rattle.build_resume.specs.Build.{AllClean, MayEndSo, RanPrinted}
+use Rattle.bitbake_top.specs.Devices.{OnLast, Runs}
 use Rattle.bitbake_top.specs.declared.asked.RunRequest.{RunRequest}
 
 -- what each path of the project holds
 abbrev pub Files : Type 0
 Files = List ℕ → Option (List ℕ)
 
--- The request has a run that is built so far, of one task, and all of its options are built. This holds of the PN of the task's
--- recipe and of the task's body. The paths are those of all files.
-pub record HasRun (files : Files) (paths : List (List ℕ)) (request : RunRequest) (P : List ℕ → List ℕ → Type 0) : Type 0 where
-  pub name : List ℕ
-  pub body : List ℕ
-  pub options : request.built ≡ true
-  pub single : IsSingle files paths request.targets request.task name body
-  pub holds : P name body
+-- The request has this plan. The paths are those of all files.
+abbrev pub IsRunPlan : Files → List (List ℕ) → RunRequest → Plan → Type 0
+IsRunPlan files paths request plan = HasPlan files paths request.targets request.task request.force plan
 
--- the request has a run that is built so far
-abbrev pub IsPlanned : Files → List (List ℕ) → RunRequest → Type 0
-IsPlanned files paths request = HasRun files paths request (λ name body. Unit {0})
+-- the request has a plan, and the clean build of each of its tasks succeeds
+pub record HasBuild (files : Files) (paths : List (List ℕ)) (request : RunRequest) (gives : Gives) : Type 0 where
+  pub plan : Plan
+  pub planned : IsRunPlan files paths request plan
+  pub clean : AllClean gives plan
 
--- ... and the clean build of its task succeeds
-abbrev pub Succeeds : Files → List (List ℕ) → RunRequest → Gives → Type 0
-Succeeds files paths request gives = HasRun files paths request (λ name body. IsOk (clean_task gives body))
-
--- a run that was begun is that of the request, and this holds of its task
-abbrev pub WhereBegun : Files → List (List ℕ) → RunRequest → List (List Logged) → (List ℕ → List ℕ → Type 0) → Type 0
-WhereBegun files paths request [] P = Unit {0}
-WhereBegun files paths request (tale ∷ more) P = HasRun files paths request P
-
--- The name is the PN of the recipe whose task was run, where a run was begun. `told` says that the layers tell what they hold.
-abbrev pub IsNamed : Type 0 → Files → RunRequest → List (List Logged) → List ℕ → Type 0
-IsNamed told files request [] name = Unit {0}
-IsNamed told files request (tale ∷ more) name = told → (paths : List (List ℕ)) → IsListing [] files paths → (body : List ℕ) × IsSingle files paths request.targets request.task name body
-
--- this holds of such a name
-pub record Names (told : Type 0) (files : Files) (request : RunRequest) (tales : List (List Logged)) (P : List ℕ → Type 0) : Type 0 where
-  pub name : List ℕ
-  pub named : IsNamed told files request tales name
-  pub holds : P name
-
--- The request has a run that isn't built so far: an option isn't built, or the run is none of the form.
-abbrev pub IsNotBuilt : Files → List (List ℕ) → RunRequest → Type 0
-IsNotBuilt files paths request =
-    IsUnbuilt files paths request.targets request.task
-    ⊎ ((request.built ≡ false) × ((name : List ℕ) × (body : List ℕ) × IsSingle files paths request.targets request.task name body))
-
--- Why a request isn't run: memory ran out, the layers failed, its targets have no run, or the run isn't built so far.
+-- why a request isn't run: memory ran out, the layers failed, or its targets have no plan
 abbrev pub IsUnrun : Files → List (List ℕ) → RunRequest → Status → Type 0
-IsUnrun files paths request s =
-    (s ≡ status.OutOfMemory) ⊎ ((s ≡ status.ReadFault) ⊎ (IsRunRefused (sources_of files) paths request.targets request.task s ⊎ ((s ≡ not_built) × IsNotBuilt files paths request)))
+IsUnrun files paths request s = (s ≡ status.OutOfMemory) ⊎ ((s ≡ status.ReadFault) ⊎ IsPlanRefused files paths request.targets request.task request.force s)
 
--- The status of a call fits its tales. Without a tale it is a refusal of metadata, a limit, a failure of the layers or want of
--- memory, or the plan's line failed.
-abbrev pub ConcludesAll : List (List Logged) → Status → Type 0
-ConcludesAll [] s = (is_refusal s ≡ true) ⊎ (s ≡ status.WriteFault)
-ConcludesAll (tale ∷ more) s = ConcludesRun (tale ∷ more) s
+-- A run was begun: it has one tale, in which a task failed where the status says so.
+abbrev pub IsBegun : List (List Logged) → Status → Type 0
+IsBegun tales s = (tale : List Logged) × (tales ≡ tale ∷ []) × (s ≡ status.TaskFailed → has_failure tale ≡ true)
+
+-- The status of a call fits its tales: no run was begun, and it is a refusal of metadata, a limit, a failure of the layers or want of
+-- memory, or the plan's text failed; or one was begun.
+abbrev pub Concludes : List (List Logged) → Status → Type 0
+Concludes tales s = ((tales ≡ []) × ((is_refusal s ≡ true) ⊎ (s ≡ status.WriteFault))) ⊎ IsBegun tales s
+
+-- The status isn't one that may come although no device failed and the clean build succeeds: want of memory, or two signatures with one
+-- digest.
+abbrev pub IsCertain : Status → Type 0
+IsCertain status.OutOfMemory = ⊥
+IsCertain (status.Collision name held given) = ⊥
+IsCertain _ = Unit {0}
+
+-- Each fault of a call has its cause. A refusal of words, metadata or a limit has it in the words and the files, want of memory has none.
+abbrev pub HasCause : Type 0 → ℕ → Type 0 → Type 0 → Status → Type 0
+HasCause layers disk bench sink status.ReadFault = layers
+HasCause layers disk bench sink status.Usage = Unit {0}
+HasCause layers disk bench sink (status.Metadata file line kind detail) = Unit {0}
+HasCause layers disk bench sink (status.Limit kind) = Unit {0}
+HasCause layers disk bench sink s = MayEndSo disk bench sink s
+
+-- The text of a call was written behind the base: that of its plan, its tale and its status; or where the sink failed, a front of such a
+-- text, of some status. Without a tale it is the text of the refusal, or where the sink failed a front of that or of the plan's text.
+abbrev pub WritesCall : Type 0 → List ℕ → List ℕ → List Plan → List (List Logged) → Status → Type 0
+WritesCall failed base now plans [] s = (now ≡ base ++ fault_text s) ⊎ (failed × (WritesFront base now (fault_text s) ⊎ ((plan : Plan) × Contains plans plan × WritesFront base now (plan_text plan))))
+WritesCall failed base now [] (tale ∷ more) s = ⊥
+WritesCall failed base now (plan ∷ plans) (tale ∷ more) s = (now ≡ base ++ report plan tale s) ⊎ (failed × ((met : Status) × WritesFront base now (report plan tale met)))
+
+-- What ran had been printed: without a tale no bench ran anything; else the last one ran the scripts of just those tasks that a front of the
+-- tale starts, whose lines stand whole behind the text of the plan.
+abbrev pub RanPrintedCall : List Plan → List (List Logged) → List Runs → List Runs → List ℕ → List ℕ → Type 0
+RanPrintedCall plans [] before now old new = now ≡ before
+RanPrintedCall [] (tale ∷ more) before now old new = ⊥
+RanPrintedCall (plan ∷ plans) (tale ∷ more) before now old new = OnLast (λ b n. RanPrinted plan tale b n (old ++ plan_text plan) new) before now

@@ -1,5 +1,5 @@
 // What is printed without a run.
-ghost use Rattle.std.specs.Prelude.{◌≡◌, ◌≢◌, ◌⊎◌, ◌++◌, [], ℕ, List, Ok, true};
+ghost use Rattle.std.specs.Prelude.{◌≡◌, ◌≢◌, ◌≤◌, ◌⊎◌, ◌++◌, [], ℕ, List, Ok, true};
 ghost use Rattle.outside_traits.specs.Fault.{Rose};
 ghost use Rattle.outside_traits.specs.Store.{IsListing};
 ghost use Rattle.load_model.specs.Loading.{sources_of};
@@ -16,10 +16,12 @@ use std::alloc::Global;
 use tree_model::Text;
 
 /// Prints a text, or a front of it where the sink fails.
-fn print<W: Sink>(sink: &mut W, text: &str) -> Status
+pub fn print<W: Sink>(sink: &mut W, text: &str) -> Status
     ensures status { (result ≡ Status.Ok) ⊎ (result ≡ Status.WriteFault) }
     ensures whole { result ≡ Status.Ok → W.tells → W.written sink.new ≡ W.written sink.old ++ text.now }
     ensures said { W.tells → Says text.now (W.written sink.old) (W.written sink.new) (W.faults sink.old) (W.faults sink.new) }
+    ensures front { W.tells → WritesFront (W.written sink.old) (W.written sink.new) text.now }
+    ensures later { W.faults sink.old ≤ W.faults sink.new }
     ensures cause { result ≡ Status.WriteFault → Rose (W.faults sink.old) (W.faults sink.new) }
 {
     match write_all(sink, text.as_bytes()) {
@@ -32,6 +34,7 @@ fn print<W: Sink>(sink: &mut W, text: &str) -> Status
 /// the refusal; its line takes none.
 pub fn refuse<W: Sink>(alloc: Global, status: Status, sink: &mut W) -> Status
     ensures status { (result ≡ status) ⊎ (result ≡ Status.OutOfMemory) }
+    ensures later { W.faults sink.old ≤ W.faults sink.new }
     ensures said { W.tells → Says (fault_text result) (W.written sink.old) (W.written sink.new) (W.faults sink.old) (W.faults sink.new) }
 {
     match fault_text(alloc, &status) {

@@ -2,9 +2,10 @@
 ghost use Rattle.std.specs.Prelude.{◌≡◌, true, Ok, IfOk, IfErr};
 ghost use Rattle.bitbake_top.specs.Answers.{IsRefusal, is_words_refusal};
 ghost use Rattle.bitbake_top.specs.Asked as asked;
+ghost use Rattle.bitbake_top.specs.declared.asked.Asked.TheVariants.{Reads};
 
 use command_words::{Mode, Request, WordsFault, read_words};
-use meta_model::Status;
+use meta_model::{Options, Status};
 use project_reading::not_built;
 use read_modes::ReadMode;
 use std::alloc::Global;
@@ -18,6 +19,19 @@ pub enum Asked {
 
     /// What a mode that only reads metadata prints of these targets.
     Reads { mode: ReadMode, targets: Texts },
+
+    /// The plan of targets.
+    Plans(DryRequest),
+}
+
+/// What a dry run is asked for.
+#[derive(Debug, Drop)]
+pub struct DryRequest {
+    /// The targets, `NAME` or `NAME:TASK`.
+    pub targets: Texts,
+
+    /// The task of the targets that name none, where one was given.
+    pub task: Option<Text>,
 }
 
 /// What a run is asked for.
@@ -29,15 +43,11 @@ pub struct RunRequest {
     /// The task of the targets that name none, where one was given.
     pub task: Option<Text>,
 
-    /// Whether all options that were given are built so far. Of others it is said once the run is found.
-    pub built: bool,
-}
+    /// Whether the tasks of the targets run in any case.
+    pub force: bool,
 
-/// Whether an option was given that isn't built so far.
-fn has_unbuilt_option(request: &Request) -> bool
-    ensures { result ≡ asked.has_unbuilt_option request.now }
-{
-    request.force || request.keep_going || !request.setscene
+    /// How the run goes on.
+    pub options: Options,
 }
 
 /// The run of a request.
@@ -45,25 +55,34 @@ fn run_of(request: Request) -> RunRequest
     ensures { result ≡ asked.run_of request }
 {
     RunRequest {
-        built: !has_unbuilt_option(&request),
+        targets: request.targets,
+        task: request.task,
+        force: request.force,
+        options: Options {
+            keep_going: request.keep_going,
+            setscene: request.setscene,
+        },
+    }
+}
+
+/// The dry run of a request.
+fn dry_of(request: Request) -> DryRequest
+    ensures { result ≡ asked.dry_of request }
+{
+    DryRequest {
         targets: request.targets,
         task: request.task,
     }
 }
 
-/// What a mode prints for a request, unless an option was given that isn't built so far.
-fn reading_of(alloc: Global, mode: ReadMode, request: Request) -> Result<Asked, Status>
-    ensures ok { IfOk result (λ made. asked.reading_of mode request ≡ Ok made) }
-    ensures err { IfErr result (λ status. IsRefusal (asked.reading_of mode request) status) }
-    ensures refusal { IfErr result (λ status. is_words_refusal status ≡ true) }
+/// What a mode prints for a request.
+fn reading_of(mode: ReadMode, request: Request) -> Asked
+    ensures { result ≡ Reads mode request.targets }
 {
-    if has_unbuilt_option(&request) {
-        return Err(not_built(alloc));
-    }
-    Ok(Asked::Reads {
+    Asked::Reads {
         mode,
         targets: request.targets,
-    })
+    }
 }
 
 /// What a request asks for.
@@ -74,18 +93,18 @@ fn asked_for(alloc: Global, request: Request) -> Result<Asked, Status>
 {
     match request.mode() {
         Mode::Run => Ok(Asked::Runs(run_of(request))),
-        Mode::Environment => reading_of(alloc, ReadMode::Environment, request),
-        Mode::Versions => reading_of(alloc, ReadMode::Versions, request),
-        Mode::Parse => reading_of(alloc, ReadMode::Parse, request),
-        Mode::Dry | Mode::Sample(_) => Err(not_built(alloc)),
+        Mode::Environment => Ok(reading_of(ReadMode::Environment, request)),
+        Mode::Versions => Ok(reading_of(ReadMode::Versions, request)),
+        Mode::Parse => Ok(reading_of(ReadMode::Parse, request)),
+        Mode::Dry => Ok(Asked::Plans(dry_of(request))),
+        Mode::Sample(_) => Err(not_built(alloc)),
     }
 }
 
 /// What the words ask for.
 ///
 /// # Errors
-/// `Usage` where the words have no reading, `NotBuilt` where the mode, or an option of a mode that reads, isn't built so far,
-/// `OutOfMemory`.
+/// `Usage` where the words have no reading, `NotBuilt` where the mode isn't built so far, `OutOfMemory`.
 #[tactic(auto, unfolding(crate::specs::Asked::asked_of))]
 pub fn asked_of(alloc: Global, words: &[Text]) -> Result<Asked, Status>
     ensures ok { IfOk result (λ made. asked.asked_of words.now ≡ Ok made) }

@@ -3,17 +3,17 @@ ghost use Rattle.std.specs.Prelude.{◌≡◌, [], ◌∷◌, Ok, Err, Some, Non
 ghost use Rattle.meta_model.specs.declared.event.Status.TheVariants.{Usage};
 ghost use Rattle.read_modes.specs.declared.modes.ReadMode.TheVariants.{Parse, Versions, Environment};
 ghost use Rattle.project_reading.specs.Project.{not_built};
-ghost use Rattle.bitbake_top.specs.declared.asked.Asked.TheVariants.{Runs, Reads};
+ghost use Rattle.bitbake_top.specs.declared.asked.Asked.TheVariants.{Runs, Reads, Plans};
 ghost use Rattle.bitbake_top.specs.Asked.{asked_of};
 
 /// Runs, and what a mode prints.
 #[tactic(auto, unfolding(crate::specs::Asked::asked_of, command_words::specs::Command::command, clap::proofs::OnLiterals::clap_on_literals))]
 pub fn example_of_asking()
-    ensures one_name { asked_of (codes "hello" ∷ []) ≡ Ok (Runs (record { targets = codes "hello" ∷ []; task = None; built = true })) }
-    ensures two_names { asked_of (codes "b" ∷ codes "a" ∷ []) ≡ Ok (Runs (record { targets = codes "b" ∷ codes "a" ∷ []; task = None; built = true })) }
+    ensures one_name { asked_of (codes "hello" ∷ []) ≡ Ok (Runs (record { targets = codes "hello" ∷ []; task = None; force = false; options = record { keep_going = false; setscene = true } })) }
+    ensures two_names { asked_of (codes "b" ∷ codes "a" ∷ []) ≡ Ok (Runs (record { targets = codes "b" ∷ codes "a" ∷ []; task = None; force = false; options = record { keep_going = false; setscene = true } })) }
     // behind `--` each word is a target
-    ensures behind_two_hyphens { asked_of (codes "--" ∷ codes "-e" ∷ []) ≡ Ok (Runs (record { targets = codes "-e" ∷ []; task = None; built = true })) }
-    ensures task { asked_of (codes "-c" ∷ codes "build" ∷ codes "hello" ∷ []) ≡ Ok (Runs (record { targets = codes "hello" ∷ []; task = Some (codes "build"); built = true })) }
+    ensures behind_two_hyphens { asked_of (codes "--" ∷ codes "-e" ∷ []) ≡ Ok (Runs (record { targets = codes "-e" ∷ []; task = None; force = false; options = record { keep_going = false; setscene = true } })) }
+    ensures task { asked_of (codes "-c" ∷ codes "build" ∷ codes "hello" ∷ []) ≡ Ok (Runs (record { targets = codes "hello" ∷ []; task = Some (codes "build"); force = false; options = record { keep_going = false; setscene = true } })) }
     // the configuration's values
     ensures environment { asked_of (codes "-e" ∷ []) ≡ Ok (Reads Environment []) }
     ensures environment_of_a_target { asked_of (codes "-e" ∷ codes "x" ∷ []) ≡ Ok (Reads Environment (codes "x" ∷ [])) }
@@ -27,16 +27,23 @@ pub fn example_of_asking()
     ensures dry_environment { asked_of (codes "-n" ∷ codes "-e" ∷ []) ≡ Ok (Reads Environment []) }
 {}
 
-/// Options and modes that aren't built so far.
+/// Dry runs.
 #[tactic(auto, unfolding(crate::specs::Asked::asked_of, command_words::specs::Command::command, clap::proofs::OnLiterals::clap_on_literals))]
-pub fn example_of_unbuilt_options()
-    // the run is found first
-    ensures force { asked_of (codes "-f" ∷ codes "hello" ∷ []) ≡ Ok (Runs (record { targets = codes "hello" ∷ []; task = None; built = false })) }
-    ensures keep_going { asked_of (codes "-k" ∷ codes "hello" ∷ []) ≡ Ok (Runs (record { targets = codes "hello" ∷ []; task = None; built = false })) }
-    ensures no_setscene { asked_of (codes "--no-setscene" ∷ codes "hello" ∷ []) ≡ Ok (Runs (record { targets = codes "hello" ∷ []; task = None; built = false })) }
-    ensures force_in_a_mode { asked_of (codes "-f" ∷ codes "-p" ∷ []) ≡ Err not_built }
-    ensures dry { asked_of (codes "-n" ∷ codes "hello" ∷ []) ≡ Err not_built }
-    ensures dry_task { asked_of (codes "-n" ∷ codes "-c" ∷ codes "build" ∷ codes "hello" ∷ []) ≡ Err not_built }
+pub fn example_of_dry_runs()
+    ensures target { asked_of (codes "-n" ∷ codes "hello" ∷ []) ≡ Ok (Plans (record { targets = codes "hello" ∷ []; task = None })) }
+    ensures task { asked_of (codes "-n" ∷ codes "-c" ∷ codes "build" ∷ codes "hello" ∷ []) ≡ Ok (Plans (record { targets = codes "hello" ∷ []; task = Some (codes "build") })) }
+    // these options have no bearing on what is printed
+    ensures options { asked_of (codes "-nfk" ∷ codes "--no-setscene" ∷ codes "hello" ∷ []) ≡ Ok (Plans (record { targets = codes "hello" ∷ []; task = None })) }
+{}
+
+/// Options of runs, and the mode that isn't built so far.
+#[tactic(auto, unfolding(crate::specs::Asked::asked_of, command_words::specs::Command::command, clap::proofs::OnLiterals::clap_on_literals))]
+pub fn example_of_options()
+    ensures force { asked_of (codes "-f" ∷ codes "hello" ∷ []) ≡ Ok (Runs (record { targets = codes "hello" ∷ []; task = None; force = true; options = record { keep_going = false; setscene = true } })) }
+    ensures keep_going { asked_of (codes "-k" ∷ codes "hello" ∷ []) ≡ Ok (Runs (record { targets = codes "hello" ∷ []; task = None; force = false; options = record { keep_going = true; setscene = true } })) }
+    ensures no_setscene { asked_of (codes "--no-setscene" ∷ codes "hello" ∷ []) ≡ Ok (Runs (record { targets = codes "hello" ∷ []; task = None; force = false; options = record { keep_going = false; setscene = false } })) }
+    // a mode that reads doesn't look at options
+    ensures force_in_a_mode { asked_of (codes "-f" ∷ codes "-p" ∷ []) ≡ Ok (Reads Parse []) }
     ensures sample { asked_of (codes "--sample" ∷ codes "5" ∷ []) ≡ Err not_built }
 {}
 

@@ -1,5 +1,5 @@
 // What a call hands back.
-use meta_model::{ListOf, Logged, Status};
+use meta_model::{ListOf, Logged, Plan, Status};
 
 /// What a call of the program hands back.
 #[derive(Drop)]
@@ -7,7 +7,10 @@ pub struct Finish<L, D, B, W> {
     /// How the call ended.
     pub status: Status,
 
-    /// The tale of each run that was begun, in order.
+    /// The plan of each run that was found, in order.
+    pub plans: Vec<Plan>,
+
+    /// The tale of each run that was begun, in order. The first is that of the first plan.
     pub tales: Vec<ListOf<Logged>>,
 
     /// The layers that were handed in.

@@ -1,28 +1,39 @@
 //! The top call: everything that the program does, over the devices that it is handed.
 //!
-//! `bitbake` reads the words behind the program's name and does what they ask for: it finds the task that targets are a run for
-//! (`single_plan`) and runs it (`single_run`), prints what a mode gives that only reads metadata (`read_modes`), or refuses the
-//! words. It hands the devices back with its status and its tale.
+//! `bitbake` reads the words behind the program's name and does what they ask for: it finds the plan of a run's targets (`run_plan`)
+//! and runs it (`build_resume`), prints what a mode gives that only reads metadata (`read_modes`), prints the plan of targets, or
+//! refuses the words. It hands the devices back with its status, the plan and the tale.
 //!
-//! The definitions stand in `specs/`: what words ask for, of what is built so far (`Asked`), which runs are built so far and why
-//! others aren't begun (`Run`), and how the status and the printed text of an answer without a run fit what was meant (`Answers`).
-//! The run of targets is defined in `single_plan`, what comes of its task and the text of that in `single_run`, the text of a mode
-//! in `read_modes`, the reading of words in `command_words`, the lines of refusals in `bb_report`.
+//! The definitions stand in `specs/`: what words ask for (`Asked`), what is promised of a run whose devices tell (`Headline`), which plan a
+//! run has, why others aren't begun, and what is written (`Run`), and how the status and the printed text of an answer without a run fit
+//! what was meant (`Answers`, and `Dry` for a dry run).
+//! The plan of targets is defined in `run_plan`, the clean build in `meta_model`, stores and reuse in `store_model` and `build_store`,
+//! the text of a run in `bb_report`, the text of a mode in `read_modes`, the reading of words in `command_words`.
 //!
-//! Promised: a run keeps all that `single_run` promises of its task, which is the one that the targets mean; it answers `Ok` exactly
-//! where it is built so far and the clean build of that task succeeds, and is refused by the configuration, the recipes, the graph
-//! or the number of threads before it may be `NotBuilt`. A mode prints exactly its text, and answers `Ok` exactly where no rule
-//! refuses, where no device failed and memory wasn't wanting. Neither a mode nor refused words touch the disk or a bench, and
-//! refused words don't touch the layers. Words are refused as `Usage` exactly where they have no reading. Each refusal's line is
-//! printed, and each fault of a device has its cause. Beside these comes want of memory alone.
+//! Promised of a run that may begin on what the disk holds (an empty disk, or what a crash of any earlier run left: `begin_laws`):
+//!
+//! - under `Ok` each target's folder holds exactly its clean output, in every image of the disk;
+//! - whatever the status is, every crash leaves a store in which the next run may begin;
+//! - where no device failed, memory wasn't wanting and no two signatures have one digest, it answers `Ok` exactly where the words have a
+//!   plan and the clean build of all its tasks succeeds;
+//! - the tale is legal, named failures are real, the bench runs are the started tasks.
+//!
+//! A mode prints exactly its text, and answers `Ok` exactly where no rule refuses, where no device failed and memory wasn't wanting. A dry
+//! run prints exactly the text of the plan, and answers `Ok` exactly where there is one. Neither a mode, a dry run nor refused words touch
+//! the disk or a bench, and refused words don't touch the layers. Words are refused as `Usage` exactly where they have no reading. Each
+//! refusal's line is printed, and each fault has its cause. Beside these comes want of memory alone.
 #![tactic(auto)]
 
 mod answer;
 mod asked;
+mod dry;
 mod examples;
 mod finish;
+mod laws;
 mod run;
 mod top;
+mod whole;
 
 pub use finish::Finish;
+pub use laws::begin_laws;
 pub use top::bitbake;

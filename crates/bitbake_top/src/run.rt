@@ -1,45 +1,44 @@
 // A run of targets.
-ghost use Rattle.std.specs.Prelude.{◌≡◌, ◌≢◌, ◌<◌, ◌≤◌, ◌↔◌, ◌++◌, ◌∷◌, ℕ, List, [], All, IfOk, IfErr, true, false, vec_len, map};
+ghost use Rattle.std.specs.Prelude.{◌≡◌, ◌≢◌, ◌<◌, ◌≤◌, ◌↔◌, ◌∷◌, ℕ, List, [], All, IfOk, IfErr, true, false, vec_len, map};
 ghost use Rattle.outside_traits.specs.Bench.{Gives};
 ghost use Rattle.outside_traits.specs.Fault.{Counts, Rose};
 ghost use Rattle.outside_traits.specs.Store.{IsListing};
-ghost use Rattle.load_model.specs.Recipes.{is_pn};
+ghost use Rattle.outside_traits.specs.Story.{IsFresh};
+ghost use Rattle.meta_model.specs.declared.plan.Plan.{Plan as Whole};
 ghost use Rattle.project_reading.specs.Answered.{is_refusal, mode_failed};
-ghost use Rattle.project_reading.specs.Project.{not_built as unbuilt};
-ghost use Rattle.single_plan.specs.Single.{IsSingle};
-ghost use Rattle.single_run.specs.Recipe.{label_of};
-ghost use Rattle.single_run.specs.Report.{WritesCallFront, call_text};
-ghost use Rattle.single_run.specs.Run.{AreLegal, AreUnchanged, HasBrokenBench, IsBuilt, IsUnchanged, RanLast, SomeRose, clean_task, threads};
-ghost use Rattle.bitbake_top.specs.Run.{ConcludesAll, HasRun, IsNotBuilt, IsPlanned, IsUnrun, Names, Succeeds, WhereBegun};
+ghost use Rattle.project_reading.specs.Project.{not_built};
+ghost use Rattle.plan_model.specs.Sound.{IsSound};
+ghost use Rattle.plan_model.specs.Spellings.{HasSpellings};
+ghost use Rattle.store_model.specs.Origins.{Book, Reading};
+ghost use Rattle.bitbake_top.specs.Devices.{AreUnchanged, IsUnchanged, SomeRose};
+ghost use Rattle.bitbake_top.specs.Headline.{Keeps, MayBegin};
+ghost use Rattle.bitbake_top.specs.Run.{Concludes, HasBuild, HasCause, IsCertain, IsRunPlan, IsUnrun, RanPrintedCall, WritesCall};
 
 use crate::answer::refuse;
 use crate::asked::RunRequest;
 use crate::finish::Finish;
-use meta_model::Status;
+use crate::whole::{Ran, run_whole};
+use meta_model::{Plan, Status};
 use outside_traits::{Bench, Disk, Layers, Sink};
-use project_reading::not_built;
-use single_plan::{Single, find_single};
-use single_run::{Ran, run_single};
+use run_plan::find_plan;
 use std::alloc::Global;
 
-/// Finds the one task that a request is a run for. Whether its options are built is asked once there is a run.
-fn find<L: Layers>(alloc: Global, layers: &mut L, request: &RunRequest) -> Result<Single, Status>
-    ensures ok { IfOk result (λ single. L.tells → (paths : List (List ℕ)) → IsListing [] (L.files layers.old) paths → IsSingle (L.files layers.old) paths request.now.targets request.now.task single.name single.body) }
-    ensures options { IfOk result (λ single. request.now.built ≡ true) }
-    ensures name { IfOk result (λ single. is_pn single.name ≡ true) }
+/// Finds the plan that a request is a run of.
+fn find<L: Layers>(alloc: Global, layers: &mut L, request: &RunRequest) -> Result<Plan, Status>
+    ensures ok { IfOk result (λ plan. L.tells → (paths : List (List ℕ)) → IsListing [] (L.files layers.old) paths → IsRunPlan (L.files layers.old) paths request.now plan) }
+    ensures sound { IfOk result IsSound }
+    ensures spellings { IfOk result HasSpellings }
     ensures err { IfErr result (λ status. L.tells → (paths : List (List ℕ)) → IsListing [] (L.files layers.old) paths → IsUnrun (L.files layers.old) paths request.now status) }
     ensures refusal { IfErr result (λ status. is_refusal status ≡ true) }
     ensures cause { Counts (L.faults layers.old) (L.faults layers.new) (mode_failed result) }
 {
-    let task = request.task.as_ref();
-    let found = find_single(alloc, layers, request.targets.as_slice(), task);
-    if request.built {
-        return found;
-    }
-    match found {
-        Ok(_) => Err(not_built(alloc)),
-        Err(status) => Err(status),
-    }
+    find_plan(
+        alloc,
+        layers,
+        request.targets.as_slice(),
+        request.task.as_ref(),
+        request.force,
+    )
 }
 
 /// Runs what a request asks for, or prints the line of its refusal.
@@ -53,69 +52,52 @@ pub fn run<L: Layers, D: Disk, B: Bench, W: Sink>(
 ) -> Finish<L, D, B, W>
     requires bench { 0 < vec_len benches }
     requires reach { 3900 ≤ D.reach }
-    ensures built { result.status ≡ Status.Ok → L.tells → D.tells → B.tells
-        → (gives : Gives) → All (λ b. B.gives b ≡ gives) benches.items
+    requires fresh { D.tells → IsFresh (D.story disk) }
+    requires unharmed { D.faults disk ≡ 0 }
+    ensures keeps { L.tells → D.tells → B.tells
         → (paths : List (List ℕ)) → IsListing [] (L.files layers) paths
-        → HasRun (L.files layers) paths request.now (λ name body. IsBuilt name body gives (D.story result.disk).held) }
-    ensures exactly { L.tells → B.tells
+        → (plan : Whole) → IsRunPlan (L.files layers) paths request.now plan
         → (gives : Gives) → All (λ b. B.gives b ≡ gives) benches.items
+        → (reading : Reading) (book : Book) → MayBegin gives reading book (D.story disk).held plan
+        → Keeps gives reading book (D.story disk).held plan request.now.options result.tales.items result.status (D.story result.disk) (map (λ b. (B.place b).runs) benches.items) (map (λ b. (B.place b).runs) result.benches.items) }
+    ensures exactly { L.tells → D.tells → B.tells
         → (paths : List (List ℕ)) → IsListing [] (L.files layers) paths
+        → (gives : Gives) → All (λ b. B.gives b ≡ gives) benches.items
+        → (reading : Reading) (book : Book) → ((plan : Whole) → IsRunPlan (L.files layers) paths request.now plan → MayBegin gives reading book (D.story disk).held plan)
         → IsUnchanged (L.faults layers) (L.faults result.layers)
-        → IsUnchanged (D.faults disk) (D.faults result.disk)
+        → D.faults result.disk ≡ 0
         → AreUnchanged (map B.faults benches.items) (map B.faults result.benches.items)
         → IsUnchanged (W.faults sink) (W.faults result.sink)
-        → result.status ≢ Status.OutOfMemory
-        → ((result.status ≡ Status.Ok) ↔ Succeeds (L.files layers) paths request.now gives) }
-    ensures legal { L.tells → B.tells
-        → (gives : Gives) → All (λ b. B.gives b ≡ gives) benches.items
-        → (paths : List (List ℕ)) → IsListing [] (L.files layers) paths
-        → WhereBegun (L.files layers) paths request.now result.tales.items (λ name body. AreLegal (clean_task gives body) result.tales.items) }
-    ensures concludes { ConcludesAll result.tales.items result.status }
-    ensures text { W.tells → IsUnchanged (W.faults sink) (W.faults result.sink)
-        → Names L.tells (L.files layers) request.now result.tales.items
-        (λ name. W.written result.sink ≡ W.written sink ++ call_text (label_of name ∷ []) threads result.tales.items result.status) }
-    ensures text_front { W.tells
-        → Names L.tells (L.files layers) request.now result.tales.items
-        (λ name. WritesCallFront (W.written sink) (W.written result.sink) (label_of name ∷ []) threads result.tales.items result.status) }
-    ensures runs { L.tells → B.tells
-        → (paths : List (List ℕ)) → IsListing [] (L.files layers) paths
-        → WhereBegun (L.files layers) paths request.now result.tales.items
-        (λ name body. RanLast body result.tales.items (map (λ b. (B.place b).runs) benches.items) (map (λ b. (B.place b).runs) result.benches.items)) }
-    ensures bench_broke { HasBrokenBench result.tales.items → SomeRose (map B.faults benches.items) (map B.faults result.benches.items) }
+        → IsCertain result.status
+        → ((result.status ≡ Status.Ok) ↔ HasBuild (L.files layers) paths request.now gives) }
+    ensures plans { L.tells → (paths : List (List ℕ)) → IsListing [] (L.files layers) paths
+        → All (IsRunPlan (L.files layers) paths request.now) result.plans.items }
+    ensures found { is_refusal result.status ≡ false → (plan : Whole) × (result.plans.items ≡ plan ∷ []) }
+    ensures concludes { Concludes result.tales.items result.status }
+    ensures text { W.tells → WritesCall (Rose (W.faults sink) (W.faults result.sink)) (W.written sink) (W.written result.sink) result.plans.items result.tales.items result.status }
+    ensures printed { W.tells → B.tells → RanPrintedCall result.plans.items result.tales.items (map (λ b. (B.place b).runs) benches.items) (map (λ b. (B.place b).runs) result.benches.items) (W.written sink) (W.written result.sink) }
     ensures unrun { result.tales.items ≡ [] → result.status ≢ Status.WriteFault → L.tells
         → (paths : List (List ℕ)) → IsListing [] (L.files layers) paths
         → IsUnrun (L.files layers) paths request.now result.status }
-    ensures not_built { result.status ≡ unbuilt → L.tells
-        → (paths : List (List ℕ)) → IsListing [] (L.files layers) paths
-        → IsNotBuilt (L.files layers) paths request.now }
-    ensures told { L.tells
-        → (paths : List (List ℕ)) → IsListing [] (L.files layers) paths
-        → IsUnchanged (L.faults layers) (L.faults result.layers)
-        → result.status ≢ Status.OutOfMemory
-        → IsNotBuilt (L.files layers) paths request.now → result.status ≡ unbuilt }
-    ensures planned { is_refusal result.status ≡ false → L.tells
-        → (paths : List (List ℕ)) → IsListing [] (L.files layers) paths
-        → IsPlanned (L.files layers) paths request.now }
+    ensures built { result.status ≡ not_built → L.tells → (paths : List (List ℕ)) → IsListing [] (L.files layers) paths → ⊥ }
     ensures no_usage { result.status ≢ Status.Usage }
     ensures same_disk { result.tales.items ≡ [] → result.disk ≡ disk }
     ensures same_benches { result.tales.items ≡ [] → result.benches.items ≡ benches.items }
-    ensures read_cause { result.status ≡ Status.ReadFault → Rose (L.faults layers) (L.faults result.layers) }
-    ensures disk_cause { result.status ≡ Status.DiskFault → Rose (D.faults disk) (D.faults result.disk) }
-    ensures bench_cause { result.status ≡ Status.BenchFault → SomeRose (map B.faults benches.items) (map B.faults result.benches.items) }
-    ensures write_cause { result.status ≡ Status.WriteFault → Rose (W.faults sink) (W.faults result.sink) }
+    ensures causes { HasCause (Rose (L.faults layers) (L.faults result.layers)) (D.faults result.disk) (SomeRose (map B.faults benches.items) (map B.faults result.benches.items)) (Rose (W.faults sink) (W.faults result.sink)) result.status }
 {
     match find(alloc, &mut layers, request) {
-        Ok(Single { name, body }) => {
-            let ran = run_single(alloc, name, body, disk, benches, sink);
+        Ok(plan) => {
             let Ran {
                 status,
+                plans,
                 tales,
                 disk,
                 benches,
                 sink,
-            } = ran;
+            } = run_whole(alloc, plan, request.options, disk, benches, sink);
             Finish {
                 status,
+                plans,
                 tales,
                 layers,
                 disk,
@@ -125,6 +107,7 @@ pub fn run<L: Layers, D: Disk, B: Bench, W: Sink>(
         }
         Err(status) => Finish {
             status: refuse(alloc, status, &mut sink),
+            plans: Vec::new(alloc),
             tales: Vec::new(alloc),
             layers,
             disk,

@@ -10,16 +10,22 @@ ghost use Rattle.read_modes.specs.declared.modes.ReadMode.{ReadMode};
 ghost use Rattle.project_reading.specs.Answered.{is_refusal};
 ghost use Rattle.project_reading.specs.Project.{not_built};
 ghost use Rattle.read_modes.specs.Modes.{mode_text};
-ghost use Rattle.single_run.specs.Recipe.{label_of};
-ghost use Rattle.single_run.specs.Report.{WritesCallFront, call_text};
-ghost use Rattle.single_run.specs.Run.{AreLegal, AreUnchanged, HasBrokenBench, IsBuilt, IsUnchanged, RanLast, SomeRose, clean_task, threads};
+ghost use Rattle.outside_traits.specs.Story.{IsFresh};
+ghost use Rattle.store_model.specs.Origins.{Book, Reading};
+ghost use Rattle.bitbake_top.specs.Devices.{AreUnchanged, IsUnchanged, SomeRose};
+ghost use Rattle.bitbake_top.specs.Headline.{Keeps, MayBegin};
+ghost use Rattle.meta_model.specs.declared.plan.Plan.{Plan};
+ghost use Rattle.bb_report.specs.Texts.{dry_text};
+ghost use Rattle.bitbake_top.specs.Dry.{HasDry, IsDryPlan};
+ghost use Rattle.bitbake_top.specs.declared.asked.DryRequest.{DryRequest};
 ghost use Rattle.bitbake_top.specs.declared.asked.RunRequest.{RunRequest as Request};
 ghost use Rattle.bitbake_top.specs.Answers.{HasRead, IsRefusal, Says, is_read_status};
-ghost use Rattle.bitbake_top.specs.Asked.{AskNoRun, AskReading, AskRun, asked_of as asked_by};
-ghost use Rattle.bitbake_top.specs.Run.{ConcludesAll, HasRun, IsNotBuilt, IsPlanned, IsUnrun, Names, Succeeds, WhereBegun};
+ghost use Rattle.bitbake_top.specs.Asked.{AskDry, AskNoRun, AskReading, AskRun, asked_of as asked_by};
+ghost use Rattle.bitbake_top.specs.Run.{Concludes, HasBuild, HasCause, IsCertain, IsRunPlan, IsUnrun, RanPrintedCall, WritesCall};
 
 use crate::answer::{read, refuse};
 use crate::asked::{Asked, asked_of};
+use crate::dry::dry;
 use crate::finish::Finish;
 use crate::run::run;
 use meta_model::Status;
@@ -30,12 +36,13 @@ use tree_model::Text;
 /// Does all that the program does, and gives the devices back with the status and the tale.
 ///
 /// `words` are those behind the program's name. They ask for a run of targets, for what a mode prints that only reads metadata
-/// (`-e`, `-s`, `-p`), or for what isn't built so far, or they have no reading. (BitBake User Manual, "The BitBake Command"; the
-/// texts are own rules.)
+/// (`-e`, `-s`, `-p`), for the plan of targets (`-n`), or for what isn't built so far (`--sample`), or they have no reading. (BitBake User Manual,
+/// "The BitBake Command"; the texts are own rules.)
 ///
-/// A run reads the configuration and all recipes, works out the graph of the tasks that the targets need and the number of
-/// threads, and is refused where one of these is, in this order. It is built so far where neither `-f`, `-k` nor `--no-setscene`
-/// is given and the graph is the one task `do_build` of a recipe of the one form (`single_plan`); else it is `NotBuilt`.
+/// A run reads the configuration and all recipes, works out the graph of the tasks that the targets need, the number of threads and
+/// the plan, and is refused where one of these is, in this order. It prints the plan, opens the store that earlier runs left, finds and
+/// restores what it can trust, and runs what is missing. With `-f` the targets' tasks run in any case, with `-k` it goes on after
+/// failures, and with `--no-setscene` it restores no shared state object.
 pub fn bitbake<L: Layers, D: Disk, B: Bench, W: Sink>(
     alloc: Global,
     words: &[Text],
@@ -46,71 +53,53 @@ pub fn bitbake<L: Layers, D: Disk, B: Bench, W: Sink>(
 ) -> Finish<L, D, B, W>
     requires bench { 0 < vec_len benches }
     requires reach { 3900 ≤ D.reach }
+    requires fresh { D.tells → IsFresh (D.story disk) }
+    requires unharmed { D.faults disk ≡ 0 }
 
-    // A run. Under Ok the disk holds, in the task's work folder, exactly what a clean build gives.
-    ensures built { (request : Request) → AskRun words.now request
-        → result.status ≡ Status.Ok → L.tells → D.tells → B.tells
-        → (gives : Gives) → All (λ b. B.gives b ≡ gives) benches.items
+    // A run. Whatever runs, edits and crashes came before: where it may begin on what the disk holds, under Ok each target's folder
+    // holds exactly its clean output, every crash leaves a store in which the next run may begin, the tale is legal, named failures are
+    // real, and the bench runs are the started tasks.
+    ensures keeps { (request : Request) → AskRun words.now request → L.tells → D.tells → B.tells
         → (paths : List (List ℕ)) → IsListing [] (L.files layers) paths
-        → HasRun (L.files layers) paths request (λ name body. IsBuilt name body gives (D.story result.disk).held) }
+        → (plan : Plan) → IsRunPlan (L.files layers) paths request plan
+        → (gives : Gives) → All (λ b. B.gives b ≡ gives) benches.items
+        → (reading : Reading) (book : Book) → MayBegin gives reading book (D.story disk).held plan
+        → Keeps gives reading book (D.story disk).held plan request.options result.tales.items result.status (D.story result.disk) (map (λ b. (B.place b).runs) benches.items) (map (λ b. (B.place b).runs) result.benches.items) }
 
-    // Where no device failed and memory wasn't wanting, a run answers Ok exactly where it is built so far and the clean build of
-    // its task succeeds.
-    ensures exactly { (request : Request) → AskRun words.now request → L.tells → B.tells
-        → (gives : Gives) → All (λ b. B.gives b ≡ gives) benches.items
+    // Where no device failed, memory wasn't wanting and no two signatures have one digest, a run answers Ok exactly where it has a plan
+    // and the clean build of all its tasks succeeds.
+    ensures exactly { (request : Request) → AskRun words.now request → L.tells → D.tells → B.tells
         → (paths : List (List ℕ)) → IsListing [] (L.files layers) paths
+        → (gives : Gives) → All (λ b. B.gives b ≡ gives) benches.items
+        → (reading : Reading) (book : Book) → ((plan : Plan) → IsRunPlan (L.files layers) paths request plan → MayBegin gives reading book (D.story disk).held plan)
         → IsUnchanged (L.faults layers) (L.faults result.layers)
-        → IsUnchanged (D.faults disk) (D.faults result.disk)
+        → D.faults result.disk ≡ 0
         → AreUnchanged (map B.faults benches.items) (map B.faults result.benches.items)
         → IsUnchanged (W.faults sink) (W.faults result.sink)
-        → result.status ≢ Status.OutOfMemory
-        → ((result.status ≡ Status.Ok) ↔ Succeeds (L.files layers) paths request gives) }
+        → IsCertain result.status
+        → ((result.status ≡ Status.Ok) ↔ HasBuild (L.files layers) paths request gives) }
 
-    // The tale of a run is legal: the task ends or fails as in a clean build. The status fits the tale.
-    ensures legal { (request : Request) → AskRun words.now request → L.tells → B.tells
-        → (gives : Gives) → All (λ b. B.gives b ≡ gives) benches.items
-        → (paths : List (List ℕ)) → IsListing [] (L.files layers) paths
-        → WhereBegun (L.files layers) paths request result.tales.items (λ name body. AreLegal (clean_task gives body) result.tales.items) }
-    ensures concludes { (request : Request) → AskRun words.now request
-        → ConcludesAll result.tales.items result.status }
+    // The plan that is handed back is the request's, and each answer but a refusal hands one back. The status fits the tale.
+    ensures plans { (request : Request) → AskRun words.now request → L.tells → (paths : List (List ℕ)) → IsListing [] (L.files layers) paths
+        → All (IsRunPlan (L.files layers) paths request) result.plans.items }
+    ensures found { (request : Request) → AskRun words.now request → is_refusal result.status ≡ false → (plan : Plan) × (result.plans.items ≡ plan ∷ []) }
+    ensures concludes { (request : Request) → AskRun words.now request → Concludes result.tales.items result.status }
 
-    // What a run wrote is the text of the tale and the status. Whatever happens it is a front of such a text; where no run was
-    // begun, of the fault's text, or of the plan's line where the sink failed.
-    ensures text { (request : Request) → AskRun words.now request
-        → W.tells → IsUnchanged (W.faults sink) (W.faults result.sink)
-        → Names L.tells (L.files layers) request result.tales.items
-        (λ name. W.written result.sink ≡ W.written sink ++ call_text (label_of name ∷ []) threads result.tales.items result.status) }
-    ensures text_front { (request : Request) → AskRun words.now request → W.tells
-        → Names L.tells (L.files layers) request result.tales.items
-        (λ name. WritesCallFront (W.written sink) (W.written result.sink) (label_of name ∷ []) threads result.tales.items result.status) }
+    // What a run wrote is the text of the plan, the tale and the status, or where the sink failed a front of such a text.
+    ensures text { (request : Request) → AskRun words.now request → W.tells
+        → WritesCall (Rose (W.faults sink) (W.faults result.sink)) (W.written sink) (W.written result.sink) result.plans.items result.tales.items result.status }
 
-    // The benches ran the started task's script over the empty layout, and nothing else.
-    ensures runs { (request : Request) → AskRun words.now request → L.tells → B.tells
-        → (paths : List (List ℕ)) → IsListing [] (L.files layers) paths
-        → WhereBegun (L.files layers) paths request result.tales.items
-        (λ name body. RanLast body result.tales.items (map (λ b. (B.place b).runs) benches.items) (map (λ b. (B.place b).runs) result.benches.items)) }
-    ensures bench_broke { (request : Request) → AskRun words.now request → HasBrokenBench result.tales.items
-        → SomeRose (map B.faults benches.items) (map B.faults result.benches.items) }
+    // No script ran before the line of its task's start was printed, whole.
+    ensures printed { (request : Request) → AskRun words.now request → W.tells → B.tells
+        → RanPrintedCall result.plans.items result.tales.items (map (λ b. (B.place b).runs) benches.items) (map (λ b. (B.place b).runs) result.benches.items) (W.written sink) (W.written result.sink) }
 
-    // Why a run isn't begun. `NotBuilt` comes only where there is a run that isn't built so far, thus behind each refusal of the
-    // run; and there it does come, where the layers didn't fail and memory wasn't wanting.
+    // Why a run isn't begun. It isn't since something isn't built.
     ensures unrun { (request : Request) → AskRun words.now request
         → result.tales.items ≡ [] → result.status ≢ Status.WriteFault → L.tells
         → (paths : List (List ℕ)) → IsListing [] (L.files layers) paths
         → IsUnrun (L.files layers) paths request result.status }
-    ensures not_built { (request : Request) → AskRun words.now request → result.status ≡ not_built → L.tells
-        → (paths : List (List ℕ)) → IsListing [] (L.files layers) paths
-        → IsNotBuilt (L.files layers) paths request }
-    ensures told { (request : Request) → AskRun words.now request → L.tells
-        → (paths : List (List ℕ)) → IsListing [] (L.files layers) paths
-        → IsUnchanged (L.faults layers) (L.faults result.layers)
-        → result.status ≢ Status.OutOfMemory
-        → IsNotBuilt (L.files layers) paths request → result.status ≡ not_built }
-
-    // Where anything but a refusal is answered, the run was built so far.
-    ensures planned { (request : Request) → AskRun words.now request → is_refusal result.status ≡ false → L.tells
-        → (paths : List (List ℕ)) → IsListing [] (L.files layers) paths
-        → IsPlanned (L.files layers) paths request }
+    ensures built { (request : Request) → AskRun words.now request → result.status ≡ not_built → L.tells
+        → (paths : List (List ℕ)) → IsListing [] (L.files layers) paths → ⊥ }
 
     // A mode that only reads metadata. The status fits the text that is meant, or the refusal.
     ensures read_status { (mode : ReadMode) → (targets : List (List ℕ)) → AskReading words.now mode targets
@@ -137,6 +126,30 @@ pub fn bitbake<L: Layers, D: Disk, B: Bench, W: Sink>(
         → (text : List ℕ) → mode_text mode (sources_of (L.files layers)) paths targets ≡ Ok text
         → result.status ≡ Status.WriteFault → WritesFront (W.written sink) (W.written result.sink) text }
 
+    // A dry run. The status fits the plan that the targets have, or the refusal.
+    ensures dry_status { (request : DryRequest) → AskDry words.now request → is_read_status result.status ≡ true }
+    ensures dry { (request : DryRequest) → AskDry words.now request → L.tells
+        → (paths : List (List ℕ)) → IsListing [] (L.files layers) paths
+        → HasDry result.status (L.files layers) paths request }
+
+    // Where no device failed and memory wasn't wanting, a dry run answers Ok exactly where there is a plan.
+    ensures dry_complete { (request : DryRequest) → AskDry words.now request → L.tells
+        → (paths : List (List ℕ)) → IsListing [] (L.files layers) paths
+        → IsUnchanged (L.faults layers) (L.faults result.layers)
+        → IsUnchanged (W.faults sink) (W.faults result.sink)
+        → result.status ≢ Status.OutOfMemory
+        → ((result.status ≡ Status.Ok) ↔ ((plan : Plan) × IsDryPlan (L.files layers) paths request plan)) }
+
+    // Under Ok a dry run wrote the text of the plan, and where the sink failed a front of it.
+    ensures dry_text { (request : DryRequest) → AskDry words.now request → L.tells → W.tells
+        → (paths : List (List ℕ)) → IsListing [] (L.files layers) paths
+        → (plan : Plan) → IsDryPlan (L.files layers) paths request plan
+        → result.status ≡ Status.Ok → W.written result.sink ≡ W.written sink ++ dry_text plan }
+    ensures dry_front { (request : DryRequest) → AskDry words.now request → L.tells → W.tells
+        → (paths : List (List ℕ)) → IsListing [] (L.files layers) paths
+        → (plan : Plan) → IsDryPlan (L.files layers) paths request plan
+        → result.status ≡ Status.WriteFault → WritesFront (W.written sink) (W.written result.sink) (dry_text plan) }
+
     // Words that are refused: the status is the refusal's, or says that memory was wanting. `Usage` has no other cause.
     ensures refused { IsErr (asked_by words.now) → IsRefusal (asked_by words.now) result.status }
     ensures usage { result.status ≡ Status.Usage → asked_by words.now ≡ Err Status.Usage }
@@ -153,15 +166,22 @@ pub fn bitbake<L: Layers, D: Disk, B: Bench, W: Sink>(
         → Says (fault_text result.status) (W.written sink) (W.written result.sink) (W.faults sink) (W.faults result.sink) }
 
     // Each fault has its cause.
-    ensures read_cause { result.status ≡ Status.ReadFault → Rose (L.faults layers) (L.faults result.layers) }
-    ensures disk_cause { result.status ≡ Status.DiskFault → Rose (D.faults disk) (D.faults result.disk) }
-    ensures bench_cause { result.status ≡ Status.BenchFault → SomeRose (map B.faults benches.items) (map B.faults result.benches.items) }
-    ensures write_cause { result.status ≡ Status.WriteFault → Rose (W.faults sink) (W.faults result.sink) }
+    ensures causes { HasCause (Rose (L.faults layers) (L.faults result.layers)) (D.faults result.disk) (SomeRose (map B.faults benches.items) (map B.faults result.benches.items)) (Rose (W.faults sink) (W.faults result.sink)) result.status }
 {
     match asked_of(alloc, words) {
         Ok(Asked::Runs(request)) => run(alloc, &request, layers, disk, benches, sink),
         Ok(Asked::Reads { mode, targets }) => Finish {
             status: read(alloc, mode, targets.as_slice(), &mut layers, &mut sink),
+            plans: Vec::new(alloc),
+            tales: Vec::new(alloc),
+            layers,
+            disk,
+            benches,
+            sink,
+        },
+        Ok(Asked::Plans(request)) => Finish {
+            status: dry(alloc, &request, &mut layers, &mut sink),
+            plans: Vec::new(alloc),
             tales: Vec::new(alloc),
             layers,
             disk,
@@ -170,6 +190,7 @@ pub fn bitbake<L: Layers, D: Disk, B: Bench, W: Sink>(
         },
         Err(status) => Finish {
             status: refuse(alloc, status, &mut sink),
+            plans: Vec::new(alloc),
             tales: Vec::new(alloc),
             layers,
             disk,

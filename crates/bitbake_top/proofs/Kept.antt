@@ -1,0 +1,115 @@
+-- What is kept of a run over the plan of its words.
+use Rattle.std.proofs.Common.{◌≡◌, ◌⊎◌, ◌∙◌, ap, sym, subst, refl, ℕ, true, false, List, [], ◌∷◌, ◌++◌}
+use Rattle.std.specs.Prelude.{◌≢◌, Contains}
+use Rattle.std.proofs.lemmas.List.{append-nil}
+use Rattle.std.specs.List.{AllByRecursion}
+use Rattle.std.proofs.lemmas.List.Elements.{All-cons, All-nil}
+use Rattle.outside_traits.specs.Passes.{EachNow}
+use Rattle.outside_traits.specs.Store.{Store}
+use Rattle.outside_traits.specs.Story.{IsFresh, IsImageSince, LeftSince, Story}
+use Rattle.meta_model.specs.declared.event.Logged.{Logged}
+use Rattle.meta_model.specs.declared.event.Status.{Status}
+use Rattle.meta_model.specs.declared.event.Status.TheVariants as status
+use Rattle.meta_model.specs.declared.plan.Options.{Options}
+use Rattle.meta_model.specs.declared.plan.Plan.{Plan}
+use Rattle.meta_model.specs.CleanBuild.{Gives}
+use Rattle.plan_model.specs.Sound.{IsSound}
+use Rattle.plan_model.specs.Spellings.{HasSpellings}
+use Rattle.store_model.specs.Origins.{Book, Reading}
+use Rattle.store_model.specs.Valid.{IsValid}
+use Rattle.store_model.proofs.Lasting.{empty_is_valid}
+use Rattle.build_store.specs.Sound.{IsReadable}
+use Rattle.build_resume.specs.Build.{FailsClean, HasRun, HasTargets, IsCrash, IsEntry, LeavesOthers, is_unsteady}
+use Rattle.build_resume.specs.Ends.{failed_in}
+use Rattle.build_resume.specs.Outcome.{RanStarted}
+use Rattle.bitbake_top.specs.Devices.{OnLast, Runs}
+use Rattle.bitbake_top.specs.Headline.{BeginsAgain, BeginsFirst, Keeps, MayBegin}
+
+pub begins_first : BeginsFirst
+begins_first gives reading plan trees may = record {
+  valid = empty_is_valid gives reading;
+  readable = tt;
+  folders = record { work = refl; objects = refl; parts = λ part one. refl };
+  may = may;
+  trees = trees;
+}
+
+pub begins_again : BeginsAgain
+begins_again gives reading book image crash plan trees may = record { valid = crash.valid; readable = crash.readable; folders = crash.folders; may = may; trees = trees }
+
+-- a sound plan whose signatures fit a program enters a run where it may begin
+pub as_entry : (gives : Gives) (reading : Reading) (book : Book) (held : Store) (plan : Plan) → IsSound plan → HasSpellings plan → MayBegin gives reading book held plan → IsEntry gives reading book held plan
+as_entry gives reading book held plan sound spellings may = record {
+  sound = sound;
+  valid = may.valid;
+  readable = may.readable;
+  folders = may.folders;
+  may = may.may;
+  trees = may.trees;
+  spellings = spellings;
+}
+
+-- what a crash leaves of a disk that wasn't touched
+untouched : (story : Story) → IsFresh story → (image : Store) → IsImageSince story 0 image → image ≡ story.held
+untouched story fresh image since = let h : LeftSince story.held [] 0 image = subst (λ (l : List Rattle.outside_traits.specs.declared.call.Call.Call). LeftSince story.held l 0 image) fresh since in h.1
+
+held_crash : (gives : Gives) (reading : Reading) (book : Book) (held : Store) (plan : Plan) → MayBegin gives reading book held plan → IsCrash gives reading book held
+held_crash gives reading book held plan may = record {
+  again = book;
+  same = record { whole = λ before line stands. (before, stands); only = λ before line stands. (before, stands) };
+  lines = [];
+  valid = subst (IsValid gives reading held) (sym (append-nil book)) may.valid;
+  readable = subst (AllByRecursion IsReadable) (sym (append-nil book)) may.readable;
+  folders = may.folders;
+}
+
+-- a call that began no run keeps what is promised of one
+pub unbegun_keeps : (gives : Gives) (reading : Reading) (book : Book) (plan : Plan) (options : Options) (tales : List (List Logged)) (s : Status) (old story : Story) (before now : List Runs)
+    → IsFresh old → MayBegin gives reading book old.held plan → s ≢ status.Ok → is_unsteady s ≡ false → tales ≡ [] → story ≡ old → now ≡ before → Keeps gives reading book old.held plan options tales s story before now
+unbegun_keeps gives reading book plan options tales s old story before now fresh may failed steady none same same_runs =
+    subst (λ (l : List (List Logged)). Keeps gives reading book old.held plan options l s story before now) (sym none) (record {
+      exact = λ ok. absurd (failed ok);
+      crashes = λ image since.
+          let still : image ≡ old.held = untouched old fresh image (subst (λ (x : Story). IsImageSince x 0 image) same since) in
+          subst (IsCrash gives reading book) (sym still) (held_crash gives reading book old.held plan may);
+      legal = All-nil _;
+      real = All-nil _;
+      others = All-nil _;
+      steady = steady;
+      ran = same_runs;
+    })
+
+-- what is promised of a run with one tale, over what its bench gives
+pub record Kept (gives : Gives) (reading : Reading) (book : Book) (held : Store) (plan : Plan) (options : Options) (tale : List Logged) (s : Status) (story : Story) (before now : List Runs) : Type 0 where
+  pub exact : s ≡ status.Ok → EachNow story (HasTargets gives plan)
+  pub crashes : (image : Store) → IsImageSince story 0 image → IsCrash gives reading book image
+  pub legal : (tale ≡ []) ⊎ HasRun gives reading book held plan options tale story
+  pub real : (t : ℕ) → Contains (failed_in tale) t → FailsClean gives plan t
+  pub others : (image : Store) → IsImageSince story 0 image → LeavesOthers gives book held plan options tale image
+  pub steady : is_unsteady s ≡ false
+  pub ran : OnLast (RanStarted gives plan tale) before now
+
+-- what is promised of a run that was begun
+pub begun_keeps : (gives own : Gives) (reading : Reading) (book : Book) (held : Store) (plan : Plan) (options : Options) (tales : List (List Logged)) (tale : List Logged) (s : Status) (story : Story) (before now : List Runs)
+    → own ≡ gives → tales ≡ tale ∷ [] → Kept own reading book held plan options tale s story before now → Keeps gives reading book held plan options tales s story before now
+begun_keeps gives own reading book held plan options tales tale s story before now same one kept =
+    subst (λ (x : Gives). Keeps x reading book held plan options tales s story before now) same
+    (subst (λ (l : List (List Logged)). Keeps own reading book held plan options l s story before now) (sym one) (record {
+      exact = kept.exact;
+      crashes = kept.crashes;
+      legal = All-cons (λ x. (x ≡ []) ⊎ HasRun own reading book held plan options x story) tale [] kept.legal (All-nil _);
+      real = All-cons (λ x. (t : ℕ) → Contains (failed_in x) t → FailsClean own plan t) tale [] kept.real (All-nil _);
+      others = All-cons (λ x. (image : Store) → IsImageSince story 0 image → LeavesOthers own book held plan options x image) tale [] kept.others (All-nil _);
+      steady = kept.steady;
+      ran = kept.ran;
+    }))
+
+-- the list of one behind none
+pub one_behind : {A : Type 0} (old new : List A) (x : A) → old ≡ [] → new ≡ old ++ x ∷ [] → new ≡ x ∷ []
+one_behind old new x none is = is ∙ ap (λ (l : List _). l ++ x ∷ []) none
+
+-- what is promised of a run of one plan is promised of the same plan
+pub at_plan : (gives : Gives) (reading : Reading) (book : Book) (held : Store) (options : Options) (tales : List (List Logged)) (s : Status) (story : Story) (before now : List Runs) (one other : Plan) → one ≡ other
+    → (MayBegin gives reading book held one → Keeps gives reading book held one options tales s story before now) → MayBegin gives reading book held other → Keeps gives reading book held other options tales s story before now
+at_plan gives reading book held options tales s story before now one other same keeps =
+    subst (λ (p : Plan). MayBegin gives reading book held p → Keeps gives reading book held p options tales s story before now) same keeps

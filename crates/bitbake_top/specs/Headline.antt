@@ -1,0 +1,68 @@
+-- What is promised of a run whose devices tell what they hold.
+use Rattle.std.specs.Prelude.{◌≡◌, ◌⊎◌, ℕ, false, List, [], ◌∷◌, ◌++◌, Contains, All, Ok}
+use Rattle.std.specs.List.{AllByRecursion}
+use Rattle.tree_model.specs.Tree.{IsTree}
+use Rattle.outside_traits.specs.Passes.{EachNow}
+use Rattle.outside_traits.specs.Store.{Store}
+use Rattle.outside_traits.specs.Story.{IsImageSince, Story}
+use Rattle.meta_model.specs.declared.event.Logged.{Logged}
+use Rattle.meta_model.specs.declared.event.Status.{Status}
+use Rattle.meta_model.specs.declared.event.Status.TheVariants as status
+use Rattle.meta_model.specs.declared.plan.Options.{Options}
+use Rattle.meta_model.specs.declared.plan.Plan.{Plan}
+use Rattle.meta_model.specs.CleanBuild.{Entries, Gives}
+use Rattle.store_model.specs.Origins.{Book, Reading}
+use Rattle.store_model.specs.Reuse.{MayReuse}
+use Rattle.store_model.specs.Valid.{IsValid}
+use Rattle.build_store.specs.Sound.{IsReadable}
+use Rattle.run_queue.specs.Opening.{HasFolders}
+use Rattle.build_resume.specs.Build.{FailsClean, HasRun, HasTargets, IsCrash, LeavesOthers, is_unsteady}
+use Rattle.build_resume.specs.Ends.{failed_in}
+use Rattle.build_resume.specs.Laws.{nothing}
+use Rattle.build_resume.specs.Outcome.{RanStarted}
+use Rattle.bitbake_top.specs.Devices.{OnLast, Runs}
+
+-- what scripts give are trees
+abbrev pub GivesTrees : Gives → Type 0
+GivesTrees gives = (script : List ℕ) (tree out : Entries) → gives script tree ≡ Ok out → IsTree out
+
+-- What is asked of a run beside its devices: what the disk holds is valid with a book of lines that can be read again, and has folders
+-- where the store keeps them; the plan may reuse of the book what it wants; and what scripts give are trees.
+pub record MayBegin (gives : Gives) (reading : Reading) (book : Book) (held : Store) (plan : Plan) : Type 0 where
+  pub valid : IsValid gives reading held book
+  pub readable : AllByRecursion IsReadable book
+  pub folders : HasFolders held
+  pub may : MayReuse gives reading held book plan.tasks
+  pub trees : GivesTrees gives
+
+-- Of the benches the last one ran what the tale started, each over the clean outputs of what it needs; without a tale none ran anything.
+abbrev pub RanTales : Gives → Plan → List (List Logged) → List Runs → List Runs → Type 0
+RanTales gives plan [] before now = now ≡ before
+RanTales gives plan (tale ∷ more) before now = OnLast (RanStarted gives plan tale) before now
+
+-- *The headline*, but for when the answer is Ok. The store is what the disk held as the call began, the story is the disk's at its end.
+pub record Keeps (gives : Gives) (reading : Reading) (book : Book) (held : Store) (plan : Plan) (options : Options) (tales : List (List Logged)) (s : Status) (story : Story) (before now : List Runs) : Type 0 where
+  -- under Ok each target's work folder holds exactly its clean output, whatever a crash leaves
+  pub exact : s ≡ status.Ok → EachNow story (HasTargets gives plan)
+  -- whatever the status is, each crash since the call began leaves a valid store, in which the next run may begin
+  pub crashes : (image : Store) → IsImageSince story 0 image → IsCrash gives reading book image
+  -- the tale is legal over the store as it was opened, and what it settled stands to the end
+  pub legal : All (λ tale. (tale ≡ []) ⊎ HasRun gives reading book held plan options tale story) tales
+  -- each task that failed fails by itself in the clean build
+  pub real : All (λ tale. (t : ℕ) → Contains (failed_in tale) t → FailsClean gives plan t) tales
+  -- whatever the status is, each crash since the call began leaves the outputs of other tasks than the tale's as they were
+  pub others : All (λ tale. (image : Store) → IsImageSince story 0 image → LeavesOthers gives book held plan options tale image) tales
+  -- no output is found to differ from one run to another
+  pub steady : is_unsteady s ≡ false
+  -- the bench runs are the started tasks
+  pub ran : RanTales gives plan tales before now
+
+-- ---- where a run may begin
+
+-- A run may begin on an empty disk.
+abbrev pub BeginsFirst : Type 0
+BeginsFirst = (gives : Gives) (reading : Reading) (plan : Plan) → GivesTrees gives → MayReuse gives reading nothing [] plan.tasks → MayBegin gives reading [] nothing plan
+
+-- A run of any plan may begin on what a crash of any run left, where the plan may reuse the book that the crash left.
+abbrev pub BeginsAgain : Type 0
+BeginsAgain = (gives : Gives) (reading : Reading) (book : Book) (image : Store) (crash : IsCrash gives reading book image) (plan : Plan) → GivesTrees gives → MayReuse gives reading image (crash.again ++ crash.lines) plan.tasks → MayBegin gives reading (crash.again ++ crash.lines) image plan

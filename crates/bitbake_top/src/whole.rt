@@ -1,0 +1,205 @@
+// The run of a plan: its text, its tale and its status.
+ghost use Rattle.std.specs.Prelude.{◌≡◌, ◌<◌, ◌≤◌, ◌↔◌, ◌⊎◌, ◌∷◌, ◌++◌, [], ℕ, List, All, IfOk, vec_len, vec_capacity, map};
+ghost use Rattle.outside_traits.specs.Bench.{Gives};
+ghost use Rattle.outside_traits.specs.Fault.{Rose};
+ghost use Rattle.outside_traits.specs.Story.{IsFresh};
+ghost use Rattle.bb_report.specs.Texts.{plan_text as text_of};
+ghost use Rattle.plan_model.specs.Sound.{AreWanted, IsSound};
+ghost use Rattle.plan_model.specs.Spellings.{HasSpellings};
+ghost use Rattle.store_model.specs.Origins.{Book, Reading};
+ghost use Rattle.build_resume.specs.Build.{AllClean, MayEndSo};
+ghost use Rattle.bitbake_top.specs.Devices.{AreUnchanged, SomeRose};
+ghost use Rattle.bitbake_top.specs.Headline.{Keeps, MayBegin};
+ghost use Rattle.bitbake_top.specs.Run.{Concludes, IsBegun, IsCertain, RanPrintedCall, WritesCall};
+
+use crate::answer::refuse;
+use bb_report::{plan_text, write_all};
+use build_resume::{Outcome, build};
+use meta_model::{ListOf, Logged, Options, Plan, Status};
+use outside_traits::{Bench, Disk, Sink};
+use std::alloc::Global;
+use tree_model::{Mem, Text};
+
+/// What a run of a plan hands back.
+#[derive(Drop)]
+pub struct Ran<D, B, W> {
+    /// How the run ended.
+    pub status: Status,
+
+    /// The plan, unless memory was wanting for its text.
+    pub plans: Vec<Plan>,
+
+    /// The tale of the run, where it was begun.
+    pub tales: Vec<ListOf<Logged>>,
+
+    /// The disk that was handed in, with what the run left on it.
+    pub disk: D,
+
+    /// The benches that were handed in, in their order.
+    pub benches: Vec<B>,
+
+    /// The sink that was handed in.
+    pub sink: W,
+}
+
+/// The text of a plan, and room for the plan and for the tale of its run.
+#[derive(Drop)]
+struct Ready {
+    text: Text,
+    room: Room,
+}
+
+/// Room for a plan, and for the tale of its run.
+#[derive(Drop)]
+struct Room {
+    plans: Vec<Plan>,
+    tales: Vec<ListOf<Logged>>,
+}
+
+/// Takes what a run needs before it begins.
+fn prepare(alloc: Global, plan: &Plan) -> Result<Ready, Mem>
+    ensures text { IfOk result (λ ready. ready.text ≡ text_of plan.now) }
+    ensures none { IfOk result (λ ready. (ready.room.plans.items ≡ []) × (ready.room.tales.items ≡ [])) }
+    ensures room { IfOk result (λ ready. (1 ≤ vec_capacity ready.room.plans) × (1 ≤ vec_capacity ready.room.tales)) }
+{
+    let text = plan_text(alloc, plan)?;
+    let plans = Vec::with_capacity(alloc, 1)?;
+    let tales = Vec::with_capacity(alloc, 1)?;
+    Ok(Ready {
+        text,
+        room: Room { plans, tales },
+    })
+}
+
+/// Takes the last bench off.
+fn take_last<B: Bench>(benches: &mut Vec<B>) -> B
+    requires { 0 < vec_len benches.old }
+    ensures items { benches.old.items ≡ benches.new.items ++ result ∷ [] }
+    ensures room { vec_len benches.new < vec_capacity benches.new }
+{
+    match benches.pop() {
+        Some(bench) => bench,
+        None => unreachable!(),
+    }
+}
+
+/// Runs a plan whose text was printed on the last bench.
+fn run_ready<D: Disk, B: Bench, W: Sink>(
+    alloc: Global,
+    room: Room,
+    plan: Plan,
+    options: Options,
+    disk: D,
+    mut benches: Vec<B>,
+    sink: W,
+) -> Ran<D, B, W>
+    requires bench { 0 < vec_len benches }
+    requires reach { 3900 ≤ D.reach }
+    requires fresh { D.tells → IsFresh (D.story disk) }
+    requires unharmed { D.faults disk ≡ 0 }
+    requires sound { IsSound plan }
+    requires spellings { HasSpellings plan }
+    requires none { (room.plans.items ≡ []) × (room.tales.items ≡ []) }
+    requires room { (1 ≤ vec_capacity room.plans) × (1 ≤ vec_capacity room.tales) }
+    ensures keeps { D.tells → B.tells → (gives : Gives) → All (λ b. B.gives b ≡ gives) benches.items
+        → (reading : Reading) (book : Book) → MayBegin gives reading book (D.story disk).held plan
+        → Keeps gives reading book (D.story disk).held plan options result.tales.items result.status (D.story result.disk) (map (λ b. (B.place b).runs) benches.items) (map (λ b. (B.place b).runs) result.benches.items) }
+    ensures exactly { D.tells → B.tells → (gives : Gives) → All (λ b. B.gives b ≡ gives) benches.items
+        → (reading : Reading) (book : Book) → MayBegin gives reading book (D.story disk).held plan → AreWanted plan
+        → D.faults result.disk ≡ 0 → AreUnchanged (map B.faults benches.items) (map B.faults result.benches.items)
+        → (Rose (W.faults sink) (W.faults result.sink) → ⊥) → IsCertain result.status
+        → ((result.status ≡ Status.Ok) ↔ AllClean gives plan) }
+    ensures plans { result.plans.items ≡ plan ∷ [] }
+    ensures begun { IsBegun result.tales.items result.status }
+    ensures text { W.tells → (base : List ℕ) (before : ℕ) → before ≤ W.faults sink → W.written sink ≡ base ++ text_of plan
+        → WritesCall (Rose before (W.faults result.sink)) base (W.written result.sink) result.plans.items result.tales.items result.status }
+    ensures printed { W.tells → B.tells → (base : List ℕ) → W.written sink ≡ base ++ text_of plan
+        → RanPrintedCall result.plans.items result.tales.items (map (λ b. (B.place b).runs) benches.items) (map (λ b. (B.place b).runs) result.benches.items) base (W.written result.sink) }
+    ensures causes { (before : ℕ) → before ≤ W.faults sink → MayEndSo (D.faults result.disk) (SomeRose (map B.faults benches.items) (map B.faults result.benches.items)) (Rose before (W.faults result.sink)) result.status }
+{
+    let Room {
+        mut plans,
+        mut tales,
+    } = room;
+    let bench = take_last(&mut benches);
+    let Outcome {
+        status,
+        plan,
+        failed: _,
+        disk,
+        bench,
+        sink,
+        tale,
+    } = build(alloc, plan, options, disk, bench, sink);
+    plans.push_reserved(plan);
+    tales.push_reserved(ListOf::from_vec(tale));
+    benches.push_reserved(bench);
+    Ran {
+        status,
+        plans,
+        tales,
+        disk,
+        benches,
+        sink,
+    }
+}
+
+/// Prints a plan and runs it on the last bench, and gives the devices back with the status and the tale.
+///
+/// Nothing is begun before the plan's text is printed.
+pub fn run_whole<D: Disk, B: Bench, W: Sink>(
+    alloc: Global,
+    plan: Plan,
+    options: Options,
+    disk: D,
+    benches: Vec<B>,
+    mut sink: W,
+) -> Ran<D, B, W>
+    requires bench { 0 < vec_len benches }
+    requires reach { 3900 ≤ D.reach }
+    requires fresh { D.tells → IsFresh (D.story disk) }
+    requires unharmed { D.faults disk ≡ 0 }
+    requires sound { IsSound plan }
+    requires spellings { HasSpellings plan }
+    ensures keeps { D.tells → B.tells → (gives : Gives) → All (λ b. B.gives b ≡ gives) benches.items
+        → (reading : Reading) (book : Book) → MayBegin gives reading book (D.story disk).held plan
+        → Keeps gives reading book (D.story disk).held plan options result.tales.items result.status (D.story result.disk) (map (λ b. (B.place b).runs) benches.items) (map (λ b. (B.place b).runs) result.benches.items) }
+    ensures exactly { D.tells → B.tells → (gives : Gives) → All (λ b. B.gives b ≡ gives) benches.items
+        → (reading : Reading) (book : Book) → MayBegin gives reading book (D.story disk).held plan → AreWanted plan
+        → D.faults result.disk ≡ 0 → AreUnchanged (map B.faults benches.items) (map B.faults result.benches.items)
+        → (Rose (W.faults sink) (W.faults result.sink) → ⊥) → IsCertain result.status
+        → ((result.status ≡ Status.Ok) ↔ AllClean gives plan) }
+    ensures plans { (result.plans.items ≡ plan ∷ []) ⊎ ((result.plans.items ≡ []) × (result.status ≡ Status.OutOfMemory)) }
+    ensures concludes { Concludes result.tales.items result.status }
+    ensures unbegun { result.tales.items ≡ [] → (result.status ≡ Status.OutOfMemory) ⊎ (result.status ≡ Status.WriteFault) }
+    ensures text { W.tells → WritesCall (Rose (W.faults sink) (W.faults result.sink)) (W.written sink) (W.written result.sink) result.plans.items result.tales.items result.status }
+    ensures printed { W.tells → B.tells → RanPrintedCall result.plans.items result.tales.items (map (λ b. (B.place b).runs) benches.items) (map (λ b. (B.place b).runs) result.benches.items) (W.written sink) (W.written result.sink) }
+    ensures same_disk { result.tales.items ≡ [] → result.disk ≡ disk }
+    ensures same_benches { result.tales.items ≡ [] → result.benches.items ≡ benches.items }
+    ensures causes { MayEndSo (D.faults result.disk) (SomeRose (map B.faults benches.items) (map B.faults result.benches.items)) (Rose (W.faults sink) (W.faults result.sink)) result.status }
+{
+    match prepare(alloc, &plan) {
+        Ok(Ready { text, mut room }) => match write_all(&mut sink, text.as_str().as_bytes()) {
+            Ok(()) => run_ready(alloc, room, plan, options, disk, benches, sink),
+            Err(_) => {
+                room.plans.push_reserved(plan);
+                Ran {
+                    status: Status::WriteFault,
+                    plans: room.plans,
+                    tales: room.tales,
+                    disk,
+                    benches,
+                    sink,
+                }
+            }
+        },
+        Err(Mem) => Ran {
+            status: refuse(alloc, Status::OutOfMemory, &mut sink),
+            plans: Vec::new(alloc),
+            tales: Vec::new(alloc),
+            disk,
+            benches,
+            sink,
+        },
+    }
+}

@@ -1,3 +1,0 @@
-pub mod Recipe
-pub mod Single
-pub mod Steps
