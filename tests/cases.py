@@ -77,6 +77,9 @@ class Case:
 
     def write(self, path, data, is_exec=False):
         os.makedirs(os.path.dirname(self.at(path)), exist_ok=True)
+        if os.path.islink(self.at(path)):
+            # (it is replaced, and not what it leads to)
+            os.remove(self.at(path))
         with open(self.at(path), "wb") as out:
             out.write(data)
         os.chmod(self.at(path), 0o755 if is_exec else 0o644)
@@ -155,7 +158,7 @@ class Case:
                 self.work[path[5:]] = content, is_exec
         elif word in ("script", "puts", "links", "exit"):
             pass
-        elif word == "fail":
+        elif word in ("fail", "crash"):
             self.fails = True
         elif word == "run":
             self.run([unescaped(it) for it in rest.split(b" ")] if rest else [])

@@ -1,7 +1,7 @@
 // A case, directive by directive.
 use crate::escapes::{unescaped, unescaped_text};
 use crate::judge::{Wishes, judge_work};
-use crate::project::{Listing, Project, Ran, shown};
+use crate::project::{Crash, Listing, Project, Ran, shown};
 use crate::words::Word;
 use crate::wrong::Wrong;
 use std::alloc::Global;
@@ -152,6 +152,7 @@ impl Case {
             }
             Word::Disk => self.hold(alloc, it),
             Word::Fail => self.fail(it.rest.as_str()),
+            Word::Crash => self.crash(it.rest.as_str()),
             Word::Memory => Ok(()),
             Word::Run => self.run(alloc, it.rest.as_str()),
             _ => self.add_rule(alloc, it),
@@ -196,6 +197,20 @@ impl Case {
             _ => return Err(Wrong::Says("there is no such device")),
         }
         Ok(())
+    }
+
+    /// Ends the next run at a call of the disk. What a crash may have left then is held from then on: of that the one with this number.
+    fn crash(&mut self, rest: &str) -> Result<(), Wrong> {
+        match rest.split_once(' ') {
+            Some((calls, image)) => {
+                self.project.crash = Some(Crash {
+                    calls: u64::from(number_of(calls)?),
+                    image: u64::from(number_of(image)?),
+                });
+                Ok(())
+            }
+            None => Err(Wrong::Says("a crash has two numbers")),
+        }
     }
 
     /// Runs the program with these words.

@@ -1,9 +1,12 @@
 // A project in memory: its files, what the disk holds, and what its scripts do.
 ghost use Rattle.std.specs.Prelude.{◌<◌, IfOk, vec_len};
+ghost use Rattle.outside_traits.specs.Story.{IsFresh};
+ghost use Rattle.outside_mem.specs.Told.{story_of};
 
 use crate::wrong::Wrong;
-use bitbake_top::{Finish, bitbake};
-use outside_mem::{FailDisk, MemDisk, MemLayers, MemSink, Rule, ScriptTable};
+use bitbake_top::bitbake;
+use meta_model::Status;
+use outside_mem::{FailDisk, FuseDisk, MemDisk, MemLayers, MemSink, Rule, ScriptTable};
 use std::alloc::Global;
 use std::collections::BTreeMap;
 use std::mem;
@@ -40,6 +43,13 @@ pub const NONE_FAILS: Fails = Fails {
     sink: 0,
 };
 
+/// How many calls of the disk a run is left, and which of the images that a crash then may leave is held behind it.
+#[derive(Clone, Copy)]
+pub struct Crash {
+    pub calls: u64,
+    pub image: u64,
+}
+
 /// What a run answered.
 #[derive(Drop)]
 pub struct Ran {
@@ -54,6 +64,7 @@ pub struct Project {
     held: Vec<(Text, Entry)>,
     scripts: Vec<Script>,
     pub fails: Fails,
+    pub crash: Option<Crash>,
 }
 
 impl Project {
@@ -64,6 +75,7 @@ impl Project {
             held: Vec::new(alloc),
             scripts: Vec::new(alloc),
             fails: NONE_FAILS,
+            crash: None,
         }
     }
 
@@ -122,26 +134,46 @@ impl Project {
 
     /// Calls the program with these words, over devices with what the project has. What it leaves on the disk is held from then on.
     pub fn run(&mut self, alloc: Global, words: &Vec<Text>) -> Result<Ran, Wrong> {
-        let fails = mem::replace(&mut self.fails, NONE_FAILS);
-        let layers = self.layers(alloc, fails.layers)?;
         let held = mem::replace(&mut self.held, Vec::new(alloc));
-        let disk = FailDisk::new(MemDisk::new(alloc, held)?, fails.disk);
-        let benches = self.benches(alloc, fails.bench)?;
-        let sink = MemSink::new(alloc, numbers(alloc, fails.sink)?)?;
-        self.take(alloc, bitbake(alloc, words, layers, disk, benches, sink))
+        let disk = MemDisk::new(alloc, held)?;
+        match self.crash.take() {
+            Some(crash) => self.run_into_crash(alloc, words, disk, crash),
+            None => self.run_to_end(alloc, words, disk),
+        }
     }
 
-    /// What a call left: its disk is held from then on.
-    fn take(
+    /// A run that comes to its end.
+    fn run_to_end(&mut self, alloc: Global, words: &Vec<Text>, disk: MemDisk) -> Result<Ran, Wrong>
+        requires { IsFresh (story_of disk) }
+    {
+        let fails = mem::replace(&mut self.fails, NONE_FAILS);
+        let disk = FailDisk::new(disk, fails.disk);
+        let layers = self.layers(alloc, fails.layers)?;
+        let benches = self.benches(alloc, fails.bench)?;
+        let sink = MemSink::new(alloc, numbers(alloc, fails.sink)?)?;
+        let finish = bitbake(alloc, words, layers, disk, benches, sink);
+        self.held = copied(alloc, finish.disk.into_disk().held())?;
+        answer(alloc, &finish.status, &finish.sink)
+    }
+
+    /// A run that a crash ends.
+    fn run_into_crash(
         &mut self,
         alloc: Global,
-        finish: Finish<MemLayers, FailDisk, ScriptTable, MemSink>,
-    ) -> Result<Ran, Wrong> {
-        let code = finish.status.code();
-        let mut text = Vec::new(alloc);
-        text.extend_from_slice(finish.sink.written())?;
-        self.held = copied(alloc, finish.disk.into_disk().held())?;
-        Ok(Ran { code, text })
+        words: &Vec<Text>,
+        disk: MemDisk,
+        crash: Crash,
+    ) -> Result<Ran, Wrong>
+        requires { IsFresh (story_of disk) }
+    {
+        let disk = FuseDisk::new(disk, crash.calls);
+        let layers = self.layers(alloc, 0)?;
+        let benches = self.benches(alloc, 0)?;
+        let sink = MemSink::new(alloc, numbers(alloc, 0)?)?;
+        let finish = bitbake(alloc, words, layers, disk, benches, sink);
+        let image = finish.disk.into_disk().image(crash.image)?;
+        self.held = copied(alloc, image.held())?;
+        answer(alloc, &finish.status, &finish.sink)
     }
 
     fn layers(&self, alloc: Global, fail: u64) -> Result<MemLayers, Wrong> {
@@ -184,6 +216,16 @@ impl Project {
         }
         Ok(found)
     }
+}
+
+/// What a run answered and printed.
+fn answer(alloc: Global, status: &Status, sink: &MemSink) -> Result<Ran, Wrong> {
+    let mut text = Vec::new(alloc);
+    text.extend_from_slice(sink.written())?;
+    Ok(Ran {
+        code: status.code(),
+        text,
+    })
 }
 
 /// The number alone.
