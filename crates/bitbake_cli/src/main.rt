@@ -1,10 +1,15 @@
 //! The program `bitbake`: the top call over the real things.
 //!
 //! What is decided is decided in `bitbake_top`, and what it promises is the promise of this program; the devices stand in
-//! `outside_os`. Here the words are taken from the system and the devices made. `tests/program.sh` tests it by runs.
+//! `outside_os`. Here the words are taken from the system and the devices made, and standard error tells of what failed: the end of
+//! the log of each task, and what a device says of its first fault. `tests/program.sh` tests it by runs.
 #![tactic(auto)]
 
+mod failures;
+mod logs;
+
 use bitbake_top::bitbake;
+use failures::tell_failures;
 use outside_os::{FolderDisk, FolderLayers, ShBench, StdSink, is_memory};
 use std::process::ExitCode;
 use std::{env, io};
@@ -43,6 +48,10 @@ fn run(rt: &HostRuntime) -> io::Result<u8> {
     let disk = FolderDisk::new(rt.clone()?);
     let sink = StdSink::new(rt.clone()?);
     let finish = bitbake(rt.alloc(), &words, layers, disk, benches, sink);
+    // While the disk is there no other run can touch the logs.
+    if tell_failures(rt, &finish.plans, &finish.tales, &finish.benches).is_err() {
+        tell(rt, "log", Some("out of memory"));
+    }
     tell(rt, "layers", finish.layers.first_fault());
     tell(rt, "disk", finish.disk.first_fault());
     for bench in &finish.benches {
