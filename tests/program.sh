@@ -56,18 +56,30 @@ holds() {
 }
 
 # Runs a command, with its status in `status`, its text in the file `text`, and what it writes to standard error in the
-# file `said`. The program writes the devices' sentences there; anything else is text too.
+# file `said`. The program writes the devices' sentences there, and a line for each failed task with the end of its log
+# behind it, each line of that after a bar; anything else is text too.
 runs() {
     "$@" >"$room/text" 2>"$room/said" </dev/null
     status=$?
-    grep -v '^bitbake: [a-z]*: ' "$room/said" >>"$room/text"
+    grep -a -v -e '^bitbake: [a-z]*: ' -e '^bitbake: [^ :]*:do_[^ :]* failed' -e '^| ' "$room/said" >>"$room/text"
 }
 
-plan='plan 1 tasks, 4 threads
-started hello:do_build'
+# What was said of failed tasks is just what standard input has.
+says() {
+    cat >"$room/wanted"
+    grep -a -v '^bitbake: [a-z]*: ' "$room/said" >"$room/told"
+    holds "$1" cmp -s "$room/wanted" "$room/told"
+}
+
+announced='plan 1 tasks, 4 threads'
+plan="$announced
+started hello:do_build"
 done_text="$plan
 ended hello:do_build
 ok 0 found, 0 restored, 1 started"
+found_text="$announced
+found hello:do_build
+ok 1 found, 0 restored, 0 started"
 
 # The example, from another folder, by the launcher's path and through links to it.
 cp -R "$top/examples/hello" "$room/example" && rm -rf "$room/example/build" || exit 1
@@ -77,11 +89,11 @@ wants "the example" 0 "$done_text"
 holds "the example's output" test "$(cat build/work/hello/do_build/hello.txt)" = hello
 holds "nothing beside it" test "$(ls -A build/work/hello/do_build)" = hello.txt
 runs "$bitbake" hello
-wants "the example again" 0 "$done_text"
+wants "the example again" 0 "$found_text"
 
 mkdir "$room/links" && ln -s "$bitbake" "$room/links/far" && ln -s far "$room/links/near" || exit 1
 runs "$room/links/near" hello
-wants "the example through links" 0 "$done_text"
+wants "the example through links" 0 "$found_text"
 cd "$room/links" || exit 1
 runs ./near hello
 wants "a folder without recipes" 3 "fault 3 NothingProvides hello"
@@ -121,9 +133,13 @@ for words in '' '--' '--nope' '--nope hello' '-x' '-h hello' '--help' '--version
 done
 runs "$bitbake" "$(printf 'x\377')"
 wants "a word that isn't UTF-8" 2 "$usage"
-for words in '-n hello' '--dry-run hello' '-n -c build hello' '--sample 5' '--sample=1000 -p' '-fp' '-k -e hello' '--no-setscene -s'; do
+for words in '--sample 5' '--sample=1000 -p'; do
     runs "$bitbake" $words
     wants "words that aren't built: '$words'" 3 "fault 3 NotBuilt"
+done
+for words in '-fp' '-k -e hello' '--no-setscene -s'; do
+    runs "$bitbake" $words
+    wants "a mode beside options of a run: '$words'" 6 "fault 6 read"
 done
 holds "nothing is built for words" test ! -e build
 
@@ -289,8 +305,8 @@ for words in '-- hello' 'hello hello' 'hello:build' 'hello:do_build' '-c build h
     # (words are split on purpose)
     runs "$bitbake" $words
     wants "the words '$words'" 0 "$done_text"
+    rm -r build
 done
-rm -r build
 for words in 'other' './hello' 'mc:a:hello'; do
     runs "$bitbake" $words
     wants "the words '$words'" 3 "fault 3 NothingProvides $words"
@@ -300,10 +316,16 @@ for words in 'hello:nosuch' '-c nosuch hello'; do
     wants "the words '$words'" 3 "fault 3 NoSuchTask hello:do_nosuch"
 done
 
-# A run is refused by its targets before what isn't built.
-for option in -f --force -k --continue --no-setscene; do
+# The options of a run. Only by -f a task runs again whose output is there.
+for option in -k --continue --no-setscene -f --force; do
+    rm -rf build
     runs "$bitbake" "$option" hello
-    wants "the option $option" 3 "fault 3 NotBuilt"
+    wants "the option $option" 0 "$done_text"
+    runs "$bitbake" "$option" hello
+    case $option in
+        -f | --force) wants "the option $option again" 0 "$done_text" ;;
+        *) wants "the option $option again" 0 "$found_text" ;;
+    esac
     runs "$bitbake" nosuch "$option"
     wants "the option $option of nothing" 3 "fault 3 NothingProvides nosuch"
 done
@@ -317,20 +339,56 @@ for threads in 0 17; do
     wants "$threads threads" 3 "fault 3 BadThreads $threads"
 done
 printf 'BB_NUMBER_THREADS = "16"\n' >conf/bitbake.conf
+rm -r build
 runs "$bitbake" hello
-wants "a configuration" 3 "fault 3 NotBuilt"
-rm -r conf
+wants "a configuration" 0 "plan 1 tasks, 16 threads
+started hello:do_build
+ended hello:do_build
+ok 0 found, 0 restored, 1 started"
+rm -r conf build
 recipe other 'echo other > other.txt'
-runs "$bitbake" hello other
-wants "two tasks" 3 "fault 3 NotBuilt"
-holds "nothing is built for them" test ! -e build
+runs "$bitbake" other hello
+wants "two tasks" 0 "plan 2 tasks, 4 threads
+started hello:do_build
+ended hello:do_build
+started other:do_build
+ended other:do_build
+ok 0 found, 0 restored, 2 started"
+holds "the output of the one" test "$(cat build/work/hello/do_build/hello.txt)" = hello
+holds "the output of the other" test "$(cat build/work/other/do_build/other.txt)" = other
+rm -r build
 runs "$bitbake" hello
 wants "other recipes beside it" 0 "$done_text"
 rm -r build
-printf 'A = "b"\n' >>recipes/hello.bb
-runs "$bitbake" hello
-wants "another form of recipe" 3 "fault 3 NotBuilt"
-holds "nothing is built for it" test ! -e build
+
+# A library and an application of two layers.
+cp -R "$top/examples/library_and_application" "$room/layers" && rm -rf "$room/layers/build" || exit 1
+cd "$room/layers" || exit 1
+runs "$bitbake" app
+wants "a library and an application" 0 "plan 9 tasks, 4 threads
+started app:do_configure
+ended app:do_configure
+started greet:do_configure
+ended greet:do_configure
+started greet:do_compile
+ended greet:do_compile
+started greet:do_install
+ended greet:do_install
+started greet:do_populate_sysroot
+ended greet:do_populate_sysroot
+started app:do_compile
+ended app:do_compile
+started app:do_install
+ended app:do_install
+started app:do_populate_sysroot
+ended app:do_populate_sysroot
+started app:do_build
+ended app:do_build
+ok 0 found, 0 restored, 9 started"
+holds "what the library gives" test "$(cat build/work/greet/do_populate_sysroot/usr/lib/libgreet.txt)" = "hello world"
+holds "a link of it" test "$(readlink build/work/greet/do_populate_sysroot/usr/lib/libgreet.txt)" = libgreet.txt.1
+holds "what the application made of it" test "$(cat build/work/app/do_install/image/usr/share/out.txt)" = "hello world"
+holds "what it gives" test "$(cat build/work/app/do_build/usr/share/out.txt)" = "hello world"
 
 project fails
 recipe hello 'exit 3'
@@ -338,6 +396,86 @@ runs "$bitbake" hello
 wants "a body that fails" 1 "$plan
 failed hello:do_build status 3
 fault 1 failed: hello:do_build"
+says "its log is empty" <<'END'
+bitbake: hello:do_build failed with status 3; its log is build/bench/log/hello/do_build, which is empty
+END
+holds "its log is kept" test -f build/bench/log/hello/do_build -a ! -s build/bench/log/hello/do_build
+
+# Of a long log the last 20 lines are shown, byte for byte, and all of it is kept.
+recipe hello 'seq 1 200000; printf "the \\377 end" >&2; exit 4'
+runs "$bitbake" hello
+wants "a body that talks and fails" 1 "$plan
+failed hello:do_build status 4
+fault 1 failed: hello:do_build"
+{
+    echo 'bitbake: hello:do_build failed with status 4; its log is build/bench/log/hello/do_build, which ends with'
+    seq 199982 200000 | sed 's/^/| /'
+    printf '| the \377 end\n'
+} >"$room/end"
+says "the end of its log" <"$room/end"
+holds "all of its log" test "$(wc -l <build/bench/log/hello/do_build)" -eq 200000
+
+# Where something stands in a log's place, the log stays where the bench keeps it, and the run's status stays.
+rm -r build/bench/log && echo file >build/bench/log
+recipe hello 'echo first; exit 5'
+runs "$bitbake" hello
+wants "a log that has no place" 1 "$plan
+failed hello:do_build status 5
+fault 1 failed: hello:do_build"
+says "the log where it is" <<'END'
+bitbake: hello:do_build failed with status 5; its log is build/bench/failed/16/0, which ends with
+| first
+END
+holds "it says that the log has no place" grep -q '^bitbake: log: move of build/bench/failed/16/0: ' "$room/said"
+rm build/bench/log
+recipe hello 'rm ../log; exit 6'
+runs "$bitbake" hello
+wants "a body that takes its log away" 1 "$plan
+failed hello:do_build status 6
+fault 1 failed: hello:do_build"
+holds "it says that no log is kept" grep -q "^bitbake: hello:do_build failed with status 6; its log can't be kept: " "$room/said"
+
+# A log goes where its task is started again, and stays where it isn't.
+recipe hello 'echo kept; exit 7'
+recipe other 'echo other > other.txt'
+runs "$bitbake" hello
+wants "a body that fails again" 1 "$plan
+failed hello:do_build status 7
+fault 1 failed: hello:do_build"
+runs "$bitbake" other
+wants "a body of another recipe" 0 "plan 1 tasks, 4 threads
+started other:do_build
+ended other:do_build
+ok 0 found, 0 restored, 1 started"
+holds "the log stays" test "$(cat build/bench/log/hello/do_build)" = kept
+holds "nothing is said of it" test ! -s "$room/said"
+recipe hello 'echo hello > hello.txt'
+runs "$bitbake" hello
+wants "a body that is mended" 0 "$done_text"
+holds "the log is gone" test ! -e build/bench/log/hello
+
+# Behind a failed task other tasks run with -k. One log doesn't overwrite another.
+recipe hello 'echo one; exit 3'
+recipe other 'echo two >&2; exit 4'
+printf 'do_build() {\n    echo more > more.txt\n}\naddtask build\n' >recipes/more.bb
+runs "$bitbake" -k hello more other
+wants "two tasks that fail" 1 "plan 3 tasks, 4 threads
+started hello:do_build
+failed hello:do_build status 3
+started more:do_build
+ended more:do_build
+started other:do_build
+failed other:do_build status 4
+fault 1 failed: hello:do_build, other:do_build"
+says "the ends of both logs" <<'END'
+bitbake: hello:do_build failed with status 3; its log is build/bench/log/hello/do_build, which ends with
+| one
+bitbake: other:do_build failed with status 4; its log is build/bench/log/other/do_build, which ends with
+| two
+END
+holds "the log of the one" test "$(cat build/bench/log/hello/do_build)" = one
+holds "the log of the other" test "$(cat build/bench/log/other/do_build)" = two
+holds "no other log" test "$(find build/bench/log build/bench/failed -type f | wc -l)" -eq 2
 
 project kills
 recipe hello 'kill -9 $$'
@@ -345,6 +483,32 @@ runs "$bitbake" hello
 wants "a body that kills itself" 1 "$plan
 failed hello:do_build status 137
 fault 1 failed: hello:do_build"
+says "its status" <<'END'
+bitbake: hello:do_build failed with status 137; its log is build/bench/log/hello/do_build, which is empty
+END
+
+# Laid files have one time of change, so what an earlier task made isn't made again, in whichever order files are laid.
+project times
+printf 'do_compile() {\n    echo b > b; echo a > a; mkdir sub; echo c > sub/c\n}\ndo_build() {\n    stat -c %%Y a b sub/c > times; date > made; test made -nt b\n}\naddtask compile\naddtask build after compile\n' >recipes/hello.bb
+compiled='plan 2 tasks, 4 threads
+started hello:do_compile
+ended hello:do_compile
+started hello:do_build
+ended hello:do_build
+ok 0 found, 0 restored, 2 started'
+runs "$bitbake" hello
+wants "a task over another" 0 "$compiled"
+holds "the times of laid files" test "$(cat build/work/hello/do_build/times)" = '946684800
+946684800
+946684800'
+if command -v make >/dev/null 2>&1; then
+    printf 'do_compile() {\n    printf "a: b\\n\\tcp b a\\n\\techo made >> made\\n" > Makefile; echo b > b; make\n}\ndo_build() {\n    make\n}\naddtask compile\naddtask build after compile\n' >recipes/hello.bb
+    runs "$bitbake" hello
+    wants "make in two tasks" 0 "$compiled"
+    holds "what was made once isn't made again" test "$(cat build/work/hello/do_build/made)" = made
+else
+    echo "skipped make in two tasks: there is no make"
+fi
 
 project talks
 recipe hello 'echo out; echo err >&2; cat; echo "$FOREIGN" > foreign'
@@ -358,10 +522,9 @@ project disk
 recipe hello 'echo hello > hello.txt'
 echo file >build
 runs "$bitbake" hello
-wants "a file where the disk and the benches should be" 4 "$plan
-broke hello:do_build fault
+wants "a file where the disk and the benches should be" 4 "$announced
 fault 4 disk"
-holds "it says why" grep -q '^bitbake: disk: sync of build: ' "$room/said"
+holds "it says why" grep -q '^bitbake: disk: [a-z]* of build[^ ]*: ' "$room/said"
 
 project turns
 recipe hello 'echo >started; sleep 3; echo hello > hello.txt'
@@ -372,14 +535,13 @@ for _ in 1 2 3 4 5 6 7 8 9 10; do
     sleep 0.2
 done
 runs "$program" hello
-wants "a run beside another" 4 "$plan
-broke hello:do_build fault
+wants "a run beside another" 4 "$announced
 fault 4 disk"
-holds "it says that another is at work" grep -qx 'bitbake: disk: sync of build: another run is at work in this folder' "$room/said"
+holds "it says that another is at work" grep -qx 'bitbake: disk: [a-z]* of build[^ ]*: another run is at work in this folder' "$room/said"
 wait "$first"
 holds "the other ends well" test $? -eq 0 -a "$(cat build/work/hello/do_build/hello.txt)" = hello
 runs "$program" hello
-wants "a run behind it" 0 "$done_text"
+wants "a run behind it" 0 "$found_text"
 holds "without a fault nothing is said" test ! -s "$room/said"
 
 project full
@@ -432,6 +594,10 @@ runs "$bitbake" hello
 wants "an output beyond its limit" 1 "$plan
 failed hello:do_build too large
 fault 1 failed: hello:do_build"
+says "there is no log of it" <<'END'
+bitbake: hello:do_build failed: its layout or its output is too large
+END
+holds "no log is kept" test ! -e build/bench/log
 
 # What stood in the work folder before, and all kinds of outputs.
 project old
@@ -456,7 +622,7 @@ recipe hello 'mkdir -p deep/er empty/too; mkfifo pipe
     echo run > deep/er/program; chmod 755 deep/er/program; echo read > deep/text; chmod 654 deep/text
     ln -s deep/text link; ln -s nowhere dangling; ln -s deep folder; echo in > -'
 for turn in first second; do
-    runs "$bitbake" hello
+    runs "$bitbake" -f hello
     wants "outputs of all kinds, $turn" 0 "$done_text"
     holds "what stands there, $turn" test "$(cd build/work/hello/do_build && find . -not -type d | LC_ALL=C sort | tr '\n' ' ')" = './- ./dangling ./deep/er/program ./deep/text ./folder ./link '
     holds "their bytes, $turn" test "$(cd build/work/hello/do_build && cat deep/er/program ./- deep/text)" = 'run
@@ -484,10 +650,10 @@ wants "a file whose name is no text" 6 "fault 6 read"
 project statements
 printf '# a comment\nSUMMARY = "not used"\ndo_build() {\n\techo hello > hello.txt\n}\n\naddtask build\n' >recipes/hello.bb
 runs "$bitbake" hello
-wants "a name with capital letters" 3 "fault 3 NotBuilt"
+wants "a name with capital letters" 0 "$done_text"
 printf '# a comment\n\nsummary = "not used" \ngreeting = \\\n  "also"\ndo_build() {\n\techo hello > hello.txt\n}\n\naddtask build\n' >recipes/hello.bb
 runs "$bitbake" hello
-wants "comments, blanks and assignments" 0 "$done_text"
+wants "comments, blanks and assignments" 0 "$found_text"
 for line in 'A = b' 'python do_x() {' 'fakeroot do_build() {' 'A = "b"c"' 'do_x = "b"'; do
     case $line in
         python*) kind=Python ;;
@@ -517,7 +683,7 @@ elif command -v setpriv >/dev/null 2>&1; then
     chmod 755 "$room" && cp "$program" "$room/program" && chmod 755 "$room/program" && chown -R 65534:65534 .
     runs setpriv --reuid=65534 --regid=65534 --clear-groups "$room/program" hello
     wants "folders and files that are shut" 0 "$done_text"
-    runs setpriv --reuid=65534 --regid=65534 --clear-groups "$room/program" hello
+    runs setpriv --reuid=65534 --regid=65534 --clear-groups "$room/program" -f hello
 fi
 if [ "$(id -u)" -ne 0 ] || command -v setpriv >/dev/null 2>&1; then
     wants "folders and files that are shut, again" 0 "$done_text"
@@ -536,11 +702,172 @@ elif command -v setpriv >/dev/null 2>&1; then
     runs setpriv --reuid=65534 --regid=65534 --clear-groups "$room/program" hello
 fi
 if [ "$(id -u)" -ne 0 ] || command -v setpriv >/dev/null 2>&1; then
-    wants "a disk that may not be written" 4 "$plan
-broke hello:do_build fault
+    wants "a disk that may not be written" 4 "$announced
 fault 4 disk"
-    holds "it says so" grep -qx 'bitbake: disk: sync of build: Permission denied (os error 13)' "$room/said"
+    holds "it says so" grep -qx 'bitbake: disk: [a-z]* of build[^ ]*: Permission denied (os error 13)' "$room/said"
 fi
+
+# Kills: a run that is killed at any moment leaves a store in which the next run is Ok with the clean files, and starts nothing that had
+# ended. Fifty moments of a first run, and fifty of a run behind an edit.
+cp -R "$top/examples/library_and_application" "$room/killed" && rm -rf "$room/killed/build" || exit 1
+cd "$room/killed" || exit 1
+
+# A run behind a killed one. Where that is still on its way out, which the lock tells, it is tried again.
+behind() {
+    for _ in 1 2 3 4 5 6 7 8 9 10; do
+        "$program" app >"$room/text" 2>"$room/said" </dev/null && return 0
+        grep -q 'another run is at work' "$room/said" || return 1
+        sleep 0.1
+    done
+    return 1
+}
+
+# Counts a case: of the project here with this store, a run killed at each of fifty moments, each time from that store, and a run behind it.
+kills() {
+    begun=$(date +%s%N)
+    rm -rf build && cp -R "$2" build || exit 1
+    "$program" app >"$room/text" 2>"$room/said" </dev/null || { echo "FAILED $1: the run that isn't killed"; failed=$((failed + 1)); }
+    took=$((($(date +%s%N) - begun) / 1000000))
+    rm -rf "$room/clean" && cp -R build/work/app/do_build "$room/clean" || exit 1
+    wrong=
+    moment=0
+    while [ "$moment" -lt 50 ]; do
+        moment=$((moment + 1))
+        rm -rf build && cp -R "$2" build || exit 1
+        after=$(awk -v took="$took" -v moment="$moment" 'BEGIN { printf "%.4f", took * moment / 50000 }')
+        (timeout -s KILL "$after" "$program" app >"$room/first" </dev/null; :) 2>/dev/null
+        behind || wrong="$wrong $moment:status"
+        diff -r "$room/clean" build/work/app/do_build >/dev/null || wrong="$wrong $moment:files"
+        sed -n 's/^ended //p' "$room/first" | while read -r task; do grep -qx "started $task" "$room/text" && echo "$task"; done >"$room/again"
+        [ ! -s "$room/again" ] || wrong="$wrong $moment:$(head -n 1 "$room/again")"
+    done
+    if [ -z "$wrong" ]; then
+        passed=$((passed + 1))
+    else
+        echo "FAILED $1: at the moments$wrong"
+        failed=$((failed + 1))
+    fi
+}
+mkdir "$room/nothing" || exit 1
+kills "a first run that is killed" "$room/nothing"
+rm -rf build && "$program" app >/dev/null 2>&1 </dev/null && cp -R build "$room/built" || exit 1
+sed -i 's/hello/goodbye/' meta/recipes-core/greet/greet_1.2.bb
+kills "a run behind an edit that is killed" "$room/built"
+
+# The store by ordinary tools: what a run leaves, as docs/STORE.md shows it.
+project store
+recipe hello 'echo hello > hello.txt'
+runs "$bitbake" hello
+wants "a run over an empty store" 0 "$done_text"
+digest=$(cat build/stamp/hello/do_build)
+record=build/rec/$digest
+sed -n 's/^    \(0[0-9a-f]\{7\}: .*\)$/\1/p' "$top/docs/STORE.md" >"$room/dump"
+holds "the documents have a dump" test -s "$room/dump"
+if command -v xxd >/dev/null 2>&1; then
+    xxd "$record" >"$room/text"
+    holds "the dump in the documents" cmp -s "$room/dump" "$room/text"
+else
+    echo "skipped the dump in the documents: there is no xxd"
+fi
+holds "a record's name" test "$(tail -c +13 "$record" | head -c 92 | sha256sum)" = "$digest  -"
+holds "a digest of the manifest" grep -aq "$(sha256sum <build/work/hello/do_build/hello.txt | cut -c 1-64)" "$record"
+
+# Records, stamps and work folders are as they were when they were kept.
+cp -R build "$room/kept" || exit 1
+is_as_kept() {
+    for folder in rec stamp work; do
+        diff -r "$room/kept/$folder" "build/$folder" >/dev/null || return 1
+    done
+}
+
+# Files of random bytes go, where records and stamps should stand; so does what else a store has no place for.
+mkdir build/stamp/p || exit 1
+head -c 256000 /dev/urandom | split -b 256 -a 4 -x - "build/rec/$(printf '%060d' 0)" || exit 1
+head -c 65000 /dev/urandom | split -b 65 -a 4 -x - build/stamp/p/do_ || exit 1
+holds "2,000 files of random bytes" test "$(find build/rec build/stamp -type f | wc -l)" -eq 2002
+runs "$bitbake" hello
+wants "a run over random files" 0 "$found_text"
+holds "random files are gone" is_as_kept
+mkdir -p build/rec/deep/er build/stamp/p build/tmp/rec && ln -s "$digest" build/rec/link && cp "$record" build/rec/deep/er/record || exit 1
+cp "$record" "build/rec/$(printf '%064d' 1)" && printf '%.63s\n' "$digest" >build/stamp/p/do_short || exit 1
+cp build/stamp/hello/do_build build/stamp/p.txt && cp "$record" build/tmp/rec/ && echo file >build/tmp/file || exit 1
+runs "$bitbake" hello
+wants "a run over odd files" 0 "$found_text"
+holds "odd files are gone" is_as_kept
+holds "nothing stands in the folder of temporary files" test -z "$(find build/tmp -not -type d 2>/dev/null)"
+rm -rf build/tmp build/stamp && echo file >build/tmp && echo file >build/stamp || exit 1
+runs "$bitbake" hello
+wants "a run over files in the places of folders" 0 "$done_text"
+holds "folders are there again" is_as_kept
+
+# A record whose bytes are no record's, or that has another unihash, isn't believed; the run stores it again. One with another manifest
+# is that of a task that gave something else.
+for change in byte unihash end manifest; do
+    case $change in
+        byte) printf x | dd of="$record" bs=1 seek=120 conv=notrunc 2>/dev/null ;;
+        unihash) printf f | dd of="$record" bs=1 seek=193 conv=notrunc 2>/dev/null ;;
+        end) truncate -s -1 "$record" ;;
+        manifest) printf 6 | dd of="$record" bs=1 seek=125 conv=notrunc 2>/dev/null ;;
+    esac
+    runs "$bitbake" hello
+    if [ "$change" = manifest ]; then
+        wants "a record with another $change" 9 "$plan
+broke hello:do_build fault
+fault 9 unsteady hello:do_build"
+        rm "$record" || exit 1
+        runs "$bitbake" hello
+    fi
+    wants "a record with another $change, or without it" 0 "$done_text"
+    holds "the record is whole again, $change" is_as_kept
+done
+
+# A stamp by hand counts as one that a run has left. One that names another record doesn't.
+rm build/stamp/hello/do_build || exit 1
+runs "$bitbake" hello
+wants "a task without its stamp" 0 "$done_text"
+rm build/stamp/hello/do_build && printf '%s\n' "$digest" >build/stamp/hello/do_build || exit 1
+runs "$bitbake" hello
+wants "a stamp by hand" 0 "$found_text"
+printf '%s\n' "$digest" | tr '0-9a-f' '1-9a-f0' >build/stamp/hello/do_build || exit 1
+runs "$bitbake" hello
+wants "a stamp by hand that names another record" 0 "$done_text"
+holds "the stamp is written again" is_as_kept
+
+# What it costs to delete by hand, of a task of the shared state and one that isn't.
+mkdir conf && echo 'SSTATETASKS = "do_build"' >conf/bitbake.conf && rm -rf build || exit 1
+restored_text="$announced
+restored hello:do_build
+ok 0 found, 1 restored, 0 started"
+runs "$bitbake" hello
+wants "a task of the shared state" 0 "$done_text"
+object=$(find build/obj -name hello.txt)
+holds "its object" test "$(cat "$object")" = hello
+for deleted in stamp work; do
+    rm -r "build/$deleted/hello" || exit 1
+    runs "$bitbake" hello
+    wants "without its $deleted folder" 0 "$restored_text"
+    holds "the output without its $deleted folder" test "$(cat build/work/hello/do_build/hello.txt)" = hello
+done
+for deleted in obj tmp; do
+    rm -rf "build/$deleted" || exit 1
+    runs "$bitbake" hello
+    wants "without the folder $deleted" 0 "$found_text"
+done
+holds "the object stays away" test ! -e build/obj
+runs "$bitbake" -f hello
+wants "the task again" 0 "$done_text"
+holds "the object is there again" test "$(cat "$object")" = hello
+printf j | dd of="$object" bs=1 conv=notrunc 2>/dev/null
+rm build/stamp/hello/do_build || exit 1
+runs "$bitbake" hello
+wants "an object of which one byte is another one" 0 "$done_text"
+holds "the object is as it was" test "$(cat "$object")" = hello
+rm build/rec/* || exit 1
+runs "$bitbake" hello
+wants "without its record" 0 "$done_text"
+rm -r build || exit 1
+runs "$bitbake" hello
+wants "without the store" 0 "$done_text"
 
 # The case files, by this program over real folders.
 python3 "$top/tests/cases.py" --program "$program" >"$room/cases"
