@@ -1,5 +1,5 @@
 -- The search for the plan of a request, and what follows of it.
-use Rattle.std.proofs.Common.{◌≡◌, inl, inr, subst, ℕ, Bool, List, [], Result, Ok, Err}
+use Rattle.std.proofs.Common.{◌≡◌, inl, inr, subst, ℕ, List, [], Result, Ok, Err}
 use Rattle.std.specs.Prelude.{Option, IfErr, IfOk}
 use Rattle.outside_traits.specs.Store.{IsListing}
 use Rattle.meta_model.specs.declared.event.Status.{Status}

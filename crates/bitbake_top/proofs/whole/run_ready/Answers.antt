@@ -42,8 +42,8 @@ returns-clause-exactly g c d b gives all reading book may wanted disk benches si
     let entry = as_entry (g.B.Bench.gives bench) reading book held plan c.requires.sound c.requires.spellings (subst (λ (x : Gives). MayBegin x reading book held plan) (sym own) may) in
     subst (λ (x : Gives). (c.build-plan.result.status ≡ status.Ok) ↔ AllClean x plan) own
     (c.build-plan.ensures.exactly d b reading book entry wanted disk
-      (last_stays c.args.benches.items c.push_reserved-3.new.self.items c.take_last-bench.new.benches.items bench c.build-plan.result.bench c.take_last-bench.ensures.items c.push_reserved-3.ensures.items g.B.Bench.faults benches)
-      sink (certain_ample c.build-plan.result.status certain) (certain_apart c.build-plan.result.status certain))
+    (last_stays c.args.benches.items c.push_reserved-3.new.self.items c.take_last-bench.new.benches.items bench c.build-plan.result.bench c.take_last-bench.ensures.items c.push_reserved-3.ensures.items g.B.Bench.faults benches)
+    sink (certain_ample c.build-plan.result.status certain) (certain_apart c.build-plan.result.status certain))
 
 pub returns-clause-text : goal.returns-clause-text
 returns-clause-text g c told base before lt said =
@@ -62,8 +62,8 @@ returns-clause-printed g c told b base said =
     (one_behind c.args.room.plans.items c.push_reserved.new.self.items c.build-plan.result.plan c.requires.none.0 c.push_reserved.ensures.items ∙ ap (λ p. p ∷ []) c.build-plan.ensures.plan)
     (one_behind c.args.room.tales.items c.push_reserved-2.new.self.items c.from_vec.result c.requires.none.1 c.push_reserved-2.ensures.items ∙ ap (λ t. t ∷ []) c.from_vec.ensures)
     (on_last c.args.benches.items c.push_reserved-3.new.self.items c.take_last-bench.new.benches.items bench c.build-plan.result.bench c.take_last-bench.ensures.items c.push_reserved-3.ensures.items
-      (λ x. (g.B.Bench.place x).runs) (λ o n. RanPrinted plan tale o n (base ++ plan_text plan) now)
-      (subst (λ (m : List ℕ). RanPrinted plan tale (g.B.Bench.place bench).runs (g.B.Bench.place c.build-plan.result.bench).runs m now) said (c.build-plan.ensures.printed told b)))
+    (λ x. (g.B.Bench.place x).runs) (λ o n. RanPrinted plan tale o n (base ++ plan_text plan) now)
+    (subst (λ (m : List ℕ). RanPrinted plan tale (g.B.Bench.place bench).runs (g.B.Bench.place c.build-plan.result.bench).runs m now) said (c.build-plan.ensures.printed told b)))
 
 pub returns-clause-causes : goal.returns-clause-causes
 returns-clause-causes g c before lt =
