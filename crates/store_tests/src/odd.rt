@@ -6,58 +6,65 @@ use std::alloc::Global;
 use std::test::Fail;
 
 /// The path of a record.
-const NAME: &str = "rec/eeeec58cdee951dd9059c6053e2d2dfd10f1a534908f27d6241ec8240ad759e9";
+const NAME: &str = "rec/200d8cacc48a20f9fd4ed575b3641e101c1fc914cfeaaded1ecf8e6d25a6935d";
 
-/// The record there.
+/// The record there: of a task that gave nothing.
 const RECORD: &[u8] =
-    b"6:bbrec1,92:6:bbsig1,5:hello,8:do_build,1;8:do_build,+27:    echo hello > hello.txt\n,0;1;4:func,1:1,0;0;,1;9:hello.txt,f6;64:5891b5b522d5df086d0ff0b110fbd9d21bb4fc7163af34d08286a2e846f6be03,64:eeeec58cdee951dd9059c6053e2d2dfd10f1a534908f27d6241ec8240ad759e9,";
+    b"6:bbrec1,23:6:bbsig1,1:p,1:a,0;0;0;,0;64:200d8cacc48a20f9fd4ed575b3641e101c1fc914cfeaaded1ecf8e6d25a6935d,";
 
 /// It without its last byte.
 const CUT_RECORD: &[u8] =
-    b"6:bbrec1,92:6:bbsig1,5:hello,8:do_build,1;8:do_build,+27:    echo hello > hello.txt\n,0;1;4:func,1:1,0;0;,1;9:hello.txt,f6;64:5891b5b522d5df086d0ff0b110fbd9d21bb4fc7163af34d08286a2e846f6be03,64:eeeec58cdee951dd9059c6053e2d2dfd10f1a534908f27d6241ec8240ad759e9";
+    b"6:bbrec1,23:6:bbsig1,1:p,1:a,0;0;0;,0;64:200d8cacc48a20f9fd4ed575b3641e101c1fc914cfeaaded1ecf8e6d25a6935d";
 
-/// The path of another one.
-const ABOVE: &str = "rec/633f7a1dc26a1bc8b628c8a9032554e8e2ca041ba451a8d67d083c66327d215f";
+/// It with the name of the next record as its unihash.
+const TURNED: &[u8] =
+    b"6:bbrec1,23:6:bbsig1,1:p,1:a,0;0;0;,0;64:3e874e7871c86c8b314d5cf99c7f54fd3bcccaba9a300f8eb03918a28b4f2a48,";
 
-/// The record of a task that needs the first one.
-const NEEDS: &[u8] =
-    b"6:bbrec1,120:6:bbsig1,5:hello,7:do_more,0;0;1;5:hello,8:do_build,64:eeeec58cdee951dd9059c6053e2d2dfd10f1a534908f27d6241ec8240ad759e9,,0;64:633f7a1dc26a1bc8b628c8a9032554e8e2ca041ba451a8d67d083c66327d215f,";
+/// The path of the record of another signature of that task.
+const OTHER: &str = "rec/3e874e7871c86c8b314d5cf99c7f54fd3bcccaba9a300f8eb03918a28b4f2a48";
 
-/// The path of the record of another signature of the first task.
-const OTHER: &str = "rec/47de6ef8c7bb852d909e09ca349c059cca7109ecbaf5011449746adcdb435cbe";
-
-/// The record there, which has the first record's output and its unihash.
+/// The record there, which has the output and the unihash of the first one.
 const SHARES: &[u8] =
-    b"6:bbrec1,34:6:bbsig1,5:hello,8:do_build,0;0;0;,1;9:hello.txt,f6;64:5891b5b522d5df086d0ff0b110fbd9d21bb4fc7163af34d08286a2e846f6be03,64:eeeec58cdee951dd9059c6053e2d2dfd10f1a534908f27d6241ec8240ad759e9,";
+    b"6:bbrec1,28:6:bbsig1,1:p,1:a,1;1:x,-0;0;,0;64:200d8cacc48a20f9fd4ed575b3641e101c1fc914cfeaaded1ecf8e6d25a6935d,";
 
-/// The first record with the name of that one as its unihash.
-const SHARES_BACK: &[u8] =
-    b"6:bbrec1,92:6:bbsig1,5:hello,8:do_build,1;8:do_build,+27:    echo hello > hello.txt\n,0;1;4:func,1:1,0;0;,1;9:hello.txt,f6;64:5891b5b522d5df086d0ff0b110fbd9d21bb4fc7163af34d08286a2e846f6be03,64:47de6ef8c7bb852d909e09ca349c059cca7109ecbaf5011449746adcdb435cbe,";
+/// One with that unihash, and another output.
+const DIFFERS: &[u8] =
+    b"6:bbrec1,28:6:bbsig1,1:p,1:a,1;1:x,-0;0;,1;1:f,f0;64:e3b0c44298fc1c149afbf4c8996fb92427ae41e4649b934ca495991b7852b855,64:200d8cacc48a20f9fd4ed575b3641e101c1fc914cfeaaded1ecf8e6d25a6935d,";
 
-/// A record there with the first record's unihash, and another output.
-const SHARES_NOTHING: &[u8] =
-    b"6:bbrec1,34:6:bbsig1,5:hello,8:do_build,0;0;0;,0;64:eeeec58cdee951dd9059c6053e2d2dfd10f1a534908f27d6241ec8240ad759e9,";
+/// The path of the record of another task.
+const BESIDE: &str = "rec/59126f4767b089742cccdef9209bebfe98721ed0205b33ae7fd0793e69561f73";
 
-/// The path of a record of another task of the same recipe.
-const BESIDE: &str = "rec/28c2edc729e90765627d191798586212d26d761877e72a68ae3d0145382f0f01";
+/// The record there, which has the output and the unihash of the first one.
+const ASIDE: &[u8] =
+    b"6:bbrec1,23:6:bbsig1,1:p,1:c,0;0;0;,0;64:200d8cacc48a20f9fd4ed575b3641e101c1fc914cfeaaded1ecf8e6d25a6935d,";
 
-/// The record there, which has the first record's output and its unihash.
-const SHARES_ASIDE: &[u8] =
-    b"6:bbrec1,33:6:bbsig1,5:hello,7:do_more,0;0;0;,1;9:hello.txt,f6;64:5891b5b522d5df086d0ff0b110fbd9d21bb4fc7163af34d08286a2e846f6be03,64:eeeec58cdee951dd9059c6053e2d2dfd10f1a534908f27d6241ec8240ad759e9,";
+/// The path of the record of a task that needs the first one.
+const ABOVE: &str = "rec/d4f39412da373f2bf16fa505ecfbe2e78ade3f66f3ec56afd737c01da2fa768d";
+
+/// The record there.
+const NEEDS: &[u8] =
+    b"6:bbrec1,99:6:bbsig1,1:p,1:d,0;0;1;1:p,1:a,64:200d8cacc48a20f9fd4ed575b3641e101c1fc914cfeaaded1ecf8e6d25a6935d,,0;64:d4f39412da373f2bf16fa505ecfbe2e78ade3f66f3ec56afd737c01da2fa768d,";
 
 /// The text of a stamp.
-const DIGEST: &[u8] = b"eeeec58cdee951dd9059c6053e2d2dfd10f1a534908f27d6241ec8240ad759e9\n";
+const DIGEST: &[u8] = b"200d8cacc48a20f9fd4ed575b3641e101c1fc914cfeaaded1ecf8e6d25a6935d\n";
 
-/// The digest without the end of its line.
-const CUT_DIGEST: &[u8] = b"eeeec58cdee951dd9059c6053e2d2dfd10f1a534908f27d6241ec8240ad759e9";
+/// It without the end of its line, with a digit less, and with a capital one.
+const CUT_DIGEST: &[u8] = b"200d8cacc48a20f9fd4ed575b3641e101c1fc914cfeaaded1ecf8e6d25a6935d";
 
-/// One digit less, and one that is none.
-const SHORT_DIGEST: &[u8] = b"eeeec58cdee951dd9059c6053e2d2dfd10f1a534908f27d6241ec8240ad759e\n";
+const SHORT_DIGEST: &[u8] = b"200d8cacc48a20f9fd4ed575b3641e101c1fc914cfeaaded1ecf8e6d25a6935\n";
 
-const CAPITAL_DIGEST: &[u8] = b"Eeeec58cdee951dd9059c6053e2d2dfd10f1a534908f27d6241ec8240ad759e9\n";
+const CAPITAL_DIGEST: &[u8] = b"A00d8cacc48a20f9fd4ed575b3641e101c1fc914cfeaaded1ecf8e6d25a6935d\n";
 
 /// A file and, where it has a path, another one; and how many of them opening leaves.
-const ROWS: [(&str, &[u8], &str, &[u8], usize); 23] = [
+type Row = (
+    &'static str,
+    &'static [u8],
+    &'static str,
+    &'static [u8],
+    usize,
+);
+
+const RECORDS: [Row; 15] = [
     (NAME, RECORD, "", b"", 1),
     (NAME, RECORD, ABOVE, NEEDS, 2),
     // a dependency that isn't there, or isn't believed
@@ -66,12 +73,11 @@ const ROWS: [(&str, &[u8], &str, &[u8], usize); 23] = [
     // the unihash of a record of the same task and output; of one that isn't there, has another output, or is of another task
     (NAME, RECORD, OTHER, SHARES, 2),
     (OTHER, SHARES, "", b"", 0),
-    (NAME, RECORD, OTHER, SHARES_NOTHING, 1),
-    (NAME, RECORD, BESIDE, SHARES_ASIDE, 1),
+    (NAME, RECORD, OTHER, DIFFERS, 1),
+    (NAME, RECORD, BESIDE, ASIDE, 1),
     // two records that have one another's name as unihash
-    (NAME, SHARES_BACK, OTHER, SHARES, 0),
-    // cut short, another record, and none at all
-    (NAME, CUT_RECORD, "", b"", 0),
+    (NAME, TURNED, OTHER, SHARES, 0),
+    // another record, and none at all
     (NAME, NEEDS, ABOVE, RECORD, 0),
     (NAME, b"", "", b"", 0),
     // a name that isn't its digest, and names that are none
@@ -79,6 +85,9 @@ const ROWS: [(&str, &[u8], &str, &[u8], usize); 23] = [
     ("rec/hello", RECORD, "", b"", 0),
     ("rec/a/b", RECORD, "rec/a/c", b"", 0),
     ("rec", RECORD, "", b"", 0),
+];
+
+const OTHERS: [Row; 7] = [
     // stamps, of whatever record
     ("stamp/p/t", DIGEST, "stamp/p/u", b"hello\n", 1),
     ("stamp/p", DIGEST, "", b"", 0),
@@ -104,18 +113,25 @@ fn left(alloc: Global, path: &str, bytes: &[u8], other: &str, more: &[u8]) -> Re
 }
 
 /// Whether opening leaves as many files as each row says.
-fn are_left(alloc: Global) -> Result<bool, Fail> {
-    for (path, bytes, other, more, want) in ROWS {
-        if left(alloc, path, bytes, other, more)? != want {
+fn are_left(alloc: Global, rows: &[Row]) -> Result<bool, Fail> {
+    for (path, bytes, other, more, want) in rows {
+        if left(alloc, path, bytes, other, more)? != *want {
             return Ok(false);
         }
     }
     Ok(true)
 }
 
-/// What stands under `rec/`, `stamp/` and `tmp/` goes, but for records that are believed and stamps.
+/// What stands under `rec/` goes, but for records that are believed.
 #[test]
-fn odd_files_go(rt: HostRuntime) -> Result<(), Fail> {
-    assert!(rt; are_left(rt.alloc())?);
+fn odd_records_go(rt: HostRuntime) -> Result<(), Fail> {
+    assert!(rt; are_left(rt.alloc(), &RECORDS)?);
+    Ok(())
+}
+
+/// What stands under `stamp/` goes, but for stamps, and all under `tmp/`.
+#[test]
+fn other_odd_files_go(rt: HostRuntime) -> Result<(), Fail> {
+    assert!(rt; are_left(rt.alloc(), &OTHERS)?);
     Ok(())
 }
