@@ -1,7 +1,7 @@
 #!/bin/sh
 # How long runs take over 1,000 recipes with two tasks each, in a folder in memory. No part of the gate.
 #
-# Recipe N needs recipes 2N and 2N+1; its do_compile writes a file, its do_install copies that. Measured by the clock, the best of
+# Recipe N needs recipes 2N and 2N+1; its do_compile writes a file of what these gave and a line of its own, its do_install copies that. Measured by the clock, the best of
 # three:
 # - a first run, against `sh` that does the same by hand: for each task a folder of its own, what it needs laid there, its script
 #   by a `sh` of its own, and a sync of what it gave; and against `ninja -j 1` over the same scripts, where ninja is installed.
@@ -19,7 +19,8 @@ mkdir -p "$room/conf" "$room/classes" "$room/recipes"
 echo 'BB_NUMBER_THREADS = "1"' > "$room/conf/bitbake.conf"
 cat > "$room/classes/two.bbclass" <<'END'
 addtask compile
-addtask install after do_compile before do_build
+addtask install after do_compile
+addtask build after do_install
 do_compile[deptask] = "do_install"
 do_install() {
     cp compiled.txt installed.txt
@@ -33,7 +34,9 @@ awk -v folder="$room/recipes" -v count="$count" 'BEGIN {
         if (2 * n + 1 <= count) needs = needs " r" 2 * n + 1
         print "inherit two" > file
         printf "DEPENDS = \"%s\"\n", needs > file
-        printf "do_compile() {\n    echo the output of recipe %d > compiled.txt\n}\n", n > file
+        print "do_compile() {" > file
+        if (needs != "") print "    cat \"${DEPSDIR}\"/*/do_install/installed.txt > compiled.txt" > file
+        printf "    echo the output of recipe %d >> compiled.txt\n}\n", n > file
         close(file)
     }
 }'
@@ -61,7 +64,7 @@ awk -v count="$count" 'BEGIN {
     for (n = count; n >= 1; n--) {
         printf "mkdir -p r%d/compile r%d/install\n", n, n
         for (d = 2 * n; d <= 2 * n + 1; d++) if (d <= count) printf "cp r%d/install/installed.txt r%d/compile/needed-%d.txt\n", d, n, d
-        printf "(cd r%d/compile && sh -c \"echo the output of recipe %d > compiled.txt\") || exit 1\n", n, n
+        printf "(cd r%d/compile && sh -c \"%s echo the output of recipe %d >> compiled.txt\") || exit 1\n", n, (2 * n <= count ? "cat needed-*.txt > compiled.txt;" : ""), n
         printf "sync r%d/compile/compiled.txt r%d/compile\n", n, n
         printf "cp r%d/compile/compiled.txt r%d/install/\n", n, n
         printf "(cd r%d/install && sh -c \"cp compiled.txt installed.txt\") || exit 1\n", n, n
@@ -71,12 +74,12 @@ awk -v count="$count" 'BEGIN {
 
 # The same for ninja.
 awk -v count="$count" 'BEGIN {
-    print "rule compile\n  command = mkdir -p $dir && cd $dir && echo the output of recipe $n > compiled.txt && sync compiled.txt ."
+    print "rule compile\n  command = mkdir -p $dir && cat $needs /dev/null > $dir/compiled.txt && cd $dir && echo the output of recipe $n >> compiled.txt && sync compiled.txt ."
     print "rule install\n  command = cd $dir && cp compiled.txt installed.txt && sync installed.txt ."
     for (n = count; n >= 1; n--) {
         needs = ""
         for (d = 2 * n; d <= 2 * n + 1; d++) if (d <= count) needs = needs " ninja/r" d "/installed.txt"
-        printf "build ninja/r%d/compiled.txt: compile | %s\n  dir = ninja/r%d\n  n = %d\n", n, needs, n, n
+        printf "build ninja/r%d/compiled.txt: compile | %s\n  dir = ninja/r%d\n  n = %d\n  needs = %s\n", n, needs, n, n, needs
         printf "build ninja/r%d/installed.txt: install ninja/r%d/compiled.txt\n  dir = ninja/r%d\n", n, n, n
     }
     print "default ninja/r1/installed.txt"
