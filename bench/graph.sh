@@ -1,6 +1,6 @@
 #!/bin/sh
-# How fast the graph of tasks is built: a run of the last of 200 and of 2,000 recipes, 6,500 and 65,000 tasks, of which each needs eight
-# others on average. No part of the gate.
+# How fast the graph and the plan of tasks are made: `-n` of the last of 200 and of 2,000 recipes, 6,500 and 65,000 tasks, of which each needs
+# eight others on average. No part of the gate.
 #
 # Prints the processor time of the whole program from which `-p` over the same project is taken away, the best of five runs, and how
 # many times longer the large graph takes. It is to take less than two seconds, and at most 14 times as long.
@@ -31,7 +31,7 @@ graph "$scratch/large" 2000
 for size in small large; do
     targets=r200
     [ "$size" = small ] || targets=r2000
-    whole=$(best 5 "$scratch/$size" "$program" "$targets")
+    whole=$(best 5 "$scratch/$size" "$program" -n "$targets")
     read=$(best 5 "$scratch/$size" "$program" -p)
     each=$(awk -v whole="$whole" -v read="$read" 'BEGIN { print whole - read }')
     echo "$size: $each ms, beside $read ms of reading"
