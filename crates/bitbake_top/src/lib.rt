@@ -10,7 +10,8 @@
 //! The plan of targets is defined in `run_plan`, the clean build in `meta_model`, stores and reuse in `store_model` and `build_store`,
 //! the text of a run in `bb_report`, the text of a mode in `read_modes`, the reading of words in `command_words`.
 //!
-//! Promised of a run that may begin on what the disk holds (an empty disk, or what a crash of any earlier run left: `begin_laws`):
+//! Promised of a run that may begin on what the disk holds (`MayBegin`): an empty disk, or what a crash of any earlier run left, where its
+//! plan may reuse the book there (`begin_laws`):
 //!
 //! - under `Ok` each target's folder holds exactly its clean output, in every image of the disk;
 //! - whatever the status is, every crash leaves a store in which the next run may begin;

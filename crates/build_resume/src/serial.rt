@@ -183,7 +183,7 @@ pub fn build<D: Disk, B: Bench, W: Sink>(
     // Whatever the status is, each crash since the run began leaves a valid store.
     ensures crashes { D.tells → B.tells → (reading : Reading) (book : Book) → IsEntry (B.gives bench) reading book (D.story disk).held plan → (image : Held) → IsImageSince (D.story result.disk) 0 image → IsCrash (B.gives bench) reading book image }
 
-    // Whatever the status is, each crash since the run began leaves the other tasks' outputs as they were.
+    // Whatever the status is, each crash since the run began leaves the plan's tasks alone that the tale doesn't start and that had no object.
     ensures others { D.tells → B.tells → (reading : Reading) (book : Book) → IsEntry (B.gives bench) reading book (D.story disk).held plan → (image : Held) → IsImageSince (D.story result.disk) 0 image → LeavesOthers (B.gives bench) book (D.story disk).held plan options result.tale.items image }
 
     // No output is found to differ from one run to another.
