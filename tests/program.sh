@@ -544,6 +544,31 @@ runs "$program" hello
 wants "a run behind it" 0 "$found_text"
 holds "without a fault nothing is said" test ! -s "$room/said"
 
+project orphan
+recipe hello 'echo >started; i=0; while test ! -e ../../../../go -a $i -lt 100; do i=$((i + 1)); sleep 0.1; done; rm started; echo hello > hello.txt'
+"$program" hello >"$room/first" 2>&1 </dev/null &
+first=$!
+for _ in 1 2 3 4 5 6 7 8 9 10; do
+    test -e build/bench/16/work/started && break
+    sleep 0.2
+done
+kill -9 "$first" && wait "$first" 2>/dev/null
+runs "$program" hello
+wants "a run beside the script of a killed one" 5 "$plan
+broke hello:do_build bench
+fault 5 bench"
+holds "it says that the script is at work" grep -qx 'bitbake: bench: clearing of build/bench/16: a script of an earlier run is still at work there' "$room/said"
+holds "the script's folder stays" test -e build/bench/16/work/started
+touch go
+for _ in 1 2 3 4 5 6 7 8 9 10; do
+    test -e build/bench/16/work/hello.txt && break
+    sleep 0.2
+done
+sleep 0.2
+runs "$program" hello
+wants "a run behind the script" 0 "$done_text"
+holds "its own output" test "$(cat build/work/hello/do_build/hello.txt)" = hello -a ! -e build/work/hello/do_build/started
+
 project full
 recipe hello 'head -c 200000 /dev/zero > hello.txt'
 mkdir build

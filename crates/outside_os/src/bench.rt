@@ -5,6 +5,7 @@ use crate::faults::{FirstFault, is_memory, one_more};
 use crate::folder::{
     Item, Part, is_too_long, join, list_items, look, open_up, put_entry, read_entry,
 };
+use crate::lock::BenchLock;
 use crate::runs::{FailedRun, LOG, Runs};
 use outside_traits::{Bench, BenchFault, Taken};
 use std::alloc::{AllocError, Global};
@@ -12,7 +13,7 @@ use std::env::VarError;
 use std::fs::{File, FileTimes};
 use std::io::ErrorKind;
 use std::os::unix::process::ExitStatusExt;
-use std::process::{Command, ExitStatus, Processes, Stdio};
+use std::process::{Command, ExitStatus, Processes};
 use std::rt::{Env, Files};
 use std::time::{Duration, UNIX_EPOCH};
 use std::{env, fs, io};
@@ -41,11 +42,17 @@ const LAID_AT: u64 = 946_684_800;
 /// that no script sees when or in which order they were laid; what a script makes has the time of its making. It tells
 /// nothing.
 ///
+/// The first clearing takes the lock of the bench, on the empty file `build/bench/K.lock`. The object has it as long as it
+/// is there, and so has each script, whose input that file is. While a script of an earlier process has it, which may still
+/// write into the folder, clearing is a fault and nothing in the folder is touched. A bench that was never cleared runs
+/// nothing.
+///
 /// The log of a script that fails is kept in a file of its own; `failed_runs` says where.
 #[derive(Drop)]
 pub struct ShBench<R> {
     rt: R,
     folder: String,
+    lock: BenchLock,
     runs: Runs,
     faults: u64,
     first: FirstFault,
@@ -85,10 +92,12 @@ impl<R: Files<File = File> + Env + Processes + AllocGlobal + Clone + Drop> ShBen
     /// The bench of a number, without a fault so far.
     pub fn new(rt: R, number: u32) -> Result<Self, AllocError> {
         let folder = format!(in rt.alloc(); "build/bench/{number}")?;
+        let lock = BenchLock::none(rt.alloc(), number)?;
         let runs = Runs::none(rt.alloc(), number)?;
         Ok(ShBench {
             rt,
             folder,
+            lock,
             runs,
             faults: 0,
             first: FirstFault::none(),
@@ -111,6 +120,7 @@ impl<R: Files<File = File> + Env + Processes + AllocGlobal + Clone + Drop> ShBen
         join(self.rt.alloc(), bench.as_str(), part)
     }
 
+    /// Clears the bench, whose lock is taken.
     fn try_clear(&self) -> io::Result<()> {
         if self.runs.is_empty() {
             // Logs of an earlier process. Where they can't go, a log that can't be kept for it says so.
@@ -155,7 +165,7 @@ impl<R: Files<File = File> + Env + Processes + AllocGlobal + Clone + Drop> ShBen
 
     /// Runs a command, whose output goes to this file, and gives its status.
     fn run_logged(&self, mut command: Command, log: File) -> io::Result<u32> {
-        command.stdin(Stdio::null());
+        command.stdin(self.lock.input()?);
         command.stdout(log.try_clone()?);
         command.stderr(log);
         Ok(status_of(command.status(&self.rt)?))
@@ -238,7 +248,10 @@ impl<R: Files<File = File> + Env + Processes + AllocGlobal + Clone + Drop> Bench
     ghost faults = { λ s. s.faults };
 
     fn clear(&mut self, _alloc: Global) -> Result<(), BenchFault> {
-        let done = self.try_clear();
+        let done = match self.lock.take(&self.rt) {
+            Ok(()) => self.try_clear(),
+            Err(error) => Err(error),
+        };
         self.count("clearing", done)
     }
 

@@ -3,10 +3,11 @@ ghost use Rattle.std.specs.Prelude.{[], None};
 
 use crate::faults::{FirstFault, is_memory, one_more};
 use crate::folder::{
-    Part, is_empty, is_entry, is_reached, join, list_items, look, look_through, move_entry,
-    no_memory, put_entry, read_entry,
+    Part, is_empty, is_entry, join, lay_entry, list_items, look, look_through, move_entry,
+    no_memory, read_entry,
 };
-use crate::lock::Locking;
+use crate::lock::{BENCHES_FOLDER, LOCK, Locking};
+use crate::seen::SeenFolders;
 use outside_traits::{Disk, DiskFault};
 use std::alloc::{AllocError, Global};
 use std::collections::BTreeSet;
@@ -22,11 +23,6 @@ const ROOT: &str = "build";
 /// The folder in it that the benches have: no part of the disk.
 const BENCHES: &str = "bench";
 
-/// The folder of the benches, and the file in it whose lock a run has, from the current folder.
-const BENCHES_FOLDER: &str = "build/bench";
-
-const LOCK: &str = "build/bench/lock";
-
 /// The folder above the root, where the root's own name stands.
 const HERE: &str = ".";
 
@@ -38,6 +34,9 @@ const HERE: &str = ".";
 ///
 /// The first call takes the lock of a run, on the file `build/bench/lock`, and the object has it as long as it is there.
 /// Where another process has it that call is a fault, as is each later one until the lock is free, and nothing is touched.
+/// With the lock held nothing else changes the folders of the disk, so the object looks once at each folder that an entry
+/// has above it, until it takes that folder away itself. Where somebody removes such a folder by hand, a write into it is
+/// a fault.
 #[derive(Drop)]
 pub struct FolderDisk<R> {
     folder: BuildFolder<R>,
@@ -61,6 +60,9 @@ struct BuildFolder<R> {
 
     /// The folders that a sync of this object has made durable, and their names with them.
     settled: BTreeSet<String>,
+
+    /// The folders that aren't looked at again.
+    seen: SeenFolders,
 }
 
 impl<R: AllocGlobal> FolderDisk<R> {
@@ -73,12 +75,14 @@ impl<R: AllocGlobal> FolderDisk<R> {
     {
         let changed = BTreeSet::new(rt.alloc());
         let settled = BTreeSet::new(rt.alloc());
+        let seen = SeenFolders::none(rt.alloc());
         FolderDisk {
             folder: BuildFolder {
                 rt,
                 lock: None,
                 changed,
                 settled,
+                seen,
             },
             calls: 0,
             faults: 0,
@@ -184,20 +188,23 @@ impl<R: Files + Locking + AllocGlobal + Clone + Drop> BuildFolder<R> {
         Ok(())
     }
 
-    /// Whether an entry can stand at a path: a clean one, outside the benches, that has only folders above it.
-    fn is_open(&self, path: &str) -> io::Result<bool> {
+    /// The place, from the current folder, of a path at which an entry can stand: a clean one, outside the benches, that
+    /// has only folders above it.
+    fn open_place(&mut self, path: &str) -> io::Result<Option<String>> {
         if !is_clean(path) || is_below(BENCHES, path) {
-            return Ok(false);
+            return Ok(None);
         }
-        is_reached(&self.rt, ROOT, path)
+        if !self.seen.is_reached(&self.rt, ROOT, path)? {
+            return Ok(None);
+        }
+        Ok(Some(join(self.rt.alloc(), ROOT, path)?))
     }
 
     fn read(&mut self, path: &str) -> io::Result<Option<Entry>> {
         self.hold()?;
-        if !self.is_open(path)? {
+        let Some(whole) = self.open_place(path)? else {
             return Ok(None);
-        }
-        let whole = join(self.rt.alloc(), ROOT, path)?;
+        };
         match look(&self.rt, whole.as_str())? {
             Some(metadata) if is_entry(&metadata) => {
                 read_entry(&self.rt, whole.as_str(), &metadata, u64::MAX)
@@ -216,28 +223,32 @@ impl<R: Files + Locking + AllocGlobal + Clone + Drop> BuildFolder<R> {
         if let Entry::File { exec: _, bytes: _ } = entry {
             note(&mut self.changed, self.rt.alloc(), whole.as_str())?;
         }
-        put_entry(&self.rt, ROOT, path, entry, None)
+        self.seen.make_above(&self.rt, ROOT, path)?;
+        self.seen.forget(whole.as_str());
+        lay_entry(&self.rt, whole.as_str(), entry, None)
     }
 
     fn rename(&mut self, from: &str, to: &str) -> io::Result<()> {
         self.hold()?;
-        if is_below(BENCHES, to) || !self.is_open(from)? {
-            return Err(io::Error::from(ErrorKind::InvalidInput));
-        }
-        let source = join(self.rt.alloc(), ROOT, from)?;
+        let source = match self.open_place(from)? {
+            Some(source) if !is_below(BENCHES, to) => source,
+            _ => return Err(io::Error::from(ErrorKind::InvalidInput)),
+        };
         let target = join(self.rt.alloc(), ROOT, to)?;
         self.note_above(source.as_str())?;
         self.note_above(target.as_str())?;
-        move_entry(&self.rt, ROOT, from, to)?;
+        self.seen.make_above(&self.rt, ROOT, to)?;
+        self.seen.forget(source.as_str());
+        self.seen.forget(target.as_str());
+        move_entry(&self.rt, source.as_str(), target.as_str())?;
         self.remove_empty_above(source.as_str())
     }
 
     fn remove(&mut self, path: &str) -> io::Result<()> {
         self.hold()?;
-        if !self.is_open(path)? {
+        let Some(whole) = self.open_place(path)? else {
             return Ok(());
-        }
-        let whole = join(self.rt.alloc(), ROOT, path)?;
+        };
         match look(&self.rt, whole.as_str())? {
             Some(metadata) if is_entry(&metadata) => {
                 self.note_above(whole.as_str())?;
@@ -284,6 +295,7 @@ impl<R: Files + Locking + AllocGlobal + Clone + Drop> BuildFolder<R> {
             self.note_above(folder)?;
             fs::remove_dir(&self.rt, folder)?;
             self.settled.remove(folder);
+            self.seen.forget_empty(folder);
             folder = above(folder);
         }
         Ok(())

@@ -97,17 +97,22 @@ fn is_folder<R: Files + AllocGlobal>(rt: &R, root: &str, path: &str) -> io::Resu
     Ok(true)
 }
 
-/// What a file has, or `None` where that is more than `max` bytes. Reads at most one byte more than `max`.
-pub fn read_bytes<R: Files + AllocGlobal>(rt: &R, path: &str, max: u64) -> io::Result<Option<Bytes>>
+/// The bytes of a file that had this size when it was looked at, or `None` where it had or has more than `max`. Reads
+/// at most one byte more than `max`.
+pub fn read_bytes<R: Files + AllocGlobal>(
+    rt: &R,
+    path: &str,
+    size: u64,
+    max: u64,
+) -> io::Result<Option<Bytes>>
     ensures { IfOk result (λ found. IfSome found (λ bytes. length bytes ≤ max)) }
 {
-    let file = fs::open(rt, path)?;
-    let length = file.metadata()?.len();
-    if length > max {
+    if size > max {
         return Ok(None);
     }
+    let file = fs::open(rt, path)?;
     // By the room of one byte more the end is seen without growing.
-    let mut bytes = Vec::with_capacity(rt.alloc(), length.saturating_add(1) as usize)?;
+    let mut bytes = Vec::with_capacity(rt.alloc(), size.saturating_add(1) as usize)?;
     file.take(max.saturating_add(1)).read_to_end(&mut bytes)?;
     if bytes.len() as u64 > max {
         return Ok(None);
@@ -126,7 +131,7 @@ pub fn read_entry<R: Files + AllocGlobal>(
         return read_link(rt, path, max);
     }
     let exec = metadata.mode() & OWNER_RUNS != 0;
-    match read_bytes(rt, path, max)? {
+    match read_bytes(rt, path, metadata.len(), max)? {
         Some(bytes) => Ok(Some(Entry::File { exec, bytes })),
         None => Ok(None),
     }
@@ -180,31 +185,36 @@ pub fn put_entry<R: Files + AllocGlobal + Clone + Drop>(
 ) -> io::Result<()> {
     make_above(rt, root, path)?;
     let whole = join(rt.alloc(), root, path)?;
-    clear_place(rt, whole.as_str())?;
+    lay_entry(rt, whole.as_str(), entry, times)
+}
+
+/// Puts an entry at a path whose folder is there, in place of a file or link that stands there, or of a folder under which
+/// no file or link stands. A file has these times, if any are given, else that of its making.
+pub fn lay_entry<R: Files + AllocGlobal + Clone + Drop>(
+    rt: &R,
+    path: &str,
+    entry: &Entry,
+    times: Option<FileTimes>,
+) -> io::Result<()> {
+    clear_place(rt, path)?;
     match entry {
-        Entry::File { exec, bytes } => {
-            make_file(rt, whole.as_str(), *exec, bytes.as_slice(), times)
-        }
-        Entry::Link { target } => symlink(rt, target.as_str(), whole.as_str()),
+        Entry::File { exec, bytes } => make_file(rt, path, *exec, bytes.as_slice(), times),
+        Entry::Link { target } => symlink(rt, target.as_str(), path),
     }
 }
 
-/// Moves a file or a link to another path inside the root, in place of a file or link that stands there, all at once, or
-/// of a folder under which no file or link stands. Makes the folders above it where they are missing.
+/// Moves a file or a link to another path whose folder is there, in place of a file or link that stands there, all at
+/// once, or of a folder under which no file or link stands.
 pub fn move_entry<R: Files + AllocGlobal + Clone + Drop>(
     rt: &R,
-    root: &str,
     from: &str,
     to: &str,
 ) -> io::Result<()> {
-    make_above(rt, root, to)?;
-    let source = join(rt.alloc(), root, from)?;
-    let target = join(rt.alloc(), root, to)?;
-    match look(rt, target.as_str())? {
-        Some(metadata) if metadata.is_dir() => clear_place(rt, target.as_str())?,
+    match look(rt, to)? {
+        Some(metadata) if metadata.is_dir() => clear_place(rt, to)?,
         _ => {}
     }
-    fs::rename(rt, source.as_str(), target.as_str())
+    fs::rename(rt, from, to)
 }
 
 /// Makes the root and the folders above a path inside it.
@@ -228,7 +238,7 @@ fn make_folders<R: Files + AllocGlobal>(rt: &R, root: &str, path: &str) -> io::R
 }
 
 /// Makes a folder where none stands. What is neither file, folder nor link gives way to it.
-fn make_folder<R: Files>(rt: &R, path: &str) -> io::Result<()> {
+pub fn make_folder<R: Files>(rt: &R, path: &str) -> io::Result<()> {
     if let Some(metadata) = look(rt, path)? {
         if metadata.is_dir() {
             return Ok(());

@@ -2,7 +2,9 @@
 ghost use Rattle.std.specs.Prelude.{None};
 
 use crate::faults::{FirstFault, is_memory, one_more};
-use crate::folder::{Part, is_reached, leads_to_file, list_items, no_memory, read_bytes};
+use crate::folder::{
+    Part, is_reached, leads_to_file, list_items, look_through, no_memory, read_bytes,
+};
 use outside_traits::{Layers, ReadFault};
 use std::alloc::Global;
 use std::io;
@@ -68,12 +70,15 @@ impl<R: AllocGlobal> FolderLayers<R> {
 }
 
 impl<R: Files + AllocGlobal + Clone + Drop> FolderLayers<R> {
-    /// Whether a file stands at a path, or a link that leads to one.
-    fn try_find(&self, path: &str) -> io::Result<bool> {
+    /// The length of the file at a path, or of that to which a link there leads, or `None` where that is nothing.
+    fn try_find(&self, path: &str) -> io::Result<Option<u64>> {
         if !is_clean(path) || is_below(BUILT, path) || !is_reached(&self.rt, HERE, path)? {
-            return Ok(false);
+            return Ok(None);
         }
-        leads_to_file(&self.rt, path)
+        match look_through(&self.rt, path)? {
+            Some(metadata) if metadata.is_file() => Ok(Some(metadata.len())),
+            _ => Ok(None),
+        }
     }
 
     fn try_list(&self, alloc: Global, prefix: &str) -> io::Result<Texts> {
@@ -104,10 +109,10 @@ impl<R: Files + AllocGlobal + Clone + Drop> Layers for FolderLayers<R> {
 
     fn read(&mut self, _alloc: Global, path: &str, max: u64) -> Result<Option<Bytes>, ReadFault> {
         let found = self.try_find(path);
-        if !self.count("read", path, found)? {
+        let Some(length) = self.count("read", path, found)? else {
             return Ok(None);
-        }
-        let bytes = read_bytes(&self.rt, path, max);
+        };
+        let bytes = read_bytes(&self.rt, path, length, max);
         match self.count("read", path, bytes)? {
             Some(bytes) => Ok(Some(bytes)),
             None => Err(ReadFault::TooLong),

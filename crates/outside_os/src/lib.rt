@@ -14,6 +14,7 @@ mod folder;
 mod layers;
 mod lock;
 mod runs;
+mod seen;
 mod sink;
 
 pub use bench::ShBench;
