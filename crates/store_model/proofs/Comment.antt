@@ -4,25 +4,26 @@ use Rattle.std.specs.Prelude.{All, Any, Contains, codes, ◌==◌, unwrap_or}
 use Rattle.std.specs.Fmt.{digits}
 use Rattle.std.specs.List.{AllByRecursion, slice_get}
 use Rattle.std.specs.Str.{bytes_eq}
-use Rattle.std.proofs.lemmas.List.Elements.{All-cons, All-nil}
+use Rattle.std.specs.Option.{option_map}
+use Rattle.std.proofs.lemmas.List.Elements.{All-nil}
 use Rattle.std.proofs.lemmas.List.Kept.{AllPairs-cons}
-use Rattle.meta_model.specs.Worked.{file}
 use Rattle.hex.specs.Hex.{encode_with}
 use Rattle.sha2.specs.Sha256.{compress, digest_bytes, first_words, hash_after, rounds, schedule, sha256}
 use Rattle.tree_model.specs.declared.entry.Entry.{Entry}
 use Rattle.tree_model.specs.declared.hash.Hash.{Hash}
+use Rattle.tree_model.specs.declared.entry.Entry.TheVariants.{File}
 use Rattle.tree_model.specs.Folder.{picked}
 use Rattle.tree_model.specs.Hash.{hash_text}
 use Rattle.tree_model.specs.Manifest.{content_of}
 use Rattle.tree_model.specs.Overlay.{overlaid}
 use Rattle.tree_model.specs.Path.{IsBelow, IsClean, IsPart, inside, parts_of}
 use Rattle.tree_model.specs.Tree.{IsTree, Precedes, entry_at}
-use Rattle.tree_model.specs.declared.entry.Entry.TheVariants.{File}
-use Rattle.std.specs.Option.{option_map}
+use Rattle.outside_traits.specs.Store.{Store}
 use Rattle.meta_model.specs.declared.plan.PlanTask.{PlanTask}
+use Rattle.meta_model.specs.declared.event.Avail.TheVariants as avail
+use Rattle.meta_model.specs.Worked.{file}
 use Rattle.meta_model.specs.CleanBuild.{Built, Entries, Lack, clean_build, is_beyond, is_beyond_layout}
 use Rattle.meta_model.specs.Layout.{layout_in_order}
-use Rattle.outside_traits.specs.Store.{Store}
 use Rattle.store_model.specs.declared.signature.EquivRow.{EquivRow}
 use Rattle.store_model.specs.Rows.{hash_eq, row_at}
 use Rattle.store_model.specs.Signatures.{Signed, is_order, signatures}
@@ -34,20 +35,16 @@ use Rattle.store_model.specs.Premises as of
 use Rattle.store_model.specs.Reuse.{MayReuse}
 use Rattle.store_model.specs.Recording.{HasRow, with_record}
 use Rattle.store_model.specs.Available.{IsAvailable, IsInWork, stamp_path, work_folder}
-use Rattle.meta_model.specs.declared.event.Avail.TheVariants as avail
 use Rattle.store_model.specs.Lasting.{IsGrown}
 use Rattle.store_model.specs.Lasting as run
 use Rattle.store_model.specs.Comment.{CommentIsRecorded, WhatIsAvailable, again, build_body, build_line, build_name, build_signed, build_task, build_tree, edited_plan, first_book, first_store, found_store, gen_body, gen_line, gen_signed, gen_task, gen_tree, gives, noted_body, noted_line, noted_signed, noted_task, one, plan, reading, second_book, second_store, task_of, waiting}
 use Rattle.store_model.specs.Hello.{nothing_held}
 use Rattle.store_model.proofs.Hello.{empty_tree, nothing_stands}
 use Rattle.store_model.proofs.Lasting.{empty_is_valid, grown_stays_reusable}
-use Rattle.store_model.proofs.Listing.{hash_itself, hash_other}
+use Rattle.store_model.proofs.Listing.{hash_itself}
+use Rattle.store_model.proofs.Worked.{all_of, each, end_not_slash, is_part, not_above, not_same}
 
--- ---- lists
-
-all_of : {A : Type 0} (P : A → Type 0) (xs : List A) → AllByRecursion P xs → All P xs
-all_of P [] all = All-nil P
-all_of P (x ∷ xs) all = All-cons P x xs all.0 (all_of P xs all.1)
+-- ---- books
 
 -- where a line stands in a book of two
 in_two : (x y : Line) (before : Book) (line : Line) → StandsIn (x ∷ (y ∷ [])) before line → ((before ≡ []) × (line ≡ x)) ⊎ ((before ≡ x ∷ []) × (line ≡ y))
@@ -104,11 +101,6 @@ edited_over_three = all_of (HasOneSignature second_book) (signatures (rows_of se
 -- all files have the same bytes
 abbrev IsOnly : Entries → Type 0
 IsOnly tree = AllByRecursion (λ e. content_of e.1 ≡ one) tree
-
-each : {A : Type 0} (P : A → Type 0) (xs : List A) → AllByRecursion P xs → (x : A) → Contains xs x → P x
-each P [] all x (k, lt, at) = absurd (omega arith)
-each P (y ∷ ys) all x (zero, lt, at) = subst P at all.0
-each P (y ∷ ys) all x (suc k, lt, at) = each P ys all.1 x (k, omega arith, at)
 
 any_one : (tree : Entries) → IsOnly tree → (bytes : List ℕ) → Any (λ (e : List ℕ × Entry). content_of e.1 ≡ bytes) tree → bytes ≡ one
 any_one [] all bytes (k, x, lt, at, is) = absurd (omega arith)
@@ -353,27 +345,13 @@ stamp_again : found_store (stamp_path build_task) ≡ Some (File false (hash_tex
 unfolding name_of signature_bytes digits encode_with first_words schedule rounds compress hash_after digest_bytes sha256
 stamp_again = refl
 
--- a file name of five characters, without slashes
-is_part : (c : ℕ) → (c == 0) ≡ false → IsPart (c ∷ codes ".txt")
-is_part c other = record {
-  not_empty = omega arith;
-  short = omega arith;
-  not_here = λ e. absurd (cc);
-  not_above = λ e. absurd (cc);
-  no_zero = λ among. let not = each (λ c. (c == 0) ≡ false) (c ∷ codes ".txt") (other, (refl, (refl, (refl, (refl, tt))))) 0 among in absurd (cc);
-}
-
 m_clean : IsClean (codes "m.txt")
-m_clean = record { short = omega arith; parts = all_of IsPart (parts_of (codes "m.txt")) (is_part 109 refl, tt) }
+m_clean = record { short = omega arith; parts = all_of IsPart (parts_of (codes "m.txt")) (is_part (codes "m.txt") (omega arith) (omega arith) (refl, (refl, (refl, (refl, (refl, tt))))), tt) }
 
 n_clean : IsClean (codes "n.txt")
-n_clean = record { short = omega arith; parts = all_of IsPart (parts_of (codes "n.txt")) (is_part 110 refl, tt) }
+n_clean = record { short = omega arith; parts = all_of IsPart (parts_of (codes "n.txt")) (is_part (codes "n.txt") (omega arith) (omega arith) (refl, (refl, (refl, (refl, (refl, tt))))), tt) }
 
--- characters at one place of two texts
-not_same : (a b : List ℕ) (i : ℕ) (x y : Option ℕ) → slice_get a i ≡ x → slice_get b i ≡ y → (x ≡ y → ⊥) → a ≡ b → ⊥
-not_same a b i x y p q other e = other (sym p ∙ ap (λ l. slice_get l i) e ∙ q)
-
--- the characters w, r, s, m and n, and a place behind the end
+-- the characters w, r, s, m and n
 w_not_r : ◌≡◌ {A = Option ℕ} (Some 119) (Some 114) → ⊥
 w_not_r e = let is : 119 ≡ 114 = ap (λ o. unwrap_or o 0) e in absurd (omega (arith, is))
 
@@ -382,9 +360,6 @@ w_not_s e = let is : 119 ≡ 115 = ap (λ o. unwrap_or o 0) e in absurd (omega (
 
 m_not_n : ◌≡◌ {A = Option ℕ} (Some 109) (Some 110) → ⊥
 m_not_n e = let is : 109 ≡ 110 = ap (λ o. unwrap_or o 0) e in absurd (omega (arith, is))
-
-end_not_slash : ◌≡◌ {A = Option ℕ} None (Some 47) → ⊥
-end_not_slash e = absurd (cc)
 
 m_before_n : Precedes (codes "m.txt") (codes "n.txt")
 m_before_n = record {
@@ -418,10 +393,6 @@ none_of_six false false false false true f u v w x y z p q r s t o = absurd (cc)
 none_of_six false false false false false true u v w x y z p q r s t o = absurd (cc)
 none_of_six false false false false false false u v w x y z p q r s t o = refl
 
--- a path that is not above the folder is none of those that are
-not_above : (place path : List ℕ) → (IsBelow place (work_folder build_task) → ⊥) → IsBelow path (work_folder build_task) → bytes_eq place path ≡ false
-not_above place path other below = hash_other (record { bytes = place }) (record { bytes = path }) (λ e. other (subst (λ p. IsBelow p (work_folder build_task)) (sym (ap (λ h. h.bytes) e)) below))
-
 not_record : (text : List ℕ) → IsBelow (inside (codes "rec") text) (work_folder build_task) → ⊥
 not_record text (rest, is) = not_same (work_folder build_task) (inside (inside (codes "rec") text) rest) 0 (Some 119) (Some 114) refl refl w_not_r is
 
@@ -430,12 +401,12 @@ open_above q below = none_of_six
     (bytes_eq (stamp_path build_task) q) (bytes_eq (inside (work_folder build_task) (codes "m.txt")) q) (bytes_eq (inside (work_folder build_task) (codes "n.txt")) q)
     (bytes_eq (inside (codes "rec") (hash_text (name_of noted_line.sig))) q) (bytes_eq (inside (codes "rec") (hash_text (name_of build_line.sig))) q) (bytes_eq (inside (codes "rec") (hash_text (name_of gen_line.sig))) q)
     (File false (hash_text build_name ++ 10 ∷ [])) (File false one) (File false one) (record_entry noted_line).1 (record_entry build_line).1 (record_entry gen_line).1
-    (not_above (stamp_path build_task) q (λ b. not_same (work_folder build_task) (inside (stamp_path build_task) b.0) 0 (Some 119) (Some 115) refl refl w_not_s b.1) below)
-    (not_above (inside (work_folder build_task) (codes "m.txt")) q (λ b. not_same (work_folder build_task) (inside (inside (work_folder build_task) (codes "m.txt")) b.0) 15 None (Some 47) refl refl end_not_slash b.1) below)
-    (not_above (inside (work_folder build_task) (codes "n.txt")) q (λ b. not_same (work_folder build_task) (inside (inside (work_folder build_task) (codes "n.txt")) b.0) 15 None (Some 47) refl refl end_not_slash b.1) below)
-    (not_above (inside (codes "rec") (hash_text (name_of noted_line.sig))) q (not_record (hash_text (name_of noted_line.sig))) below)
-    (not_above (inside (codes "rec") (hash_text (name_of build_line.sig))) q (not_record (hash_text (name_of build_line.sig))) below)
-    (not_above (inside (codes "rec") (hash_text (name_of gen_line.sig))) q (not_record (hash_text (name_of gen_line.sig))) below)
+    (not_above (work_folder build_task) (stamp_path build_task) q (λ b. not_same (work_folder build_task) (inside (stamp_path build_task) b.0) 0 (Some 119) (Some 115) refl refl w_not_s b.1) below)
+    (not_above (work_folder build_task) (inside (work_folder build_task) (codes "m.txt")) q (λ b. not_same (work_folder build_task) (inside (inside (work_folder build_task) (codes "m.txt")) b.0) 15 None (Some 47) refl refl end_not_slash b.1) below)
+    (not_above (work_folder build_task) (inside (work_folder build_task) (codes "n.txt")) q (λ b. not_same (work_folder build_task) (inside (inside (work_folder build_task) (codes "n.txt")) b.0) 15 None (Some 47) refl refl end_not_slash b.1) below)
+    (not_above (work_folder build_task) (inside (codes "rec") (hash_text (name_of noted_line.sig))) q (not_record (hash_text (name_of noted_line.sig))) below)
+    (not_above (work_folder build_task) (inside (codes "rec") (hash_text (name_of build_line.sig))) q (not_record (hash_text (name_of build_line.sig))) below)
+    (not_above (work_folder build_task) (inside (codes "rec") (hash_text (name_of gen_line.sig))) q (not_record (hash_text (name_of gen_line.sig))) below)
 
 found : IsInWork found_store (rows_of second_book) again
 found = record {

@@ -1,12 +1,28 @@
--- What a later run needs of a library and an application.
-use Rattle.std.proofs.Common.{◌≡◌, ◌∙◌, sym, ap, refl, subst, ℕ, zero, suc, arith, false, List, [], ◌∷◌, Some, ◌⊎◌, inl, inr, ◌<◌}
+-- What a later run needs of a library and an application, and what it has of them.
+use Rattle.std.proofs.Common.{Bool, true, None, Option, ◌++◌, if◌then◌else◌, ◌≡◌, ◌∙◌, sym, ap, refl, subst, ℕ, zero, suc, arith, false, List, [], ◌∷◌, Some, ◌⊎◌, inl, inr, ◌<◌}
 use Rattle.std.specs.Prelude.{Contains, codes}
 use Rattle.std.specs.List.{AllByRecursion, slice_get}
+use Rattle.std.specs.Fmt.{digits}
+use Rattle.std.specs.Option.{option_map}
+use Rattle.std.specs.Str.{bytes_eq}
+use Rattle.hex.specs.Hex.{encode_with}
+use Rattle.sha2.specs.Sha256.{compress, digest_bytes, first_words, hash_after, rounds, schedule, sha256}
+use Rattle.tree_model.specs.declared.entry.Entry.{Entry}
+use Rattle.tree_model.specs.declared.entry.Entry.TheVariants.{File}
+use Rattle.tree_model.specs.Hash.{hash_text}
+use Rattle.tree_model.specs.Path.{IsBelow, IsClean, IsPart, inside, parts_of}
+use Rattle.tree_model.specs.Tree.{IsTree, entry_at}
 use Rattle.meta_model.specs.declared.event.Avail.TheVariants as avail
 use Rattle.meta_model.specs.declared.plan.PlanTask.{PlanTask}
-use Rattle.store_model.specs.Available.{IsNeeded}
+use Rattle.store_model.specs.declared.signature.EquivRow.{EquivRow}
+use Rattle.store_model.specs.Rows.{row_at}
+use Rattle.store_model.specs.Origins.{row_of, rows_of}
+use Rattle.store_model.specs.Recording.{recorded}
+use Rattle.store_model.specs.Spelling.{name_of, signature_bytes}
+use Rattle.store_model.specs.Available.{IsInObject, IsInWork, IsNeeded, Matches, object_folder, stamp_path}
 use Rattle.store_model.specs.Available as need
-use Rattle.store_model.specs.LibraryAndApplication.{WhatIsNeeded, app_compile, app_install, by_objects, greet_compile, greet_install, not_at_all, nothing, plan, publishing, task_of, tasks}
+use Rattle.store_model.specs.LibraryAndApplication.{WhatIsNeeded, WhatIsRestored, app_compile, app_install, app_published, book, by_objects, greet_compile, greet_install, greeting, not_at_all, nothing, object, object_store, plan, published, publishing, task_of, tasks}
+use Rattle.store_model.proofs.Worked.{all_of, end_not_slash, is_part, not_above, not_same}
 use Rattle.store_model.proofs.Hello.{only}
 use Rattle.store_model.proofs.Needing.{need_is_least}
 
@@ -82,3 +98,73 @@ what_is_needed = record {
   );
   all = all;
 }
+
+-- ---- what is available
+
+row : EquivRow
+row = row_of (recorded [] published app_published)
+
+is_row : row_at (rows_of book) (name_of published.sig) ≡ Some row
+unfolding name_of signature_bytes digits encode_with first_words schedule rounds compress hash_after digest_bytes sha256 row
+is_row = refl
+
+is_folder : object_folder row.unihash ≡ object
+unfolding name_of signature_bytes digits encode_with first_words schedule rounds compress hash_after digest_bytes sha256 row
+is_folder = refl
+
+no_stamp : (x : Entry) → object_store (stamp_path published.task) ≡ Some x → ⊥
+no_stamp x e = let clash : ◌≡◌ {A = Option Entry} None (Some x) = e in absurd (cc)
+
+not_in_work : IsInWork object_store (rows_of book) published → ⊥
+not_in_work w = no_stamp (File false (hash_text (name_of published.sig) ++ 10 ∷ [])) w.stamp
+
+is_clean : IsClean (codes "usr/share/out.txt")
+is_clean = record {
+  short = omega arith;
+  parts = all_of IsPart (parts_of (codes "usr/share/out.txt")) (
+    is_part (codes "usr") (omega arith) (omega arith) (refl, (refl, (refl, tt))),
+    (
+      is_part (codes "share") (omega arith) (omega arith) (refl, (refl, (refl, (refl, (refl, tt))))),
+      (is_part (codes "out.txt") (omega arith) (omega arith) (refl, (refl, (refl, (refl, (refl, (refl, (refl, tt))))))), tt),
+    ),
+  );
+}
+
+is_tree : IsTree app_published
+is_tree = record { clean = all_of (λ e. IsClean e.0) app_published (is_clean, tt); ordered = λ i j d lt within. absurd (omega arith) }
+
+by_one : (a : Bool) (x : Entry) (u : List ℕ) → (if a then Some x else None) ≡ option_map (λ (e : List ℕ × Entry). e.1) (if a then Some (u, x) else None)
+by_one true x u = refl
+by_one false x u = refl
+
+entries : (path : List ℕ) → object_store (inside object path) ≡ entry_at app_published path
+entries path = by_one (bytes_eq (codes "usr/share/out.txt") path) (File false greeting) (codes "usr/share/out.txt")
+
+none_of_one : (a : Bool) (x : Entry) → a ≡ false → (if a then Some x else None) ≡ None
+none_of_one true x e = absurd (cc)
+none_of_one false x e = refl
+
+open_above : (q : List ℕ) → IsBelow q object → object_store q ≡ None
+open_above q below = none_of_one (bytes_eq (inside object (codes "usr/share/out.txt")) q) (File false greeting)
+    (not_above object (inside object (codes "usr/share/out.txt")) q (λ b. not_same object (inside (inside object (codes "usr/share/out.txt")) b.0) 68 None (Some 47) refl refl end_not_slash b.1) below)
+
+row_sig : row.sig ≡ signature_bytes published.sig
+unfolding row
+row_sig = refl
+
+matches : Matches object_store object row.manifest
+unfolding row
+matches = record { tree = app_published; is_tree = is_tree; holds = record { entries = entries; outside = record { at = refl; above = open_above } }; manifest = refl }
+
+in_object : IsInObject object_store (rows_of book) true published
+in_object = record {
+  kept = refl;
+  sstate = refl;
+  counts = refl;
+  row = row;
+  stored = record { is_row = is_row; sig = row_sig };
+  object = subst (λ f. Matches object_store f row.manifest) (sym is_folder) matches;
+}
+
+pub what_is_restored : WhatIsRestored
+what_is_restored = record { by_object = (not_in_work, in_object); without = (not_in_work, λ o. let counts : false ≡ true = o.counts in absurd (cc)) }

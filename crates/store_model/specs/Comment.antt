@@ -2,8 +2,13 @@
 use Rattle.std.specs.Prelude.{true, false, List, [], ◌∷◌, ◌++◌, ℕ, Option, Some, None, Ok, codes}
 use Rattle.std.specs.Option.{option_map}
 use Rattle.tree_model.specs.declared.hash.Hash.{Hash}
+use Rattle.tree_model.specs.declared.entry.Entry.TheVariants.{File}
+use Rattle.tree_model.specs.Hash.{hash_text}
+use Rattle.tree_model.specs.Path.{inside}
+use Rattle.outside_traits.specs.Store.{Store, put}
 use Rattle.meta_model.specs.declared.plan.PlanTask.{PlanTask}
 use Rattle.meta_model.specs.declared.value.KeyLine.{KeyLine}
+use Rattle.meta_model.specs.declared.event.Avail.TheVariants as avail
 use Rattle.meta_model.specs.CleanBuild.{Entries, Gives}
 use Rattle.meta_model.specs.Worked.{file}
 use Rattle.store_model.specs.Signatures.{Signed, signature}
@@ -14,11 +19,6 @@ use Rattle.store_model.specs.Valid.{IsValid}
 use Rattle.store_model.specs.Reuse.{MayReuse}
 use Rattle.store_model.specs.Hello.{nothing_held}
 use Rattle.store_model.specs.Available.{IsAvailable, stamp_path, work_folder}
-use Rattle.meta_model.specs.declared.event.Avail.TheVariants as avail
-use Rattle.outside_traits.specs.Store.{Store, put}
-use Rattle.tree_model.specs.declared.entry.Entry.TheVariants.{File}
-use Rattle.tree_model.specs.Hash.{hash_text}
-use Rattle.tree_model.specs.Path.{inside}
 
 -- ---- the recipe
 

@@ -1,9 +1,11 @@
 -- The worked rows of a library and an application that needs it, with parts that both publish as shared state objects.
-use Rattle.std.specs.Prelude.{◌≡◌, ◌⊎◌, ◌<◌, ℕ, Bool, true, false, if◌then◌else◌, nat_eq, List, [], ◌∷◌, ◌++◌, Option, Some, None, Ok, codes}
-use Rattle.std.specs.List.{list_any}
+use Rattle.std.specs.Prelude.{◌≡◌, ◌⊎◌, ◌<◌, ℕ, Bool, true, false, if◌then◌else◌, nat_eq, List, [], ◌∷◌, ◌++◌, Option, Some, None, Ok, codes, unwrap_or}
+use Rattle.std.specs.List.{list_any, slice_get}
 use Rattle.std.specs.Str.{bytes_eq}
 use Rattle.tree_model.specs.declared.entry.Entry.{Entry}
-use Rattle.tree_model.specs.declared.entry.Entry.TheVariants.{Link}
+use Rattle.tree_model.specs.declared.entry.Entry.TheVariants.{File, Link}
+use Rattle.tree_model.specs.Path.{inside}
+use Rattle.outside_traits.specs.Store.{Store, put}
 use Rattle.meta_model.specs.declared.event.Avail.{Avail}
 use Rattle.meta_model.specs.declared.event.Avail.TheVariants as avail
 use Rattle.meta_model.specs.declared.plan.Plan.{Plan}
@@ -13,8 +15,9 @@ use Rattle.meta_model.specs.declared.value.Resolved.{Resolved}
 use Rattle.meta_model.specs.CleanBuild.{Entries, Gives}
 use Rattle.meta_model.specs.Layout.{put_inside}
 use Rattle.meta_model.specs.Worked.{file}
-use Rattle.store_model.specs.Available.{IsNeeded}
-use Rattle.store_model.specs.Signatures.{Signed, signature}
+use Rattle.store_model.specs.Hello.{nothing_held}
+use Rattle.store_model.specs.Available.{IsAvailable, IsNeeded}
+use Rattle.store_model.specs.Signatures.{Signed, signature, signatures}
 use Rattle.store_model.specs.Origins.{Book, Reading, rows_of}
 use Rattle.store_model.specs.Made.{Run, gives_of}
 use Rattle.store_model.specs.Recording.{recorded}
@@ -192,3 +195,24 @@ pub record WhatIsNeeded : Type 0 where
   pub two : (n : ℕ) → IsNeeded plan by_objects n → (n ≡ 8) ⊎ (n ≡ 7)
   pub both : IsNeeded plan by_objects 8 × IsNeeded plan by_objects 7
   pub all : (n : ℕ) → n < 9 → IsNeeded plan not_at_all n
+
+-- ---- what is available when the work folders and the stamps are gone
+
+-- the task that publishes the application, with its signature
+abbrev pub published : Signed
+published =
+    let task = publishing (codes "app") (6 ∷ []) 6 in
+    unwrap_or (slice_get (signatures (rows_of book) tasks) 7) (record { task = task; sig = signature [] [] task })
+
+-- the folder of its object, whose name is the unihash: the digest of its own signature
+abbrev pub object : List ℕ
+object = codes "obj/86c0ef851786c63431465bb54872edb2e9b2605a896ce8bf61a4e14baa3d644c"
+
+-- a store that has this object alone
+abbrev pub object_store : Store
+object_store = put nothing_held (inside object (codes "usr/share/out.txt")) (Some (File false greeting))
+
+-- Where objects count the task is there by its object, and where they don't it is missing.
+pub record WhatIsRestored : Type 0 where
+  pub by_object : IsAvailable object_store (rows_of book) true published avail.Object
+  pub without : IsAvailable object_store (rows_of book) false published avail.Missing

@@ -7,7 +7,7 @@ use Rattle.tree_model.specs.Overlay.{overlaid}
 use Rattle.meta_model.specs.CleanBuild.{is_beyond, is_beyond_layout}
 use Rattle.meta_model.specs.Layout.{layout_in_order}
 use Rattle.store_model.specs.Spelling.{name_of, signature_bytes}
-use Rattle.store_model.proofs.LibraryAndApplication.{what_is_needed}
+use Rattle.store_model.proofs.LibraryAndApplication.{what_is_needed, what_is_restored}
 use Rattle.store_model.proofs.examples.example_of_shared_state.Goals as goal
 
 pub returns-clause-clean : goal.returns-clause-clean
@@ -32,3 +32,6 @@ returns-clause-digests c = refl
 
 pub returns-clause-needed : goal.returns-clause-needed
 returns-clause-needed c = what_is_needed
+
+pub returns-clause-restored : goal.returns-clause-restored
+returns-clause-restored c = what_is_restored
