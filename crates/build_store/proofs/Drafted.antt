@@ -4,6 +4,7 @@ use Rattle.std.specs.Prelude.{is_none}
 use Rattle.std.specs.List.{AllByRecursion}
 use Rattle.std.proofs.lemmas.List.Elements.{All-from_recursion, recursion_from_All}
 use Rattle.tree_model.specs.declared.entry.Entry.{Entry}
+use Rattle.tree_model.specs.declared.manifest.ManifestLine.{ManifestLine}
 use Rattle.tree_model.specs.Manifest.{line_of, manifest_lines}
 use Rattle.tree_model.specs.Tree.{IsTree}
 use Rattle.outside_traits.specs.Store.{Store}
@@ -21,10 +22,11 @@ use Rattle.sig_gen.specs.Sound.{Spells}
 use Rattle.sig_gen.specs.Stored.{IsInOrder, SpellsStored}
 use Rattle.sig_gen.proofs.Records.{signature_again}
 use Rattle.sig_gen.proofs.Trees.{tree_paths}
+use Rattle.build_store.specs.declared.drafting.Draft.{Draft}
 use Rattle.build_store.specs.declared.drafting.NewRecord.{NewRecord}
 use Rattle.build_store.specs.declared.fault.StoreFault.{StoreFault}
 use Rattle.build_store.specs.declared.fault.StoreFault.TheVariants as fault
-use Rattle.build_store.specs.Drafts.{IsKnownFault, IsNewFor, file_of, new_stored}
+use Rattle.build_store.specs.Drafts.{IsDraft, IsKnownFault, IsNewFor, file_of, new_stored}
 use Rattle.build_store.specs.Faults.{IsRefusal}
 use Rattle.build_store.specs.Paths.{record_path}
 use Rattle.build_store.specs.Phases.{IsFileOf, put_of}
@@ -32,8 +34,8 @@ use Rattle.build_store.specs.Publication.{AreShort, IsAgreed, line_for, object_f
 use Rattle.build_store.specs.Sound.{HasShortPaths, IsHeld, IsReadable, IsRow, row_of_stored}
 use Rattle.build_store.proofs.Rows.{clash, row_has, row_named}
 
--- a fault of a row is a refusal
-pub known_refusal : (rows : List EquivRow) (s : Signed) (tree : Entries) (row : EquivRow) (f : StoreFault) → AllByRecursion IsRow rows → row_at rows (name_of s.sig) ≡ Some row → IsKnownFault s.task row (signature_bytes s.sig) tree f → IsRefusal rows s tree f
+-- a fault of a row is a refusal of a tree with the manifest
+pub known_refusal : (rows : List EquivRow) (s : Signed) (tree : Entries) (row : EquivRow) (f : StoreFault) → AllByRecursion IsRow rows → row_at rows (name_of s.sig) ≡ Some row → IsKnownFault s.task row (signature_bytes s.sig) (manifest_lines tree) f → IsRefusal rows s tree f
 known_refusal rows s tree row fault.Disk all is known = absurd known
 known_refusal rows s tree row fault.Memory all is known = tt
 known_refusal rows s tree row (fault.Collision n held given) all is known = clash rows (name_of s.sig) (signature_bytes s.sig) row (fault.Collision n held given) all is known
@@ -46,7 +48,7 @@ module _ (rows : List EquivRow) (s : Signed) (tree : Entries) where
   File = record_file (stored_of (line_for rows s tree))
 
   -- where no row has the name, the record is the new one
-  pub line_new : row_at rows (name_of s.sig) ≡ None → stored_of (line_for rows s tree) ≡ new_stored rows s.sig tree
+  pub line_new : row_at rows (name_of s.sig) ≡ None → stored_of (line_for rows s tree) ≡ new_stored rows s.sig (manifest_lines tree)
   line_new none i = record { sig = s.sig; manifest = manifest_lines tree; unihash = unihash_or (recorded rows s tree).unihash (none i) }
 
   none_is : row_at rows (name_of s.sig) ≡ None → is_none (row_at rows (name_of s.sig)) ≡ true
@@ -88,21 +90,34 @@ module _ (rows : List EquivRow) (s : Signed) (tree : Entries) where
   }
 
   -- the rows behind it
-  pub rows_new : row_at rows (name_of s.sig) ≡ None → (row : EquivRow) → row ≡ row_of_stored (new_stored rows s.sig tree) → rows_with rows s tree ≡ rows ++ row ∷ []
+  pub rows_new : row_at rows (name_of s.sig) ≡ None → (row : EquivRow) → row ≡ row_of_stored (new_stored rows s.sig (manifest_lines tree)) → rows_with rows s tree ≡ rows ++ row ∷ []
   rows_new none row is = rw (none_is none) (ap (λ r. rows ++ r ∷ []) (ap row_of_stored (line_new none) ∙ sym is))
 
   pub rows_old : (row : EquivRow) → row_at rows (name_of s.sig) ≡ Some row → rows_with rows s tree ≡ rows
   rows_old row is = rw (some_is row is) refl
+
+  -- ---- what is drafted
+
+  -- what is drafted by a row of the name, for a tree with its manifest
+  pub known_is_draft : (lines : List ManifestLine) (row : EquivRow) (draft : Draft) → row_at rows (name_of s.sig) ≡ Some row → Spells (signature_bytes s.sig) s.sig → draft.name ≡ name_of s.sig → draft.unihash ≡ row.unihash → draft.new ≡ None
+      → row.sig ≡ signature_bytes s.sig → row.manifest ≡ lines → lines ≡ manifest_lines tree → IsDraft rows s tree draft
+  known_is_draft lines row draft is spells name unihash new sig manifest e = record {
+    name = name;
+    unihash = unihash ∙ ap (unihash_or (recorded rows s tree).unihash) (sym is);
+    new = subst (IsNewFor rows s tree) (sym new) (row, is);
+    spells = spells;
+    agrees = λ other at. let same : row ≡ other = cc in subst (λ r. (r.sig ≡ signature_bytes s.sig) × (r.manifest ≡ manifest_lines tree)) same (sig, manifest ∙ e);
+  }
 
 -- ---- the new row
 
 pub short_lines : (tree : Entries) → AreShort tree → HasShortPaths (manifest_lines tree)
 short_lines tree short = All-from_recursion (λ l. length l.path ≤ 3072) (manifest_lines tree) (map_each line_of (λ l. length l.path ≤ 3072) tree (recursion_from_All (λ e. length e.0 ≤ 3072) tree short))
 
-abbrev pub row_is : (rows : List EquivRow) (s : Signed) (tree : Entries) (row : EquivRow) → IsSpelled s.sig → IsTree tree → AreShort tree → row ≡ row_of_stored (new_stored rows s.sig tree) → (IsInOrder (new_stored rows s.sig tree) → SpellsStored (record_bytes (new_stored rows s.sig tree)) (new_stored rows s.sig tree)) → IsRow row
+abbrev pub row_is : (rows : List EquivRow) (s : Signed) (tree : Entries) (row : EquivRow) → IsSpelled s.sig → IsTree tree → AreShort tree → row ≡ row_of_stored (new_stored rows s.sig (manifest_lines tree)) → (IsInOrder (new_stored rows s.sig (manifest_lines tree)) → SpellsStored (record_bytes (new_stored rows s.sig (manifest_lines tree))) (new_stored rows s.sig (manifest_lines tree))) → IsRow row
 row_is rows s tree row spelled is_tree short is spells =
     let order = tree_paths tree is_tree in
-    record { stored = new_stored rows s.sig tree; is = is; spelled = spells (record { sig = spelled; ascends = order.0; paths = order.1 }); short = short_lines tree short }
+    record { stored = new_stored rows s.sig (manifest_lines tree); is = is; spelled = spells (record { sig = spelled; ascends = order.0; paths = order.1 }); short = short_lines tree short }
 
 -- what is drafted has a record that can be read
 pub line_readable : (rows : List EquivRow) (s : Signed) (tree : Entries) (new : Option NewRecord) → AllByRecursion IsRow rows → IsSpelled s.sig → IsTree tree → AreShort tree → IsAgreed rows s tree → Spells (signature_bytes s.sig) s.sig → IsNewFor rows s tree new → IsReadable (line_for rows s tree)

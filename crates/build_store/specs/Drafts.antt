@@ -1,6 +1,7 @@
 -- What a publication is to put.
 use Rattle.std.specs.Prelude.{◌≡◌, ◌≢◌, ℕ, List, [], ◌∷◌, ◌++◌, Option, Some, None}
 use Rattle.tree_model.specs.declared.entry.Entry.{Entry}
+use Rattle.tree_model.specs.declared.manifest.ManifestLine.{ManifestLine}
 use Rattle.tree_model.specs.Manifest.{manifest_lines}
 use Rattle.meta_model.specs.CleanBuild.{Entries}
 use Rattle.meta_model.specs.declared.plan.PlanTask.{PlanTask}
@@ -20,20 +21,20 @@ use Rattle.build_store.specs.declared.fault.StoreFault.{StoreFault}
 use Rattle.build_store.specs.declared.fault.StoreFault.TheVariants as fault
 use Rattle.build_store.specs.Faults.{IsOtherSignature}
 
--- the two manifests, of the row and of the tree
-abbrev pub IsUnsteadyOf : PlanTask → EquivRow → Entries → StoreFault → Type 0
-IsUnsteadyOf of row tree f = f ≡ fault.Unsteady of.id.pn of.id.task row.manifest (manifest_lines tree)
+-- the two manifests, of the row and of what was given
+abbrev pub IsUnsteadyOf : PlanTask → EquivRow → List ManifestLine → StoreFault → Type 0
+IsUnsteadyOf of row manifest f = f ≡ fault.Unsteady of.id.pn of.id.task row.manifest manifest
 
 -- the row has another signature, or another manifest
-abbrev pub IsKnownFault : PlanTask → EquivRow → List ℕ → Entries → StoreFault → Type 0
-IsKnownFault of row bytes tree fault.Disk = ⊥
-IsKnownFault of row bytes tree fault.Memory = Unit {0}
-IsKnownFault of row bytes tree (fault.Collision name held given) = IsOtherSignature row bytes (fault.Collision name held given)
-IsKnownFault of row bytes tree (fault.Unsteady pn task held given) = (row.sig ≡ bytes) × (row.manifest ≢ manifest_lines tree) × IsUnsteadyOf of row tree (fault.Unsteady pn task held given)
+abbrev pub IsKnownFault : PlanTask → EquivRow → List ℕ → List ManifestLine → StoreFault → Type 0
+IsKnownFault of row bytes manifest fault.Disk = ⊥
+IsKnownFault of row bytes manifest fault.Memory = Unit {0}
+IsKnownFault of row bytes manifest (fault.Collision name held given) = IsOtherSignature row bytes (fault.Collision name held given)
+IsKnownFault of row bytes manifest (fault.Unsteady pn task held given) = (row.sig ≡ bytes) × (row.manifest ≢ manifest) × IsUnsteadyOf of row manifest (fault.Unsteady pn task held given)
 
--- the record of a signature that none is stored of
-abbrev pub new_stored : List EquivRow → SigRecord → Entries → StoredSig
-new_stored rows sig tree = record { sig = sig; manifest = manifest_lines tree; unihash = new_unihash rows (name_of sig) sig.pn sig.task (manifest_lines tree) }
+-- the record of a signature that none is stored of, with this manifest
+abbrev pub new_stored : List EquivRow → SigRecord → List ManifestLine → StoredSig
+new_stored rows sig manifest = record { sig = sig; manifest = manifest; unihash = new_unihash rows (name_of sig) sig.pn sig.task manifest }
 
 -- a new record's file and row
 abbrev pub IsNew : Option NewRecord → StoredSig → Type 0
@@ -43,7 +44,7 @@ IsNew (Some made) stored = (made.file ≡ record_file stored) × (made.row ≡ r
 -- A record is new just where no row has its name.
 abbrev pub IsNewFor : List EquivRow → Signed → Entries → Option NewRecord → Type 0
 IsNewFor rows s tree None = (row : EquivRow) × (row_at rows (name_of s.sig) ≡ Some row)
-IsNewFor rows s tree (Some made) = (row_at rows (name_of s.sig) ≡ None) × IsNew (Some made) (new_stored rows s.sig tree)
+IsNewFor rows s tree (Some made) = (row_at rows (name_of s.sig) ≡ None) × IsNew (Some made) (new_stored rows s.sig (manifest_lines tree))
 
 abbrev pub file_of : Option NewRecord → Option Entry
 file_of None = None

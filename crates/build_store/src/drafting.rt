@@ -1,13 +1,14 @@
 // What a publication is to put, worked out in memory.
 ghost use Rattle.std.specs.Prelude.{◌≡◌, IfErr, IfOk, None, OnOk, false};
 ghost use Rattle.tree_model.specs.Manifest.{manifest_lines};
+ghost use Rattle.meta_model.specs.CleanBuild.{Entries};
 ghost use Rattle.store_model.specs.Rows.{new_unihash};
 ghost use Rattle.store_model.specs.Spelling.{name_of, record_bytes, signature_bytes};
 ghost use Rattle.sig_gen.specs.Sound.{Spells};
 ghost use Rattle.sig_gen.specs.Stored.{IsInOrder, SpellsStored};
-ghost use Rattle.build_store.specs.Drafts.{IsKnownFault, IsNew, IsNewFor, IsUnsteadyOf, new_stored};
+ghost use Rattle.build_store.specs.Drafts.{IsDraft, IsKnownFault, IsNew, IsUnsteadyOf, new_stored};
 ghost use Rattle.build_store.specs.Faults.{IsRefusal, store_failed};
-ghost use Rattle.build_store.specs.Publication.{IsAgreed, record_file, unihash_for};
+ghost use Rattle.build_store.specs.Publication.{record_file};
 ghost use Rattle.build_store.specs.Sound.{IsRow, row_of_stored};
 ghost use Rattle.build_store.specs.View.{signed_by};
 ghost use Rattle.std.specs.List.{AllByRecursion};
@@ -16,12 +17,12 @@ ghost use Rattle.store_model.specs.Spelled.{IsSpelled};
 use crate::comparing::compare_row;
 use crate::fault::StoreFault;
 use crate::naming::{Named, name_of_sig};
-use hash_equiv::Index;
+use hash_equiv::{Index, equal_manifests};
 use meta_model::PlanTask;
 use sig_gen::{SigFault, decode, encode_stored};
 use std::alloc::Global;
 use store_model::{EquivRow, SigRecord, StoredSig};
-use tree_model::{Bytes, Entry, Hash, Manifest, ManifestLine, Mem, Tree, manifest_of, matches};
+use tree_model::{Bytes, Entry, Hash, Manifest, ManifestLine, Mem};
 
 /// The same line again.
 fn line_again(line: &ManifestLine) -> Result<ManifestLine, Mem>
@@ -59,14 +60,19 @@ fn signature_again(alloc: Global, sig: &SigRecord, bytes: &[u8]) -> Result<SigRe
 }
 
 /// What tells that a task gave another output than its record says.
-fn unsteady(alloc: Global, task: &PlanTask, row: &EquivRow, tree: &Tree) -> Result<StoreFault, Mem>
-    ensures { IfOk result (IsUnsteadyOf task.now row.now tree.now) }
+fn unsteady(
+    alloc: Global,
+    task: &PlanTask,
+    row: &EquivRow,
+    manifest: &Manifest,
+) -> Result<StoreFault, Mem>
+    ensures { IfOk result (IsUnsteadyOf task.now row.now manifest.now) }
 {
     Ok(StoreFault::Unsteady {
         pn: task.id.pn.copy()?,
         task: task.id.task.copy()?,
         held: manifest_again(alloc, &row.manifest)?,
-        given: manifest_of(alloc, tree)?,
+        given: manifest_again(alloc, manifest)?,
     })
 }
 
@@ -76,17 +82,17 @@ fn known_unihash(
     task: &PlanTask,
     row: &EquivRow,
     sig: &[u8],
-    tree: &Tree,
+    manifest: &Manifest,
 ) -> Result<Hash, StoreFault>
-    ensures ok { IfOk result (λ unihash. (unihash ≡ row.now.unihash) × (row.now.sig ≡ sig.now) × (row.now.manifest ≡ manifest_lines tree.now)) }
-    ensures err { IfErr result (IsKnownFault task.now row.now sig.now tree.now) }
+    ensures ok { IfOk result (λ unihash. (unihash ≡ row.now.unihash) × (row.now.sig ≡ sig.now) × (row.now.manifest ≡ manifest.now)) }
+    ensures err { IfErr result (IsKnownFault task.now row.now sig.now manifest.now) }
     ensures inside { store_failed result ≡ false }
 {
     compare_row(alloc, row, sig)?;
-    if matches(tree, &row.manifest) {
+    if equal_manifests(row.manifest.lines(), manifest.lines()) {
         return Ok(row.unihash);
     }
-    Err(unsteady(alloc, task, row, tree)?)
+    Err(unsteady(alloc, task, row, manifest)?)
 }
 
 /// A record that is to be stored.
@@ -146,16 +152,16 @@ fn new_record(
     index: &Index,
     sig: &SigRecord,
     own: Named,
-    tree: &Tree,
+    manifest: &Manifest,
 ) -> Result<NewRecord, Mem>
     requires spells { Spells own.bytes sig.now }
     requires name { own.name ≡ name_of sig.now }
-    ensures file { IfOk result (λ made. made.file ≡ record_file (new_stored index.now sig.now tree.now)) }
-    ensures row { IfOk result (λ made. made.row ≡ row_of_stored (new_stored index.now sig.now tree.now)) }
-    ensures spelled { IfOk result (λ made. IsInOrder (new_stored index.now sig.now tree.now) → SpellsStored (record_bytes (new_stored index.now sig.now tree.now)) (new_stored index.now sig.now tree.now)) }
+    ensures file { IfOk result (λ made. made.file ≡ record_file (new_stored index.now sig.now manifest.now)) }
+    ensures row { IfOk result (λ made. made.row ≡ row_of_stored (new_stored index.now sig.now manifest.now)) }
+    ensures spelled { IfOk result (λ made. IsInOrder (new_stored index.now sig.now manifest.now) → SpellsStored (record_bytes (new_stored index.now sig.now manifest.now)) (new_stored index.now sig.now manifest.now)) }
 {
-    let manifest = manifest_of(alloc, tree)?;
-    let unihash = new_unihash(index, sig, &own.name, &manifest);
+    let unihash = new_unihash(index, sig, &own.name, manifest);
+    let manifest = manifest_again(alloc, manifest)?;
     let sig = signature_again(alloc, sig, own.bytes.as_slice())?;
     record_of(
         alloc,
@@ -187,16 +193,16 @@ fn known_draft(
     task: &PlanTask,
     row: &EquivRow,
     own: Named,
-    tree: &Tree,
+    manifest: &Manifest,
 ) -> Result<Draft, StoreFault>
     ensures name { IfOk result (λ draft. draft.name ≡ own.name) }
     ensures bytes { IfOk result (λ draft. draft.bytes ≡ own.bytes) }
     ensures known { IfOk result (λ draft. (draft.unihash ≡ row.now.unihash) × (draft.new ≡ None)) }
-    ensures agrees { OnOk result ((row.now.sig ≡ own.bytes) × (row.now.manifest ≡ manifest_lines tree.now)) }
-    ensures err { IfErr result (IsKnownFault task.now row.now own.bytes tree.now) }
+    ensures agrees { OnOk result ((row.now.sig ≡ own.bytes) × (row.now.manifest ≡ manifest.now)) }
+    ensures err { IfErr result (IsKnownFault task.now row.now own.bytes manifest.now) }
     ensures inside { store_failed result ≡ false }
 {
-    let unihash = known_unihash(alloc, task, row, own.bytes.as_slice(), tree)?;
+    let unihash = known_unihash(alloc, task, row, own.bytes.as_slice(), manifest)?;
     Ok(Draft {
         name: own.name,
         bytes: own.bytes,
@@ -211,18 +217,18 @@ fn new_draft(
     index: &Index,
     sig: &SigRecord,
     own: Named,
-    tree: &Tree,
+    manifest: &Manifest,
 ) -> Result<Draft, Mem>
     requires spells { Spells own.bytes sig.now }
     requires name { own.name ≡ name_of sig.now }
     ensures name { IfOk result (λ draft. draft.name ≡ own.name) }
     ensures bytes { IfOk result (λ draft. draft.bytes ≡ own.bytes) }
-    ensures unihash { IfOk result (λ draft. draft.unihash ≡ (new_stored index.now sig.now tree.now).unihash) }
-    ensures new { IfOk result (λ draft. IsNew draft.new (new_stored index.now sig.now tree.now)) }
+    ensures unihash { IfOk result (λ draft. draft.unihash ≡ (new_stored index.now sig.now manifest.now).unihash) }
+    ensures new { IfOk result (λ draft. IsNew draft.new (new_stored index.now sig.now manifest.now)) }
 {
     let bytes = own.bytes.copy()?;
     let name = own.name;
-    let new = new_record(alloc, index, sig, own, tree)?;
+    let new = new_record(alloc, index, sig, own, manifest)?;
     Ok(Draft {
         name,
         bytes,
@@ -231,28 +237,24 @@ fn new_draft(
     })
 }
 
-/// What a publication of a task is to put.
+/// What a publication of a task is to put, for a tree with this manifest.
 pub(crate) fn draft_of(
     alloc: Global,
     index: &Index,
     task: &PlanTask,
     sig: &SigRecord,
-    tree: &Tree,
+    manifest: &Manifest,
 ) -> Result<Draft, StoreFault>
     requires spelled { IsSpelled sig.now }
     requires rows { AllByRecursion IsRow index.now }
-    ensures name { IfOk result (λ draft. draft.name ≡ name_of sig.now) }
     ensures bytes { IfOk result (λ draft. draft.bytes ≡ signature_bytes sig.now) }
-    ensures unihash { IfOk result (λ draft. draft.unihash ≡ unihash_for index.now (signed_by task.now sig.now) tree.now) }
-    ensures new { IfOk result (λ draft. IsNewFor index.now (signed_by task.now sig.now) tree.now draft.new) }
-    ensures spells { OnOk result (Spells (signature_bytes sig.now) sig.now) }
-    ensures agrees { OnOk result (IsAgreed index.now (signed_by task.now sig.now) tree.now) }
-    ensures refused { IfErr result (IsRefusal index.now (signed_by task.now sig.now) tree.now) }
+    ensures draft { IfOk result (λ draft. (tree : Entries) → manifest.now ≡ manifest_lines tree → IsDraft index.now (signed_by task.now sig.now) tree draft) }
+    ensures refused { IfErr result (λ fault. (tree : Entries) → manifest.now ≡ manifest_lines tree → IsRefusal index.now (signed_by task.now sig.now) tree fault) }
     ensures inside { store_failed result ≡ false }
 {
     let own = name_of_sig(alloc, sig)?;
     match index.row(&own.name) {
-        Some(row) => known_draft(alloc, task, row, own, tree),
-        None => Ok(new_draft(alloc, index, sig, own, tree)?),
+        Some(row) => known_draft(alloc, task, row, own, manifest),
+        None => Ok(new_draft(alloc, index, sig, own, manifest)?),
     }
 }

@@ -1,6 +1,7 @@
 // Publishing what tasks gave.
 ghost use Rattle.std.specs.Prelude.{◌≡◌, ◌≤◌, ◌⊎◌, ◌++◌, ◌∷◌, [], IfErr, IfOk, IfSome, None, OnErr, OnOk, Some, false, if◌then◌else◌};
 ghost use Rattle.std.specs.List.{AllByRecursion};
+ghost use Rattle.tree_model.specs.Manifest.{manifest_lines};
 ghost use Rattle.tree_model.specs.declared.entry.Entry.{Entry as AnEntry};
 ghost use Rattle.tree_model.specs.declared.hash.Hash.{Hash as AHash};
 ghost use Rattle.outside_traits.specs.Fault.{Counts};
@@ -29,7 +30,7 @@ use meta_model::PlanTask;
 use outside_traits::{Disk, DiskFault};
 use std::alloc::Global;
 use store_model::{EquivRow, SigRecord};
-use tree_model::{Entry, Hash, Mem, Tree};
+use tree_model::{Entry, Hash, Manifest, Mem, Tree};
 
 /// Puts a task's tree, under the name of its record.
 pub(crate) fn put_task<D: Disk>(
@@ -163,11 +164,13 @@ pub(crate) fn publish<D: Disk>(
     task: &PlanTask,
     sig: &SigRecord,
     tree: &Tree,
+    manifest: &Manifest,
 ) -> Result<Hash, StoreFault>
     requires reach { 3600 ≤ D.reach }
     requires place { HasPlace task.now }
     requires spelled { IsSpelled sig.now }
     requires short { AreShort tree.now }
+    requires listed { manifest.now ≡ manifest_lines tree.now }
     requires rows { AllByRecursion IsRow index.old }
     requires keeps { D.tells → IsKept index.old (D.story disk.old) }
     ensures unihash { IfOk result (λ unihash. unihash ≡ unihash_for index.old (signed_by task.now sig.now) tree.now) }
@@ -187,7 +190,7 @@ pub(crate) fn publish<D: Disk>(
     ensures round { D.tells → Passes (D.story disk.old) (D.story disk.new) (KeepsOthers (task_folder task.now) (object_for index.old (signed_by task.now sig.now) tree.now) (D.story disk.old).held) }
     ensures cause { Counts (D.faults disk.old) (D.faults disk.new) (store_failed result) }
 {
-    let draft = draft_of(alloc, index, task, sig, tree)?;
+    let draft = draft_of(alloc, index, task, sig, manifest)?;
     keep(alloc, kept, task, draft.bytes.as_slice())?;
     let unihash = put_draft(alloc, disk, index, task, sig, draft, tree)?;
     forget(kept, task);

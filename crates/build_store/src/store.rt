@@ -2,6 +2,7 @@
 ghost use Rattle.std.specs.Prelude.{◌≡◌, ◌≤◌, ◌-◌, ◌^◌, ◌⊎◌, [], min, false, IfOk, IfErr, None, OnOk, OnErr, MatchBool, length, IfSome};
 ghost use Rattle.std.specs.Bool.{OnFalse};
 ghost use Rattle.std.specs.Option.{option_map};
+ghost use Rattle.tree_model.specs.Manifest.{manifest_lines};
 ghost use Rattle.outside_traits.specs.Fault.{Counts};
 ghost use Rattle.outside_traits.specs.Passes.{EachNow, Passes, Same};
 ghost use Rattle.outside_traits.specs.Story.{IsFresh, moment as moment_of};
@@ -32,7 +33,7 @@ use outside_traits::{Disk, DiskFault};
 use std::alloc::Global;
 use std::marker::Model;
 use store_model::SigRecord;
-use tree_model::{Hash, Tree};
+use tree_model::{Hash, Manifest, Tree};
 
 /// What runs of plans left on a disk, with the index of its records. Contracts see the disk, the rows and the kept signatures.
 #[derive(Drop)]
@@ -173,8 +174,8 @@ impl<D: Disk> Store<D> {
         restore(alloc, &mut self.disk, &self.index, task, sig)
     }
 
-    /// Puts what a task gave: its work folder becomes the tree, and for a task of the shared state so does the object of its unihash; its
-    /// record is stored, unless it is, and its stamp names the record. The answer is the task's unihash.
+    /// Puts what a task gave, a tree with its manifest: its work folder becomes the tree, and for a task of the shared state so does the
+    /// object of its unihash; its record is stored, unless it is, and its stamp names the record. The answer is the task's unihash.
     ///
     /// `Collision` comes exactly where the row of the signature's name has another signature, `Unsteady` exactly where it has the
     /// signature and another manifest; then nothing changes. After want of memory the stamp may be gone, the task's folders changed and
@@ -186,12 +187,14 @@ impl<D: Disk> Store<D> {
         task: &PlanTask,
         sig: &SigRecord,
         tree: &Tree,
+        manifest: &Manifest,
     ) -> Result<Hash, StoreFault>
         requires reach { 3600 ≤ D.reach }
         requires place { HasPlace task.now }
         requires sig { IsSpelled sig.now }
         requires named { IsSignatureOf task.now sig.now }
         requires short { AreShort tree.now }
+        requires listed { manifest.now ≡ manifest_lines tree.now }
         ensures unihash { IfOk result (λ unihash. unihash ≡ unihash_for self.old.rows (signed_by task.now sig.now) tree.now) }
         ensures published { D.tells → OnOk result (EachNow (D.story self.new.disk) (IsPublished (publication self.old.rows (signed_by task.now sig.now) tree.now))) }
         ensures agrees { OnOk result (IsAgreed self.old.rows (signed_by task.now sig.now) tree.now) }
@@ -217,6 +220,7 @@ impl<D: Disk> Store<D> {
             task,
             sig,
             tree,
+            manifest,
         )
     }
 

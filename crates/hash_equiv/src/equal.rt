@@ -14,7 +14,7 @@ fn equal_lines(one: &ManifestLine, other: &ManifestLine) -> bool
 }
 
 /// Whether two manifests have the same lines.
-pub(crate) fn equal_manifests(one: &[ManifestLine], other: &[ManifestLine]) -> bool
+pub fn equal_manifests(one: &[ManifestLine], other: &[ManifestLine]) -> bool
     ensures { IsTrue result ↔ (one.now ≡ other.now) }
 {
     if one.len() != other.len() {

@@ -15,4 +15,5 @@ mod equal;
 mod index;
 mod places;
 
+pub use equal::equal_manifests;
 pub use index::{EquivFault, Index};

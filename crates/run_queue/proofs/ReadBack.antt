@@ -21,7 +21,7 @@ job_found tasks task read held numbers outputs given found same numbers_are give
     own = subst (λ (l : List ℕ). AreRead tasks l held outputs) (numbers_are ∙ ap (λ (t : PlanTask). t.deps) same) has
 
     by : (f : Option Job) → IsOver tasks task outputs f → Finds tasks task held f
-    by (Some job) o = record { outputs = outputs; read = own; is_script = o.0; is_laid = o.1; within = o.2 }
+    by (Some job) o = record { outputs = outputs; read = own; is_script = o.0; is_laid = o.1; is_placing = o.2; within = o.3 }
     by None o = laid outputs own o
 
 pub job_lacks : (tasks : List PlanTask) (task read : PlanTask) (held : Store) (numbers : List ℕ) → read ≡ task → numbers ≡ read.deps → LacksOne tasks numbers held → Finds tasks task held None

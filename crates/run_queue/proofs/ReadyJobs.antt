@@ -123,7 +123,7 @@ module _ (o : Opening) (s : Seen) (sound : IsSound s.plan) (n : ℕ) (task : Pla
       (recursion_from_All (λ d. is_settled (fate_at (fates_told (length s.plan.tasks) s.tale) d) ≡ true) task.deps settled) read.each
 
   -- the job is a clean one
-  pub job_is_clean : (job : Job) → job.task ≡ n → IsJobOf s.plan.tasks task s.story.held job.script job.layout → IsCleanJob o s job
+  pub job_is_clean : (job : Job) → job.task ≡ n → IsJobOf s.plan.tasks task s.story.held job → IsCleanJob o s job
   job_is_clean job same j = record {
     task = task;
     is_task = ap (slice_get s.plan.tasks) same ∙ at;
@@ -132,6 +132,7 @@ module _ (o : Opening) (s : Seen) (sound : IsSound s.plan) (n : ℕ) (task : Pla
     clean = are_clean j.outputs j.read;
     script = j.is_script;
     layout = j.is_laid;
+    placing = j.is_placing;
     within = j.within;
   }
 
@@ -195,7 +196,7 @@ module _ (o : Opening) (s : Seen) (k : Known) (t seat : ℕ) (task : PlanTask) (
       let fits : is_beyond_layout (layout_over s.plan.tasks j.task j.outputs) ≡ false = ap is_beyond_layout (sym j.layout) ∙ j.within in
       let says = (job_is_said o.gives s.plan.tasks job.task j.task j.outputs j.is_task j.numbers j.clean).0 fits in
       claim_may_come o s k (next.Start t) (record { event = events.Started t seat; seat = seat; moment = moment }) run orderly known now free answer
-      (ap Some (started_said seat t (job_output o.gives j.task.sstate j.task.places (job_of job.task j.task (layout_over s.plan.tasks j.task j.outputs))) (clean_says o.gives s.plan.tasks t) (ap (clean_says o.gives s.plan.tasks) (sym same) ∙ says)))
+      (ap Some (started_said seat t (job_output o.gives (job_of job.task j.task (layout_over s.plan.tasks j.task j.outputs))) (clean_says o.gives s.plan.tasks t) (ap (clean_says o.gives s.plan.tasks) (sym same) ∙ says)))
 
   -- one whose layout isn't may be marked so, and fails so in the clean build
   pub large_says : (outputs : List (ℕ × Entries)) → map (λ x. x.0) outputs ≡ task.deps → AreClean o.gives s.plan.tasks outputs → is_beyond_layout (layout_over s.plan.tasks task outputs) ≡ true → clean_says o.gives s.plan.tasks t ≡ layout_too_large

@@ -100,6 +100,7 @@ module _ {D W : Type 0} (old mid : RunView D W) (same : SameTold old mid) where
     clean = subst (λ (p : Plan). Rattle.task_worker.specs.OneTask.AreClean o.gives p.tasks c.outputs) same.plan c.clean;
     script = c.script;
     layout = subst (λ (p : Plan). job.layout ≡ Rattle.task_worker.specs.Layouts.layout_over p.tasks c.task c.outputs) same.plan c.layout;
+    placing = c.placing;
     within = c.within;
   }
   clean_from story written o (Ok (claim.Settled t)) c = tt

@@ -1,5 +1,6 @@
 -- What a turn that publishes a task's output leaves of a run, as views of its state.
 use Rattle.std.proofs.Common.{◌≡◌, ◌∙◌, sym, ap, subst, refl, ℕ, ◌<◌, ◌-◌, ◌^◌, ◌⊎◌, inl, inr, zero, suc, arith, min, true, false, List, [], ◌∷◌, ◌++◌, length, set, All, Some, None, Ok, Err, get_or}
+use Rattle.tree_model.specs.declared.manifest.ManifestLine.{ManifestLine}
 use Rattle.std.specs.Prelude.{IfSome, IsSome, Option}
 use Rattle.std.specs.Option.{option_map}
 use Rattle.std.specs.List.{slice_get}
@@ -320,7 +321,7 @@ broken_seen story written o mid new t seat cut n m stays runs run =
 
 -- a job that failed leaves what a run keeps
 pub failed_seen : {D W : Type 0} (story : D → Story) (written : W → List ℕ) (o : Opening) (old new : RunView D W) (job : Job) (g : Given) (cause : Why) (seat : ℕ) → outcome_of g ≡ Err cause → closed_as job.task g ≡ events.Failed job.task cause
-    → IsCleanJob o (seen story written old) job → IsGivenBy o.gives old.plan.tasks job g → Notes seat (events.Failed job.task cause) old new → MarksAt (story old.store.disk) seat (events.Failed job.task cause) old.tale new.tale → (IsSome old.fault → new.fault ≡ old.fault)
+    → IsCleanJob o (seen story written old) job → IsGivenBy o.gives job g → Notes seat (events.Failed job.task cause) old new → MarksAt (story old.store.disk) seat (events.Failed job.task cause) old.tale new.tale → (IsSome old.fault → new.fault ≡ old.fault)
     → fate_at (fates_told (length old.plan.tasks) old.tale) job.task ≡ fate.Running seat → IsRun o (seen story written old) → IsRun o (seen story written new)
 failed_seen story written o old new job g cause seat fails closed j is_given n m stays runs run =
     noted_run story written o old new seat (events.Failed job.task cause) n m stays
@@ -333,7 +334,7 @@ failed_seen story written o old new job g cause seat fails closed j is_given n m
     (inl (says o (seen story written old) job g j is_given ∙ ap said fails))
 
 -- the tree that a job gave is its task's clean output
-pub output_of : {D W : Type 0} (story : D → Story) (written : W → List ℕ) (o : Opening) (old : RunView D W) (job : Job) (tree : Entries) → IsSound old.plan → IsCleanJob o (seen story written old) job → IsGivenBy o.gives old.plan.tasks job (given.Tree tree) → IsCleanOutput o.gives old.plan.tasks job.task tree
-output_of story written o old job tree sound j is_given =
-    let b = given_is_clean o (seen story written old) job tree j is_given (λ task at. recursion_from_All (λ d. d < job.task) task.deps (sound.tasks job.task task at).below) in
-    record { built = b.0; is_built = b.1; clean = b.2; says = says o (seen story written old) job (given.Tree tree) j is_given }
+pub output_of : {D W : Type 0} (story : D → Story) (written : W → List ℕ) (o : Opening) (old : RunView D W) (job : Job) (tree : Entries) (manifest : List ManifestLine) → IsSound old.plan → IsCleanJob o (seen story written old) job → IsGivenBy o.gives job (given.Tree tree manifest) → IsCleanOutput o.gives old.plan.tasks job.task tree
+output_of story written o old job tree manifest sound j is_given =
+    let b = given_is_clean o (seen story written old) job tree manifest j is_given (λ task at. recursion_from_All (λ d. d < job.task) task.deps (sound.tasks job.task task at).below) in
+    record { built = b.0; is_built = b.1; clean = b.2; says = says o (seen story written old) job (given.Tree tree manifest) j is_given }

@@ -102,12 +102,12 @@ ClaimMayCome = (o : Opening) (s : Seen) (k : Known) (answer : Next) (e : Logged)
 -- else that the layout is too large.
 abbrev pub JobIsSaid : Type 0
 JobIsSaid = (gives : Gives) (tasks : List PlanTask) (n : ℕ) (task : PlanTask) (outputs : List (ℕ × Entries)) → slice_get tasks n ≡ Some task → map (λ x. x.0) outputs ≡ task.deps → AreClean gives tasks outputs →
-    (is_beyond_layout (layout_over tasks task outputs) ≡ false → clean_says gives tasks n ≡ said (job_output gives task.sstate task.places (job_of n task (layout_over tasks task outputs))))
+    (is_beyond_layout (layout_over tasks task outputs) ≡ false → clean_says gives tasks n ≡ said (job_output gives (job_of n task (layout_over tasks task outputs))))
     × (is_beyond_layout (layout_over tasks task outputs) ≡ true → clean_says gives tasks n ≡ layout_too_large)
 
 -- What closes a job that was done, where what was given is what it gives, may come in each course of the run.
 abbrev pub EndMayCome : Type 0
-EndMayCome = (o : Opening) (s : Seen) (job : Job) (g : Given) (seat moment : ℕ) → IsCleanJob o s job → IsGivenBy o.gives s.plan.tasks job g → fate_at (fates_told (length s.plan.tasks) s.tale) job.task ≡ Running seat →
+EndMayCome = (o : Opening) (s : Seen) (job : Job) (g : Given) (seat moment : ℕ) → IsCleanJob o s job → IsGivenBy o.gives job g → fate_at (fates_told (length s.plan.tasks) s.tale) job.task ≡ Running seat →
     (course : Course) → course.plan ≡ s.plan → IsCourse o s.options s.tale course → MayCome course s.tale (record { event = closed_as job.task g; seat = seat; moment = moment })
 
 -- A task that failed in the tale of a run fails by itself in the clean build, after all that it needs succeeded.

@@ -8,6 +8,7 @@ use Rattle.store_model.specs.Available.{work_folder}
 use Rattle.build_store.specs.Finding.{IsOutput}
 use Rattle.task_worker.specs.declared.given.Job.{Job}
 use Rattle.task_worker.specs.Layouts.{layout_over}
+use Rattle.task_worker.specs.OneTask.{placing_of}
 
 -- the output of the task of a number was read back
 abbrev pub IsRead : List PlanTask → Store → ℕ × Entries → Type 0
@@ -31,16 +32,17 @@ AreFound tasks numbers held (Some outputs) = AreRead tasks numbers held outputs
 AreFound tasks numbers held None = LacksOne tasks numbers held
 
 -- the job of a task: its script over the layout of what was read back
-pub record IsJobOf (tasks : List PlanTask) (task : PlanTask) (held : Store) (script : List ℕ) (laid : Entries) : Type 0 where
+pub record IsJobOf (tasks : List PlanTask) (task : PlanTask) (held : Store) (job : Job) : Type 0 where
   pub outputs : List (ℕ × Entries)
   pub read : AreRead tasks task.deps held outputs
-  pub is_script : script ≡ task.script
-  pub is_laid : laid ≡ layout_over tasks task outputs
-  pub within : is_beyond_layout laid ≡ false
+  pub is_script : job.script ≡ task.script
+  pub is_laid : job.layout ≡ layout_over tasks task outputs
+  pub is_placing : job.placing ≡ placing_of task
+  pub within : is_beyond_layout job.layout ≡ false
 
 -- the job over these outputs; nothing where the layout is beyond the limits
 abbrev pub IsOver : List PlanTask → PlanTask → List (ℕ × Entries) → Option Job → Type 0
-IsOver tasks task outputs (Some job) = (job.script ≡ task.script) × (job.layout ≡ layout_over tasks task outputs) × (is_beyond_layout job.layout ≡ false)
+IsOver tasks task outputs (Some job) = (job.script ≡ task.script) × (job.layout ≡ layout_over tasks task outputs) × (job.placing ≡ placing_of task) × (is_beyond_layout job.layout ≡ false)
 IsOver tasks task outputs None = is_beyond_layout (layout_over tasks task outputs) ≡ true
 
 -- the layout is beyond the limits, or an output of those that it is made from
@@ -50,5 +52,5 @@ pub data IsTooLarge (tasks : List PlanTask) (task : PlanTask) (held : Store) : T
 
 -- a task's job; nothing where its layout is too large
 abbrev pub Finds : List PlanTask → PlanTask → Store → Option Job → Type 0
-Finds tasks task held (Some job) = IsJobOf tasks task held job.script job.layout
+Finds tasks task held (Some job) = IsJobOf tasks task held job
 Finds tasks task held None = IsTooLarge tasks task held

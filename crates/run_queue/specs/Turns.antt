@@ -26,7 +26,7 @@ use Rattle.task_worker.specs.declared.given.Given.TheVariants as given
 use Rattle.task_worker.specs.declared.given.Job.{Job}
 use Rattle.task_worker.specs.Jobs.{job_output, outcome_of}
 use Rattle.task_worker.specs.Layouts.{layout_over}
-use Rattle.task_worker.specs.OneTask.{AreClean}
+use Rattle.task_worker.specs.OneTask.{AreClean, placing_of}
 use Rattle.std.specs.Prelude.{map}
 use Rattle.run_queue.specs.declared.restoring.Restoring.{Restoring}
 use Rattle.run_queue.specs.declared.restoring.Restoring.TheVariants as restoring
@@ -81,6 +81,7 @@ pub record IsCleanJob (o : Opening) (s : Seen) (job : Job) : Type 0 where
   pub clean : AreClean o.gives s.plan.tasks outputs
   pub script : job.script ≡ task.script
   pub layout : job.layout ≡ layout_over s.plan.tasks task outputs
+  pub placing : job.placing ≡ placing_of task
   pub within : is_beyond_layout job.layout ≡ false
 
 abbrev pub ClaimsClean : Opening → Seen → Result Claim Mem → Type 0
@@ -91,13 +92,13 @@ ClaimsClean o s (Ok claim.Finished) = (course : Course) → course.plan ≡ s.pl
 ClaimsClean o s (Ok claim.Stopped) = Unit {0}
 ClaimsClean o s (Err e) = Unit {0}
 
--- What was given is what the task's job gives.
-abbrev pub IsGivenBy : Gives → List PlanTask → Job → Given → Type 0
-IsGivenBy run tasks job g = (task : PlanTask) → slice_get tasks job.task ≡ Some task → job_output run task.sstate task.places job ≡ outcome_of g
+-- What was given is what the job gives.
+abbrev pub IsGivenBy : Gives → Job → Given → Type 0
+IsGivenBy run job g = job_output run job ≡ outcome_of g
 
 -- the event that closes a job, where nothing was wanting
 abbrev pub closed_as : ℕ → Given → Event
-closed_as t (given.Tree tree) = events.Ended t
+closed_as t (given.Tree tree manifest) = events.Ended t
 closed_as t (given.Fails status) = events.Failed t (why.Status status)
 closed_as t given.TooLarge = events.Failed t why.TooLarge
 

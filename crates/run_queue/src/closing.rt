@@ -4,6 +4,7 @@ ghost use Rattle.std.specs.List.{slice_get};
 ghost use Rattle.outside_traits.specs.Fault.{Counts};
 ghost use Rattle.outside_traits.specs.Passes.{Passes, Same};
 ghost use Rattle.meta_model.specs.declared.plan.PlanTask.{PlanTask as Task};
+ghost use Rattle.tree_model.specs.Manifest.{manifest_lines};
 ghost use Rattle.tree_model.specs.Tree.{IsTree};
 ghost use Rattle.plan_model.specs.Sound.{IsSound};
 ghost use Rattle.store_model.specs.Signatures.{Signed};
@@ -33,7 +34,7 @@ use sig_gen::sig_of;
 use std::alloc::Global;
 use store_model::SigRecord;
 use task_worker::{Given, Job};
-use tree_model::{Mem, Tree};
+use tree_model::{Manifest, Mem, Tree};
 
 /// The signature of a task by what is known of the plan's tasks. Where that isn't kept it is want of memory.
 pub(crate) fn signature(
@@ -62,11 +63,13 @@ fn publish_in<D: Disk>(
     replan: &Option<Replan>,
     task: u32,
     tree: &Tree,
+    manifest: &Manifest,
 ) -> Result<(), StoreFault>
     requires reach { 3600 ≤ D.reach }
     requires sound { IsSound plan.now }
     requires task { task < length plan.now.tasks }
     requires short { AreShort tree.now }
+    requires listed { manifest.now ≡ manifest_lines tree.now }
     requires current { IfSome replan.now (IsCurrent no_meaning (record { plan = plan.now; rows = store.old.rows })) }
     requires unharmed { D.faults store.old.disk ≡ 0 }
     ensures put { OnOk result ((s : Signed) → IsSignedAt store.old.rows plan.now.tasks task s → HasPut D.tells (D.story store.new.disk) store.old.rows store.new.rows s tree.now) }
@@ -82,7 +85,8 @@ fn publish_in<D: Disk>(
     ensures readable { (s : Signed) → IsSignedAt store.old.rows plan.now.tasks task s → IsReadable (line_for store.old.rows s tree.now) ⊎ (store.new.disk ≡ store.old.disk) }
 {
     let sig = signature(alloc, plan, replan, task)?;
-    let _unihash = store.publish(alloc, &plan.tasks.as_slice()[task as usize], &sig, tree)?;
+    let task = &plan.tasks.as_slice()[task as usize];
+    let _unihash = store.publish(alloc, task, &sig, tree, manifest)?;
     Ok(())
 }
 
@@ -124,13 +128,21 @@ fn resettle<D: Disk>(
 impl<D: Disk, W: Sink> RunState<D, W> {
     /// Publishes what a running task gave, and marks that it ended, or that it broke where a fault was met. One that is met once it was
     /// published is kept, and the task has ended.
-    fn end_tree(&mut self, alloc: Global, number: u32, task: u32, tree: &Tree) -> Result<(), Mem>
+    fn end_tree(
+        &mut self,
+        alloc: Global,
+        number: u32,
+        task: u32,
+        tree: &Tree,
+        manifest: &Manifest,
+    ) -> Result<(), Mem>
         requires reach { 3600 ≤ D.reach }
         requires faultless { self.old.fault ≡ None }
         requires runs { RunsUnder self.old task number }
         requires is_tree { IsTree tree.now }
         requires short { AreShort tree.now }
-        ensures ends { Ends number task (givens.Tree tree.now) self.old self.new result }
+        requires listed { manifest.now ≡ manifest_lines tree.now }
+        ensures ends { Ends number task (givens.Tree tree.now manifest.now) self.old self.new result }
         ensures same { SameRun self.old self.new }
         ensures sink { (before : ℕ) → Counts before (W.faults self.old.sink) self.old.sink_failed → Counts before (W.faults self.new.sink) self.new.sink_failed }
         ensures text { W.tells → (base : List ℕ) → Prints base (W.written self.old.sink) (tale_text self.old.plan.tasks self.old.tale) self.old.sink_failed → Prints base (W.written self.new.sink) (tale_text self.old.plan.tasks self.new.tale) self.new.sink_failed }
@@ -141,7 +153,15 @@ impl<D: Disk, W: Sink> RunState<D, W> {
         ensures steady { D.tells → (o : Opening) → IsRun o (seen D.story W.written self.old) → IsCleanOutput o.gives self.old.plan.tasks task tree.now → IsSteady self.new.fault }
     {
         self.begun[task as usize] = Some(Avail::Missing);
-        match publish_in(alloc, &mut self.store, &self.plan, &self.replan, task, tree) {
+        match publish_in(
+            alloc,
+            &mut self.store,
+            &self.plan,
+            &self.replan,
+            task,
+            tree,
+            manifest,
+        ) {
             Ok(()) => {
                 resettle(
                     alloc,
@@ -185,8 +205,8 @@ impl<D: Disk, W: Sink> RunState<D, W> {
         ensures stays { W.tells → (front : List ℕ) → IsFront front (W.written self.old.sink) → IsFront front (W.written self.new.sink) }
 
         // Where the disk tells.
-        ensures run { D.tells → (o : Opening) → IsRun o (seen D.story W.written self.old) → IsGivenBy o.gives self.old.plan.tasks job given → IsCleanJob o (seen D.story W.written self.old) job → IsRun o (seen D.story W.written self.new) }
-        ensures steady { D.tells → (o : Opening) → IsRun o (seen D.story W.written self.old) → IsGivenBy o.gives self.old.plan.tasks job given → IsCleanJob o (seen D.story W.written self.old) job → IsSteady self.old.fault → IsSteady self.new.fault }
+        ensures run { D.tells → (o : Opening) → IsRun o (seen D.story W.written self.old) → IsGivenBy o.gives job given → IsCleanJob o (seen D.story W.written self.old) job → IsRun o (seen D.story W.written self.new) }
+        ensures steady { D.tells → (o : Opening) → IsRun o (seen D.story W.written self.old) → IsGivenBy o.gives job given → IsCleanJob o (seen D.story W.written self.old) job → IsSteady self.old.fault → IsSteady self.new.fault }
     {
         let task = job.task;
         if self.fault.is_some() {
@@ -195,7 +215,9 @@ impl<D: Disk, W: Sink> RunState<D, W> {
             return Ok(());
         }
         match given {
-            Given::Tree(tree) => self.end_tree(alloc, number, task, &tree),
+            Given::Tree { tree, manifest } => {
+                self.end_tree(alloc, number, task, &tree, &manifest)
+            }
             Given::Fails { status } => {
                 let why = Why::Status(status);
                 self.note(number, Event::Failed { task, why });

@@ -14,7 +14,7 @@ use build_store::{Store, StoreFault};
 use meta_model::Plan;
 use outside_traits::Disk;
 use std::alloc::Global;
-use task_worker::{Job, layout};
+use task_worker::{Job, job_over as job_of_task, layout};
 use tree_model::{Mem, Tree};
 
 /// The outputs of the tasks of these numbers, in their order, or nothing where one of them is beyond the limits.
@@ -57,12 +57,8 @@ fn job_over(
 {
     match layout(alloc, plan, number, outputs)? {
         Some(layout) => {
-            let script = plan.tasks.as_slice()[number as usize].script.copy()?;
-            Ok(Some(Job {
-                task: number,
-                script,
-                layout,
-            }))
+            let task = &plan.tasks.as_slice()[number as usize];
+            Ok(Some(job_of_task(alloc, number, task, layout)?))
         }
         None => Ok(None),
     }

@@ -40,6 +40,7 @@ pub enum Claim {
 }
 
 /// The state of a run, in hand.
+#[derive(Drop)]
 pub struct RunState<D: Disk, W: Sink> {
     pub(crate) plan: Plan,
     pub(crate) options: Options,

@@ -5,13 +5,13 @@ ghost use Rattle.outside_traits.specs.Story.{IsFresh};
 ghost use Rattle.store_tests.specs.Samples.{IsSample};
 
 use crate::samples::Sample;
-use build_store::{Store, open_store};
+use build_store::{Store, StoreFault, open_store};
 use meta_model::Avail;
 use outside_mem::MemDisk;
 use outside_traits::Disk;
 use std::alloc::Global;
 use std::test::Fail;
-use tree_model::{manifest_of, matches};
+use tree_model::{Hash, manifest_of, matches};
 
 /// A disk that holds nothing.
 pub fn empty(alloc: Global) -> Result<MemDisk, Fail>
@@ -34,6 +34,19 @@ pub fn opened(alloc: Global, disk: MemDisk) -> Result<Store<MemDisk>, Fail>
     }
 }
 
+/// Publishes the sample.
+pub fn publish<D: Disk>(
+    alloc: Global,
+    store: &mut Store<D>,
+    sample: &Sample,
+) -> Result<Hash, StoreFault>
+    requires reach { 3600 ≤ D.reach }
+    requires sample { IsSample sample.now.task sample.now.sig sample.now.tree }
+{
+    let manifest = manifest_of(alloc, &sample.tree)?;
+    store.publish(alloc, &sample.task, &sample.sig, &sample.tree, &manifest)
+}
+
 /// Opens a disk and publishes the sample there: the disk behind it, and whether that was answered with `Ok`.
 pub fn publish_over<D: Disk>(alloc: Global, disk: D, sample: &Sample) -> (D, bool)
     requires reach { 3600 ≤ D.reach }
@@ -43,7 +56,7 @@ pub fn publish_over<D: Disk>(alloc: Global, disk: D, sample: &Sample) -> (D, boo
     match open_store(alloc, disk) {
         Ok(store) => {
             let mut store = store;
-            let done = store.publish(alloc, &sample.task, &sample.sig, &sample.tree);
+            let done = publish(alloc, &mut store, sample);
             (store.into_disk(), done.is_ok())
         }
         Err(refused) => (refused.disk, false),

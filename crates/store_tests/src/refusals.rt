@@ -1,7 +1,7 @@
 // What a store refuses.
 ghost use Rattle.store_tests.specs.Samples.{IsSample};
 
-use crate::asked::{empty, is_there, opened, publish_over};
+use crate::asked::{empty, is_there, opened, publish, publish_over};
 use crate::samples::{HELLO, MORE, Sample, sample_from};
 use build_store::{Store, StoreFault};
 use outside_mem::MemDisk;
@@ -19,7 +19,7 @@ fn tells_collision(alloc: Global, store: &Store<MemDisk>) -> bool {
 fn tells_unsteady(alloc: Global, store: &mut Store<MemDisk>, sample: &Sample) -> bool
     requires { IsSample sample.now.task sample.now.sig sample.now.tree }
 {
-    let refused = store.publish(alloc, &sample.task, &sample.sig, &sample.tree);
+    let refused = publish(alloc, store, sample);
     matches!(refused, Err(StoreFault::Unsteady { .. }))
 }
 

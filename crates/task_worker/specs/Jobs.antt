@@ -1,5 +1,6 @@
 -- What a job gives, and what a bench ran for it.
 use Rattle.std.specs.Prelude.{◌≡◌, ◌≢◌, ◌⊎◌, ℕ, Bool, true, false, List, [], ◌∷◌, ◌++◌, Result, Ok, Err}
+use Rattle.tree_model.specs.Manifest.{manifest_lines}
 use Rattle.tree_model.specs.Tree.{IsTree}
 use Rattle.outside_traits.specs.Bench.{Workplace}
 use Rattle.meta_model.specs.declared.event.Why.{Why}
@@ -11,22 +12,19 @@ use Rattle.task_worker.specs.declared.given.Job.{Job}
 use Rattle.task_worker.specs.declared.given.WorkFault.{WorkFault}
 use Rattle.task_worker.specs.declared.given.WorkFault.TheVariants as work
 
-abbrev pub Places : Type 0
-Places = List (List ℕ × List ℕ)
-
--- what the clean build has of a task with this script, these places and this layout, which is within its limits
-abbrev pub job_output : Gives → Bool → Places → Job → Result Entries Why
-job_output gives sstate places job = output_of sstate places (clean_output gives job.script job.layout)
+-- what the clean build has of a task with the script, the layout and the placing of a job, where the layout is within its limits
+abbrev pub job_output : Gives → Job → Result Entries Why
+job_output gives job = output_of job.placing.sstate job.placing.places (clean_output gives job.script job.layout)
 
 -- what was given, as the clean build says it
 abbrev pub outcome_of : Given → Result Entries Why
-outcome_of (given.Tree tree) = Ok tree
+outcome_of (given.Tree tree manifest) = Ok tree
 outcome_of (given.Fails status) = Err (why.Status status)
 outcome_of given.TooLarge = Err why.TooLarge
 
--- a tree that is given is within the limits of an output, and a status is a failing one
+-- a tree that is given is within the limits of an output and has its manifest beside it, and a status is a failing one
 abbrev pub IsGiven : Given → Type 0
-IsGiven (given.Tree tree) = IsTree tree × (is_beyond tree ≡ false)
+IsGiven (given.Tree tree manifest) = IsTree tree × (is_beyond tree ≡ false) × (manifest ≡ manifest_lines tree)
 IsGiven (given.Fails status) = status ≢ 0
 IsGiven given.TooLarge = Unit {0}
 

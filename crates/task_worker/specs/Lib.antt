@@ -1,5 +1,6 @@
 pub mod Layouts
 pub mod Work
 pub mod Jobs
+pub mod Left
 pub mod OneTask
 pub mod Runnable

@@ -5,6 +5,7 @@ use Rattle.meta_model.specs.declared.event.Why.TheVariants as why
 use Rattle.meta_model.specs.declared.plan.PlanTask.{PlanTask}
 use Rattle.meta_model.specs.CleanBuild.{Built, Entries, Gives, Lack, by_itself, clean_build, is_beyond_layout, task_output}
 use Rattle.task_worker.specs.declared.given.Job.{Job}
+use Rattle.task_worker.specs.declared.given.Placing.{Placing}
 use Rattle.task_worker.specs.Jobs.{job_output}
 use Rattle.task_worker.specs.Layouts.{layout_over}
 
@@ -21,13 +22,17 @@ abbrev pub OneTask : Type 0
 OneTask = (gives : Gives) (tasks : List PlanTask) (n : ℕ) (task : PlanTask) (outputs : List (ℕ × Entries)) → slice_get tasks n ≡ Some task → AllByRecursion (λ d. d < n) task.deps → map (λ o. o.0) outputs ≡ task.deps → AreClean gives tasks outputs
     → Has gives tasks n (by_itself (task_output gives task.script task.sstate task.places (layout_over tasks task outputs)))
 
+-- how a task's output is taken
+abbrev pub placing_of : PlanTask → Placing
+placing_of task = record { sstate = task.sstate; places = task.places }
+
 -- the job of a task over a layout
 abbrev pub job_of : ℕ → PlanTask → Entries → Job
-job_of n task laid = record { task = n; script = task.script; layout = laid }
+job_of n task laid = record { task = n; script = task.script; layout = laid; placing = placing_of task }
 
 -- That is what the task's job gives, where the layout is within its limits, and else too large.
 abbrev pub OneJob : Type 0
-OneJob = (gives : Gives) (n : ℕ) (task : PlanTask) (laid : Entries) → is_beyond_layout laid ≡ false → task_output gives task.script task.sstate task.places laid ≡ job_output gives task.sstate task.places (job_of n task laid)
+OneJob = (gives : Gives) (n : ℕ) (task : PlanTask) (laid : Entries) → is_beyond_layout laid ≡ false → task_output gives task.script task.sstate task.places laid ≡ job_output gives (job_of n task laid)
 
 abbrev pub NoJob : Type 0
 NoJob = (gives : Gives) (task : PlanTask) (laid : Entries) → is_beyond_layout laid ≡ true → task_output gives task.script task.sstate task.places laid ≡ Err why.TooLarge

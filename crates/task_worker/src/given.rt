@@ -1,8 +1,18 @@
 // A job, and what comes of it.
+use meta_model::ListOf;
 use outside_traits::BenchFault;
-use tree_model::{Mem, Text, Tree};
+use tree_model::{Manifest, Mem, Text, Tree};
 
-/// One task's work: the number of the task, its script, and what is laid out for it.
+/// How a task's output is taken from its work tree.
+#[derive(Debug, Drop)]
+pub struct Placing {
+    /// Whether the output is kept as a shared state object.
+    pub sstate: bool,
+    /// Of such a task: folders of the work tree, each with the folder of the output to which it goes.
+    pub places: ListOf<(Text, Text)>,
+}
+
+/// One task's work: the number of the task, its script, what is laid out for it, and how its output is taken.
 #[derive(Debug, Drop)]
 pub struct Job {
     /// The number of the task in its plan.
@@ -11,15 +21,24 @@ pub struct Job {
     pub script: Text,
     /// The tree that the script is run over.
     pub layout: Tree,
+    /// How the output is taken.
+    pub placing: Placing,
 }
 
 /// What a job gives.
 #[derive(Debug, Drop)]
 pub enum Given {
-    /// The task's output.
-    Tree(Tree),
+    /// The task's output, and its manifest, so that nobody has to read it again to have that.
+    Tree {
+        /// The output.
+        tree: Tree,
+        /// Its manifest.
+        manifest: Manifest,
+    },
     /// The script failed with this status, which isn't 0.
-    Fails { status: u32 },
+    Fails {
+        status: u32,
+    },
     /// The script's tree or the output is beyond the limits.
     TooLarge,
 }

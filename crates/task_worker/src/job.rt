@@ -5,13 +5,16 @@ ghost use Rattle.outside_traits.specs.Fault.{Counts};
 ghost use Rattle.meta_model.specs.CleanBuild.{given, limited, output_of, part_at};
 ghost use Rattle.meta_model.specs.Layout.{overlaid_all};
 ghost use Rattle.task_worker.specs.Jobs.{IsGiven, RanJob, job_output, outcome_of, work_failed};
+ghost use Rattle.task_worker.specs.Left.{IsLeft, left_outcome};
+ghost use Rattle.task_worker.specs.OneTask.{job_of};
 
-use crate::given::{Given, Job, WorkFault};
+use crate::given::{Given, Job, Placing, WorkFault};
 use crate::laying::lay_over;
-use crate::running::{is_fit, ran};
+use crate::running::{Left, is_fit, ran};
+use meta_model::{ListOf, PlanTask};
 use outside_traits::{Bench, BenchFault};
 use std::alloc::Global;
-use tree_model::{Mem, Text, Tree, TreeFault};
+use tree_model::{Mem, Text, Tree, TreeFault, manifest_of};
 
 /// What stands under a folder of the work tree, under the folder of the output to which it goes.
 ///
@@ -58,29 +61,61 @@ fn output(alloc: Global, tree: Tree, places: &[(Text, Text)], sstate: bool) -> R
     Ok(tree)
 }
 
-/// An output, where it is within the limits.
-fn limited_output(tree: Tree) -> Given
-    ensures fit { IsGiven result }
-    ensures limited { limited (Ok tree) ≡ outcome_of result }
+/// An output with its manifest, where it is within the limits.
+fn limited_output(alloc: Global, tree: Tree) -> Result<Given, Mem>
+    ensures fit { IfOk result IsGiven }
+    ensures limited { IfOk result (λ given. limited (Ok tree) ≡ outcome_of given) }
 {
-    if is_fit(&tree) {
-        Given::Tree(tree)
-    } else {
-        Given::TooLarge
+    if !is_fit(&tree) {
+        return Ok(Given::TooLarge);
+    }
+    let manifest = manifest_of(alloc, &tree)?;
+    Ok(Given::Tree { tree, manifest })
+}
+
+/// The output of what a script left.
+fn placed(alloc: Global, left: Left, placing: &Placing) -> Result<Given, Mem>
+    requires { IsLeft left }
+    ensures fit { IfOk result IsGiven }
+    ensures given { IfOk result (λ given. output_of placing.now.sstate placing.now.places (left_outcome left) ≡ outcome_of given) }
+{
+    match left {
+        Left::Tree(tree) => limited_output(
+            alloc,
+            output(alloc, tree, placing.places.as_slice(), placing.sstate)?,
+        ),
+        Left::Fails { status } => Ok(Given::Fails { status }),
+        Left::TooLarge => Ok(Given::TooLarge),
     }
 }
 
-/// The output of what a script gave.
-fn placed(alloc: Global, work: Given, places: &[(Text, Text)], sstate: bool) -> Result<Given, Mem>
-    requires { IsGiven work }
-    ensures fit { IfOk result IsGiven }
-    ensures given { IfOk result (λ given. output_of sstate places.now (outcome_of work) ≡ outcome_of given) }
+/// The same places again.
+fn copy_places(alloc: Global, places: &[(Text, Text)]) -> Result<ListOf<(Text, Text)>, Mem>
+    ensures { IfOk result (λ made. made ≡ places.now) }
 {
-    match work {
-        Given::Tree(tree) => Ok(limited_output(output(alloc, tree, places, sstate)?)),
-        Given::Fails { status } => Ok(Given::Fails { status }),
-        Given::TooLarge => Ok(Given::TooLarge),
+    let mut made = ListOf::new(alloc);
+    for place in places {
+        made.push((place.0.copy()?, place.1.copy()?))?;
     }
+    Ok(made)
+}
+
+/// The job of a task of a plan over its layout.
+pub fn job_over(alloc: Global, number: u32, task: &PlanTask, layout: Tree) -> Result<Job, Mem>
+    ensures { IfOk result (λ job. job ≡ job_of number task.now layout) }
+{
+    let script = task.script.copy()?;
+    let places = copy_places(alloc, task.places.as_slice())?;
+    let placing = Placing {
+        sstate: task.sstate,
+        places,
+    };
+    Ok(Job {
+        task: number,
+        script,
+        layout,
+        placing,
+    })
 }
 
 /// Does a job: runs its script once over its layout on the bench, and takes the task's output. Of a task that is kept as a shared
@@ -91,21 +126,15 @@ fn placed(alloc: Global, work: Given, places: &[(Text, Text)], sstate: bool) -> 
 /// `Bench` comes only where the bench's count of faults rose. Whatever is answered, the bench ran nothing but this script over
 /// this layout, at most once. (Own rule; the places are `[sstate-inputdirs]` and `[sstate-outputdirs]` of the BitBake User
 /// Manual's setscene tasks.)
-pub fn do_job<B: Bench>(
-    alloc: Global,
-    bench: &mut B,
-    places: &[(Text, Text)],
-    sstate: bool,
-    job: &Job,
-) -> Result<Given, WorkFault>
-    ensures given { IfOk result (λ given. B.tells → job_output (B.gives bench.old) sstate places.now job.now ≡ outcome_of given) }
+pub fn do_job<B: Bench>(alloc: Global, bench: &mut B, job: &Job) -> Result<Given, WorkFault>
+    ensures given { IfOk result (λ given. B.tells → job_output (B.gives bench.old) job.now ≡ outcome_of given) }
     ensures fit { IfOk result IsGiven }
     ensures ran { B.tells → RanJob (B.place bench.old).runs (B.place bench.new).runs job.now result }
     ensures gives { B.gives bench.new ≡ B.gives bench.old }
     ensures cause { Counts (B.faults bench.old) (B.faults bench.new) (work_failed result) }
 {
     match ran(alloc, bench, job) {
-        Ok(work) => Ok(placed(alloc, work, places, sstate)?),
+        Ok(left) => Ok(placed(alloc, left, &job.placing)?),
         Err(BenchFault::Failed) => Err(WorkFault::Bench),
         Err(BenchFault::Memory) => Err(WorkFault::Memory),
     }

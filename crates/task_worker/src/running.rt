@@ -4,9 +4,10 @@ ghost use Rattle.tree_model.specs.Tree.{IsTree};
 ghost use Rattle.outside_traits.specs.Fault.{Counts, bench_failed};
 ghost use Rattle.outside_traits.specs.Bench.{Gave, IsTaken};
 ghost use Rattle.meta_model.specs.CleanBuild.{Entries, clean_output, is_beyond, limited, output_limit};
-ghost use Rattle.task_worker.specs.Jobs.{IsGiven, IsLaid, RanJob, outcome_of};
+ghost use Rattle.task_worker.specs.Jobs.{IsLaid, RanJob};
+ghost use Rattle.task_worker.specs.Left.{IsLeft, left_outcome};
 
-use crate::given::{Given, Job};
+use crate::given::Job;
 use outside_traits::{Bench, BenchFault, Taken};
 use std::alloc::Global;
 use tree_model::{Size, Tree};
@@ -20,6 +21,17 @@ const MAX_OUTPUT: Size = Size {
 
 /// The most bytes of a path of an output.
 const MAX_PATH: usize = 3072;
+
+/// What a script leaves.
+#[derive(Debug, Drop)]
+pub(crate) enum Left {
+    /// Its work tree.
+    Tree(Tree),
+    /// The script failed with this status, which isn't 0.
+    Fails { status: u32 },
+    /// Its work tree is beyond the limits.
+    TooLarge,
+}
 
 /// Lays the entries of a tree, of which nothing is laid yet.
 fn put_all<B: Bench>(alloc: Global, bench: &mut B, layout: &Tree) -> Result<(), BenchFault>
@@ -77,33 +89,33 @@ pub(crate) fn is_fit(tree: &Tree) -> bool
 }
 
 /// Whether what was taken is within the limits of an output.
-fn judged(taken: Taken) -> Given
-    ensures fit { IsGiven result }
-    ensures judged { (output : Entries) → IsTaken output output_limit taken → limited (Ok output) ≡ outcome_of result }
+fn judged(taken: Taken) -> Left
+    ensures fit { IsLeft result }
+    ensures judged { (output : Entries) → IsTaken output output_limit taken → limited (Ok output) ≡ left_outcome result }
 {
     match taken {
         Taken::Tree(tree) => {
             if is_fit(&tree) {
-                Given::Tree(tree)
+                Left::Tree(tree)
             } else {
-                Given::TooLarge
+                Left::TooLarge
             }
         }
-        Taken::TooLarge => Given::TooLarge,
+        Taken::TooLarge => Left::TooLarge,
     }
 }
 
 /// Runs the job, and takes what its script gives: the work tree, where it is within the limits.
-pub(crate) fn ran<B: Bench>(alloc: Global, bench: &mut B, job: &Job) -> Result<Given, BenchFault>
-    ensures given { IfOk result (λ given. B.tells → clean_output (B.gives bench.old) job.now.script job.now.layout ≡ outcome_of given) }
-    ensures fit { IfOk result IsGiven }
+pub(crate) fn ran<B: Bench>(alloc: Global, bench: &mut B, job: &Job) -> Result<Left, BenchFault>
+    ensures left { IfOk result (λ left. B.tells → clean_output (B.gives bench.old) job.now.script job.now.layout ≡ left_outcome left) }
+    ensures fit { IfOk result IsLeft }
     ensures ran { B.tells → RanJob (B.place bench.old).runs (B.place bench.new).runs job.now result }
     ensures gives { B.gives bench.new ≡ B.gives bench.old }
     ensures cause { Counts (B.faults bench.old) (B.faults bench.new) (bench_failed result) }
 {
     let status = run_once(alloc, bench, job)?;
     if status != 0 {
-        return Ok(Given::Fails { status });
+        return Ok(Left::Fails { status });
     }
     let taken = bench.take(alloc, MAX_OUTPUT)?;
     Ok(judged(taken))

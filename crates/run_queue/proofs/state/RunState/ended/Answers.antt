@@ -22,19 +22,19 @@ pub returns-in-Tree-clause-run : goal.returns-in-Tree-clause-run
 returns-in-Tree-clause-run g c tells o run is_given job =
     let V : Type 0 = RunView g.row.D.Denot g.row.W.Denot in
     let sound = subst (λ (v : V). IsSound v.plan) c.self.view_is c.self.invariant.3.sound in
-    let tree = subst (λ (x : Given). IsGivenBy o.gives c.args.self.now.plan.tasks c.args.job x) c.in-Tree.is is_given in
-    c.end_tree.ensures.run tells o run (output_of g.D.Disk.story g.W.Sink.written o c.args.self.now c.args.job c.in-Tree.tree sound job tree)
+    let tree = subst (λ (x : Given). IsGivenBy o.gives c.args.job x) c.in-Tree.is is_given in
+    c.end_tree.ensures.run tells o run (output_of g.D.Disk.story g.W.Sink.written o c.args.self.now c.args.job c.in-Tree.tree c.in-Tree.manifest sound job tree)
 
 pub returns-in-Fails-clause-run : goal.returns-in-Fails-clause-run
 returns-in-Fails-clause-run g c tells o run is_given job =
     let status = c.in-Fails.status in
-    let failed = subst (λ (x : Given). IsGivenBy o.gives c.args.self.now.plan.tasks c.args.job x) c.in-Fails.is is_given in
+    let failed = subst (λ (x : Given). IsGivenBy o.gives c.args.job x) c.in-Fails.is is_given in
     failed_seen g.D.Disk.story g.W.Sink.written o c.args.self.now c.note-in-Fails.new.self c.args.job (given.Fails status) (why.Status status) c.args.number refl refl job failed
     c.note-in-Fails.ensures.notes (c.note-in-Fails.ensures.moment tells) c.note-in-Fails.ensures.fault c.requires.runs run
 
 pub returns-clause-run : goal.returns-clause-run
 returns-clause-run g c tells o run is_given job =
-    let large = subst (λ (x : Given). IsGivenBy o.gives c.args.self.now.plan.tasks c.args.job x) c.in-TooLarge.is is_given in
+    let large = subst (λ (x : Given). IsGivenBy o.gives c.args.job x) c.in-TooLarge.is is_given in
     failed_seen g.D.Disk.story g.W.Sink.written o c.args.self.now c.note-in-TooLarge.new.self c.args.job given.TooLarge why.TooLarge c.args.number refl refl job large
     c.note-in-TooLarge.ensures.notes (c.note-in-TooLarge.ensures.moment tells) c.note-in-TooLarge.ensures.fault c.requires.runs run
 
@@ -42,5 +42,5 @@ pub returns-in-Tree-clause-steady : goal.returns-in-Tree-clause-steady
 returns-in-Tree-clause-steady g c tells o run is_given job held =
     let V : Type 0 = RunView g.row.D.Denot g.row.W.Denot in
     let sound = subst (λ (v : V). IsSound v.plan) c.self.view_is c.self.invariant.3.sound in
-    let tree = subst (λ (x : Given). IsGivenBy o.gives c.args.self.now.plan.tasks c.args.job x) c.in-Tree.is is_given in
-    c.end_tree.ensures.steady tells o run (output_of g.D.Disk.story g.W.Sink.written o c.args.self.now c.args.job c.in-Tree.tree sound job tree)
+    let tree = subst (λ (x : Given). IsGivenBy o.gives c.args.job x) c.in-Tree.is is_given in
+    c.end_tree.ensures.steady tells o run (output_of g.D.Disk.story g.W.Sink.written o c.args.self.now c.args.job c.in-Tree.tree c.in-Tree.manifest sound job tree)
