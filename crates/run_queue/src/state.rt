@@ -252,6 +252,13 @@ impl<D: Disk, W: Sink> RunState<D, W> {
         &self.plan
     }
 
+    /// How many events the tale has.
+    pub fn told(&self) -> usize
+        ensures { result ≡ length self.now.tale }
+    {
+        self.tale.len()
+    }
+
     /// What every state keeps, for whoever holds one. It does nothing.
     pub fn kept(&self)
         ensures { IsState (D.faults self.now.store.disk) self.now }

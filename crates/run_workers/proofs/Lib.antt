@@ -1,0 +1,10 @@
+mod Telling
+mod Sinces
+mod Handing
+mod Turning
+mod Idle
+mod Records
+mod Working
+mod Spreading
+mod Leaving
+mod Picking

@@ -1,0 +1,30 @@
+use Rattle.std.proofs.Common.{rules, ◌≡◌, ◌↔◌, ℕ, Some, sym, subst, ap, ◌∙◌}
+use Rattle.meta_model.specs.declared.event.Event.TheVariants as events
+use Rattle.run_core.specs.declared.fate.Fate.TheVariants.{Running}
+use Rattle.run_core.specs.Fates.{fate_at}
+use Rattle.run_core.specs.History.{last_of}
+use Rattle.run_queue.specs.Turns.{fates_of}
+use Rattle.turn_lock.specs.Seats.{view_of}
+use Rattle.run_workers.specs.Seats.{BreakAdds, tale_of}
+use Rattle.run_workers.proofs.Turning.{runs_by_own, own_of, turned}
+use Rattle.run_workers.proofs.queue.broke.Goals as goal
+
+pub broke-requires : goal.broke-requires
+broke-requires g c =
+    let s = c.begin-story.result in
+    let v = view_of c.args.seat.now in
+    let law : (t seat : ℕ) → (fate_at (fates_of s.state) t ≡ Running seat) ↔ (last_of seat s.state.tale ≡ Some (events.Started t seat)) = λ t seat. c.seat_laws.ensures.last s.state.plan.tasks s.state.tale c.kept.ensures.orderly t seat in
+    record {
+      runs = subst (λ n. fate_at (fates_of s.state) c.args.job.task ≡ Running n) (sym (c.number.ensures ∙ ap (λ x. x.number) c.begin-story.ensures.turn.1))
+          (runs_by_own (fates_of s.state) s.state.tale s.printed v.own v.number law (own_of v (tale_of s) c.begin-story.ensures.records) c.args.job.task c.requires.holds);
+    }
+
+pub returns-clause-breaks : goal.returns-clause-breaks
+returns-clause-breaks g c =
+    let turn = c.begin-story.ensures.turn in
+    let v = view_of c.args.seat.now in
+    let a = c.broke.ensures.adds in (
+      a.0,
+      subst (λ n. BreakAdds n c.args.job.task c.args.cut a.0) (c.number.ensures ∙ ap (λ x. x.number) turn.1) a.2,
+      turned v (view_of c.begin-story.new.seat) (view_of c.end.new.seat) turn.0 (tale_of c.begin-story.result) (tale_of c.broke.new.self) a.0 c.begin-story.ensures.seen turn.1 a.1.is c.end.ensures.seat,
+    )

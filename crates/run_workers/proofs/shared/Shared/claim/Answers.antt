@@ -1,0 +1,45 @@
+use Rattle.std.proofs.Common.{rules, ◌≡◌, ◌++◌, sym, subst, ap, ◌∙◌, Bool, map}
+use Rattle.run_queue.specs.Opening.{Opening}
+use Rattle.run_queue.specs.Seen.{seen}
+use Rattle.std.specs.Prelude.{Result, Ok}
+use Rattle.tree_model.specs.declared.text.Mem.{Mem}
+use Rattle.run_queue.specs.declared.state.Claim.{Claim}
+use Rattle.run_queue.specs.Turns.{Claims, ClaimsClean}
+use Rattle.run_workers.specs.Seats.{tale_of}
+use Rattle.run_workers.specs.Told.{tell}
+use Rattle.run_workers.proofs.Sinces.{grows, kept_turn, since_turn}
+use Rattle.run_workers.proofs.Handing.{adds_by, hands, marked_by}
+use Rattle.run_workers.proofs.shared.Shared.claim.Goals as goal
+
+pub invariant_of-self-2 : goal.invariant_of-self-2
+invariant_of-self-2 g c =
+    let e = c.claim-claim.ensures in
+    let old = c.self.inside.state in
+    let new = c.claim-claim.new.self in
+    let m = marked_by c.args.number old new c.claim-claim.result e.claims in
+    let since = since_turn g.D.Disk.tells g.W.Sink.tells g.K.Began.alike g.D.Disk.story g.W.Sink.written g.W.Sink.faults g.K.Began.first g.K.Began.faults g.K.Began.gives old new c.self.invariant.since e.same (λ t u o is first run. e.run t o run) (λ t u o is first run. e.steady) e.sink e.text e.stays in
+    kept_turn g.D.Disk.tells g.W.Sink.tells g.K.Began.alike g.D.Disk.story g.W.Sink.written g.W.Sink.faults g.K.Began.first g.K.Began.faults g.K.Began.gives old new c.self.inside.printed c.self.inside.whole c.heard_on-printed.result.0 c.heard_on-printed.result.1 m.added c.self.invariant e.same m.grown c.heard_on-printed.ensures since e.stays c.kept.ensures.heard (λ some. (e.rests some).1)
+
+pub returns-clause-adds : goal.returns-clause-adds
+returns-clause-adds g c =
+    let e = c.claim-claim.ensures in
+    let old = c.self.inside.state in
+    let new = c.claim-claim.new.self in
+    let was = c.in_ok-claim.was in
+    let claims : Claims c.args.number old new (Ok c.in_ok-claim.field-0) = subst (λ (r : Result Claim Mem). Claims c.args.number old new r) was e.claims in
+    let m = marked_by c.args.number old new (Ok c.in_ok-claim.field-0) claims in
+    let still = c.heard_on-printed.result.1 in
+    let added = map (tell still) m.added in (
+      added,
+      record {
+        is = grows g.D.Disk.tells g.W.Sink.tells g.K.Began.alike g.D.Disk.story g.W.Sink.written g.W.Sink.faults g.K.Began.first g.K.Began.faults g.K.Began.gives old new c.self.inside.printed c.self.inside.whole c.heard_on-printed.result.0 still m.added c.self.invariant e.same m.grown c.heard_on-printed.ensures ∙ ap (λ v. tale_of v ++ added) c.self.view_is;
+        by = m.by still;
+      },
+      adds_by c.args.number old new still c.in_ok-claim.field-0 claims,
+    )
+
+pub returns-clause-clean : goal.returns-clause-clean
+returns-clause-clean g c t u o is run =
+    let old = seen g.D.Disk.story g.W.Sink.written c.self.inside.state in
+    hands o old g.K.Began.first c.in_ok-claim.field-0 (sym c.self.invariant.since.plan)
+    (subst (λ (r : Result Claim Mem). ClaimsClean o old r) (c.in_ok-claim.was) (c.claim-claim.ensures.clean t o (c.self.invariant.since.run t u o is run)))

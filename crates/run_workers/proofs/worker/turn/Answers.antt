@@ -1,0 +1,56 @@
+use Rattle.std.proofs.Common.{rules, ◌≡◌, ◌++◌, ◌∷◌, [], List, Bool, sym, ◌∙◌, ap, subst, refl, Some, None, inl}
+use Rattle.meta_model.specs.declared.event.Event.TheVariants as events
+use Rattle.run_queue.specs.declared.state.Claim.{Claim}
+use Rattle.turn_lock.specs.Seats.{view_of}
+use Rattle.run_workers.specs.declared.shared.Told.{Told}
+use Rattle.run_workers.specs.declared.worker.Halt.TheVariants as halts
+use Rattle.run_workers.specs.Seats.{AddsBy, Entry, IsCleanClaim, IsScripted}
+use Rattle.run_workers.specs.Worked.{Closes, Worked}
+use Rattle.run_workers.proofs.Working.{quiet_settled, worked_job, worked_on}
+use Rattle.run_workers.proofs.worker.turn.Goals as goal
+
+pub do_claimed-halt-requires-clause-clean : goal.do_claimed-halt-requires-clause-clean
+do_claimed-halt-requires-clause-clean g c t u o is run = subst (λ (x : Claim). IsCleanClaim o g.K.Began.first x) c.in-Run.is (c.in-Ok.ensures.clean t u o is run)
+
+pub returns-in-Run-clause-worked : goal.returns-in-Run-clause-worked
+returns-in-Run-clause-worked g c old w =
+    let v = view_of c.args.seat.now in
+    let mid = view_of c.claim.new.seat in
+    let new = view_of c.do_claimed-halt.new.seat in
+    let job = c.in-Run.job in
+    let printed = c.in-Ok.field-0.printed in
+    let e = c.do_claimed-halt.ensures in
+    let claims = c.in-Ok.ensures.claims in
+    let entry : Entry v.number c.in-Ok.field-0.printed (events.Started job.task v.number) claims.0 = subst (λ (x : Claim). AddsBy v.number c.in-Ok.field-0.printed x claims.0) c.in-Run.is claims.1 in
+    let begins = claims.2.mine ∙ ap (λ l. v.own ++ l) entry.is in
+    worked_job g.D.Disk.tells g.B.Bench.tells g.K.Began.alike g.B.Bench.place g.B.Bench.gives g.B.Bench.faults g.K.Began.first g.K.Began.gives v.number v.own old c.args.bench.now w c.do_claimed-halt.result job printed entry.moment mid.own new.own c.do_claimed-halt.new.bench begins
+    (subst (λ n. Closes n c.do_claimed-halt.result mid.own new.own) claims.2.number e.closes) e.gives e.cause e.ran (λ u. (c.requires.gives u).0)
+    (subst (λ (x : Claim). IsScripted g.K.Began.first.plan x) c.in-Run.is c.in-Ok.ensures.script) (λ t u o is run. subst (λ (x : Claim). IsCleanClaim o g.K.Began.first x) c.in-Run.is (c.in-Ok.ensures.clean t u o is run))
+
+pub returns-in-Settled-clause-worked : goal.returns-in-Settled-clause-worked
+returns-in-Settled-clause-worked g c old w =
+    let v = view_of c.args.seat.now in
+    let claims = c.in-Ok.ensures.claims in
+    subst (λ (l : List Told). Worked g.D.Disk.tells g.B.Bench.tells g.K.Began.alike g.B.Bench.place g.B.Bench.gives g.B.Bench.faults g.K.Began.first g.K.Began.gives None v.number l old c.args.bench.now) (sym claims.2.mine)
+    (worked_on g.D.Disk.tells g.B.Bench.tells g.K.Began.alike g.B.Bench.place g.B.Bench.gives g.B.Bench.faults g.K.Began.first g.K.Began.gives v.number v.own old c.args.bench.now w None claims.0 refl (quiet_settled v.number c.in-Settled.field-0 c.in-Ok.field-0.printed claims.0 (subst (λ (x : Claim). AddsBy v.number c.in-Ok.field-0.printed x claims.0) c.in-Settled.is claims.1)))
+
+pub returns-in-Finished-clause-worked : goal.returns-in-Finished-clause-worked
+returns-in-Finished-clause-worked g c old w =
+    let v = view_of c.args.seat.now in
+    let claims = c.in-Ok.ensures.claims in
+    subst (λ (l : List Told). Worked g.D.Disk.tells g.B.Bench.tells g.K.Began.alike g.B.Bench.place g.B.Bench.gives g.B.Bench.faults g.K.Began.first g.K.Began.gives (Some halts.Finished) v.number l old c.args.bench.now) (sym claims.2.mine)
+    (worked_on g.D.Disk.tells g.B.Bench.tells g.K.Began.alike g.B.Bench.place g.B.Bench.gives g.B.Bench.faults g.K.Began.first g.K.Began.gives v.number v.own old c.args.bench.now w (Some halts.Finished) claims.0 refl (inl (subst (λ (x : Claim). AddsBy v.number c.in-Ok.field-0.printed x claims.0) c.in-Finished.is claims.1)))
+
+pub returns-in-Stopped-clause-worked : goal.returns-in-Stopped-clause-worked
+returns-in-Stopped-clause-worked g c old w =
+    let v = view_of c.args.seat.now in
+    let claims = c.in-Ok.ensures.claims in
+    subst (λ (l : List Told). Worked g.D.Disk.tells g.B.Bench.tells g.K.Began.alike g.B.Bench.place g.B.Bench.gives g.B.Bench.faults g.K.Began.first g.K.Began.gives (Some halts.Stopped) v.number l old c.args.bench.now) (sym claims.2.mine)
+    (worked_on g.D.Disk.tells g.B.Bench.tells g.K.Began.alike g.B.Bench.place g.B.Bench.gives g.B.Bench.faults g.K.Began.first g.K.Began.gives v.number v.own old c.args.bench.now w (Some halts.Stopped) claims.0 refl (inl (subst (λ (x : Claim). AddsBy v.number c.in-Ok.field-0.printed x claims.0) c.in-Stopped.is claims.1)))
+
+pub returns-in-Err-clause-worked : goal.returns-in-Err-clause-worked
+returns-in-Err-clause-worked g c old w =
+    let v = view_of c.args.seat.now in
+    let claims = c.in-Err.ensures.claims in
+    subst (λ (l : List Told). Worked g.D.Disk.tells g.B.Bench.tells g.K.Began.alike g.B.Bench.place g.B.Bench.gives g.B.Bench.faults g.K.Began.first g.K.Began.gives (Some halts.Memory) v.number l old c.args.bench.now) (sym claims.2.mine)
+    (worked_on g.D.Disk.tells g.B.Bench.tells g.K.Began.alike g.B.Bench.place g.B.Bench.gives g.B.Bench.faults g.K.Began.first g.K.Began.gives v.number v.own old c.args.bench.now w (Some halts.Memory) claims.0 refl (inl claims.1))

@@ -1,0 +1,7 @@
+pub mod Nothing
+pub mod Told
+pub mod Since
+pub mod Runs
+pub mod Seats
+pub mod Worked
+pub mod Left

@@ -1,0 +1,28 @@
+//! Several workers on the run of a plan, each with a bench of its own: they take turns with one state (`run_queue`) behind a lock (`turn_lock`).
+//!
+//! `run_workers` takes a state that has begun and some benches, and gives both back once nothing more may be done by them, with no task that
+//! runs. A turn covers no script: a seat claims a job in one turn, does it outside, and says in another one how it came to an end. Who finds
+//! nothing to do while others work sleeps on the bell until the state has changed.
+//!
+//! Contracts see what the state was as it began by a type parameter (`Began`), so that what lies under the lock keeps, in every turn, that
+//! whatever held of that state holds on (`specs/Since`), for every opening. What a seat knows of the run is its own record of the tale,
+//! each entry with whether its line and all before it had been printed (`specs/Told`).
+//!
+//! The promises: what `RunState` keeps of a run it keeps here, over all turns; the k-th bench ran the scripts of just those tasks that its own
+//! seat started, k + 1, in their order, each over the clean outputs of what it needs, but for the last one where that broke off; it ran
+//! those scripts alone whose start had been printed; and a task broke by a bench only where that bench's count of faults rose.
+//! Nothing is said of when, or in which order, workers get their turns.
+#![tactic(auto)]
+
+mod began;
+mod bell;
+mod queue;
+mod shared;
+mod worker;
+mod workers;
+
+pub use began::Began;
+pub use queue::{RunQueue, RunSeat};
+pub use shared::{Claimed, Shared, Told};
+pub use worker::Halt;
+pub use workers::run_workers;

@@ -1,0 +1,152 @@
+// One worker of a run.
+ghost use Rattle.std.specs.Prelude.{◌≡◌, ◌≤◌, [], List, IsSome, None, Some, true};
+ghost use Rattle.outside_traits.specs.Fault.{Counts};
+ghost use Rattle.run_queue.specs.Opening.{Opening};
+ghost use Rattle.run_queue.specs.Keeps.{IsRun};
+ghost use Rattle.run_queue.specs.Turns.{IsCleanJob};
+ghost use Rattle.turn_lock.specs.Seats.{view_of, IsFree, IsSeatOf};
+ghost use Rattle.run_workers.specs.Runs.{by_bench};
+ghost use Rattle.run_workers.specs.Seats.{Holds, HoldsNone, IsSameSeat};
+ghost use Rattle.run_workers.specs.Worked.{Closes, IsWorked, RanOnce, Worked};
+
+use crate::began::Began;
+use crate::bell::Bell;
+use crate::queue::{RunQueue, RunSeat, broke, claim, ended};
+use crate::shared::Claimed;
+use meta_model::Cut;
+use outside_traits::{Bench, Disk, Sink};
+use run_queue::Claim;
+use std::alloc::Global;
+use std::sync::Wait;
+use task_worker::{Job, WorkFault, do_job};
+use tree_model::Mem;
+
+/// Why a worker, or a run, does no more.
+#[derive(Clone, Copy, Debug, PartialEq, Eq)]
+pub enum Halt {
+    /// Nothing is left to do.
+    Finished,
+    /// Nothing new may begin.
+    Stopped,
+    /// Memory was wanting.
+    Memory,
+    /// The bench failed.
+    Bench,
+}
+
+/// Does a job that was claimed, and says how it came to an end. Where its start hadn't been printed, since a fault is kept, its script
+/// doesn't run.
+fn do_claimed<K: Began, D: Disk, B: Bench, W: Sink, R: Wait>(
+    rt: &R,
+    alloc: Global,
+    queue: &RunQueue<K, D, W>,
+    seat: &mut RunSeat<K, D, W>,
+    bench: &mut B,
+    job: Job,
+    printed: bool,
+) -> Option<Halt>
+    requires reach { 3600 ≤ D.reach }
+    requires queue { IsSeatOf queue.now seat.old }
+    requires free { IsFree seat.old }
+    requires holds { Holds job.task (view_of seat.old).number (view_of seat.old).own }
+    requires gives { K.alike → B.tells × (B.gives bench.old ≡ K.gives) }
+    requires clean { D.tells → K.alike → (o : Opening) → o.gives ≡ K.gives → IsRun o K.first → IsCleanJob o K.first job }
+    ensures queue { IsSeatOf queue.now seat.new }
+    ensures free { IsFree seat.new }
+    ensures same { IsSameSeat (view_of seat.old) (view_of seat.new) }
+    ensures closes { Closes (view_of seat.old).number result (view_of seat.old).own (view_of seat.new).own }
+    ensures gives { B.gives bench.new ≡ B.gives bench.old }
+    ensures ran { B.tells → RanOnce printed (IsSome result) (job.script, job.layout) (B.place bench.old).runs (B.place bench.new).runs }
+    ensures cause { Counts (B.faults bench.old) (B.faults bench.new) (by_bench result) }
+{
+    if !printed {
+        broke(rt, alloc, queue, seat, job, Cut::Fault);
+        return Some(Halt::Stopped);
+    }
+    match do_job(alloc, bench, &job) {
+        Ok(given) => match ended(rt, alloc, queue, seat, job, given) {
+            Ok(true) => None,
+            Ok(false) => Some(Halt::Stopped),
+            Err(Mem) => Some(Halt::Memory),
+        },
+        Err(WorkFault::Bench) => {
+            broke(rt, alloc, queue, seat, job, Cut::Bench);
+            Some(Halt::Bench)
+        }
+        Err(WorkFault::Memory) => {
+            broke(rt, alloc, queue, seat, job, Cut::Memory);
+            Some(Halt::Memory)
+        }
+    }
+}
+
+/// One turn of a worker, and the job that it was handed, if it was. `None`: there may be more to do. It rings after each event by which others
+/// may have more to do, and where there is nothing to do yet it sleeps until another one has rung.
+fn turn<K: Began, D: Disk, B: Bench, W: Sink, R: Wait>(
+    rt: &R,
+    alloc: Global,
+    queue: &RunQueue<K, D, W>,
+    bell: &Bell,
+    seat: &mut RunSeat<K, D, W>,
+    bench: &mut B,
+) -> Option<Halt>
+    requires reach { 3600 ≤ D.reach }
+    requires queue { IsSeatOf queue.now seat.old }
+    requires free { IsFree seat.old }
+    requires none { HoldsNone (view_of seat.old).number (view_of seat.old).own }
+    requires gives { K.alike → B.tells × (B.gives bench.old ≡ K.gives) }
+    ensures queue { IsSeatOf queue.now seat.new }
+    ensures free { IsFree seat.new }
+    ensures same { IsSameSeat (view_of seat.old) (view_of seat.new) }
+    ensures gives { B.gives bench.new ≡ B.gives bench.old }
+    ensures worked { (old : _) → Worked D.tells B.tells K.alike B.place B.gives B.faults K.first K.gives None (view_of seat.old).number (view_of seat.old).own old bench.old → Worked D.tells B.tells K.alike B.place B.gives B.faults K.first K.gives result (view_of seat.old).number (view_of seat.new).own old bench.new }
+{
+    let heard = bell.heard(rt);
+    match claim(rt, alloc, queue, seat) {
+        Ok(Claimed { claim, printed }) => match claim {
+            Claim::Run(job) => {
+                let halt = do_claimed(rt, alloc, queue, seat, bench, job, printed);
+                bell.ring(rt);
+                halt
+            }
+            Claim::Settled(_) => {
+                bell.ring(rt);
+                None
+            }
+            Claim::Wait => {
+                bell.sleep(rt, heard);
+                None
+            }
+            Claim::Finished => Some(Halt::Finished),
+            Claim::Stopped => Some(Halt::Stopped),
+        },
+        Err(Mem) => Some(Halt::Memory),
+    }
+}
+
+/// Takes turns until there is nothing more to do for this worker.
+pub(crate) fn work<K: Began, D: Disk, B: Bench, W: Sink, R: Wait>(
+    rt: &R,
+    alloc: Global,
+    queue: &RunQueue<K, D, W>,
+    bell: &Bell,
+    mut seat: RunSeat<K, D, W>,
+    mut bench: B,
+) -> (RunSeat<K, D, W>, B)
+    requires reach { 3600 ≤ D.reach }
+    requires queue { IsSeatOf queue.now seat }
+    requires free { IsFree seat }
+    requires fresh { (view_of seat).own ≡ [] }
+    requires gives { K.alike → B.tells × (B.gives bench ≡ K.gives) }
+    ensures queue { IsSeatOf queue.entry.now result.0 }
+    ensures free { IsFree result.0 }
+    ensures same { IsSameSeat (view_of seat) (view_of result.0) }
+    ensures worked { IsWorked D.tells B.tells K.alike B.place B.gives B.faults K.first K.gives (view_of seat).number (view_of result.0).own bench result.1 }
+{
+    for _ in rt.forever() {
+        if turn(rt, alloc, queue, bell, &mut seat, &mut bench).is_some() {
+            return (seat, bench);
+        }
+    }
+    unreachable!()
+}
