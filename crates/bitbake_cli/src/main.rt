@@ -12,6 +12,8 @@ use bitbake_top::bitbake;
 use failures::tell_failures;
 use outside_os::{FolderDisk, FolderLayers, ShBench, StdSink, is_memory};
 use std::process::ExitCode;
+use std::sync::Wait;
+use std::thread::Threads;
 use std::{env, io};
 use tree_model::Text;
 
@@ -26,7 +28,7 @@ const NO_WORD: &str = "--not-utf-8";
 
 /// Ends with the status of the top call over the current folder and standard output.
 fn main(rt: HostRuntime) -> ExitCode {
-    match run(&rt) {
+    match run(&rt, &rt) {
         Ok(status) => ExitCode::from(status),
         Err(_) => {
             // Of want of memory alone. Where this text can't be written either, the status says it.
@@ -37,7 +39,7 @@ fn main(rt: HostRuntime) -> ExitCode {
 }
 
 /// The status of the top call over the current folder's layers, disk and benches, and standard output.
-fn run(rt: &HostRuntime) -> io::Result<u8> {
+fn run<R: Threads + Wait + Sync>(rt: &HostRuntime, threads: &R) -> io::Result<u8> {
     let words = words_of(rt)?;
     let mut benches = Vec::new(rt.alloc());
     for number in 0..LAST_BENCH {
@@ -47,7 +49,7 @@ fn run(rt: &HostRuntime) -> io::Result<u8> {
     let layers = FolderLayers::new(rt.clone()?);
     let disk = FolderDisk::new(rt.clone()?);
     let sink = StdSink::new(rt.clone()?);
-    let finish = bitbake(rt.alloc(), &words, layers, disk, benches, sink);
+    let finish = bitbake(threads, rt.alloc(), &words, layers, disk, benches, sink);
     // While the disk is there no other run can touch the logs.
     if tell_failures(rt, &finish.plans, &finish.tales, &finish.benches).is_err() {
         tell(rt, "log", Some("out of memory"));

@@ -154,21 +154,6 @@ certain_apart (status.Unsteady pn task held given) certain = refl
 certain_apart (status.Limit kind) certain = refl
 certain_apart status.OutOfMemory certain = absurd certain
 
--- what is a cause of less is one of more
-pub wider_cause : (disk : ℕ) (bench more_bench sink more_sink : Type 0) (s : Status) → (bench → more_bench) → (sink → more_sink) → MayEndSo disk bench sink s → MayEndSo disk more_bench more_sink s
-wider_cause disk bench more_bench sink more_sink status.Ok b k cause = cause
-wider_cause disk bench more_bench sink more_sink status.TaskFailed b k cause = cause
-wider_cause disk bench more_bench sink more_sink status.Usage b k cause = absurd cause
-wider_cause disk bench more_bench sink more_sink (status.Metadata file line kind detail) b k cause = absurd cause
-wider_cause disk bench more_bench sink more_sink status.DiskFault b k cause = cause
-wider_cause disk bench more_bench sink more_sink status.BenchFault b k cause = b cause
-wider_cause disk bench more_bench sink more_sink status.ReadFault b k cause = absurd cause
-wider_cause disk bench more_bench sink more_sink status.WriteFault b k cause = k cause
-wider_cause disk bench more_bench sink more_sink (status.Collision name held given) b k cause = cause
-wider_cause disk bench more_bench sink more_sink (status.Unsteady pn task held given) b k cause = cause
-wider_cause disk bench more_bench sink more_sink (status.Limit kind) b k cause = absurd cause
-wider_cause disk bench more_bench sink more_sink status.OutOfMemory b k cause = cause
-
 -- a run doesn't end with a refusal
 pub run_is_built : (disk : ℕ) (bench sink : Type 0) (s : Status) → MayEndSo disk bench sink s → s ≡ not_built → ⊥
 run_is_built disk bench sink s cause e = subst (λ (x : Status). MayEndSo disk bench sink x) e cause

@@ -1,10 +1,9 @@
 -- What is kept of a run over the plan of its words.
 use Rattle.std.proofs.Common.{◌≡◌, ◌⊎◌, ◌∙◌, ap, sym, subst, refl, ℕ, false, List, [], ◌∷◌, ◌++◌}
-use Rattle.std.specs.Prelude.{◌≢◌, Contains}
+use Rattle.std.specs.Prelude.{◌≢◌, All, Contains}
 use Rattle.std.proofs.lemmas.List.{append-nil}
 use Rattle.std.specs.List.{AllByRecursion}
 use Rattle.std.proofs.lemmas.List.Elements.{All-cons, All-nil}
-use Rattle.outside_traits.specs.Passes.{EachNow}
 use Rattle.outside_traits.specs.Store.{Store}
 use Rattle.outside_traits.specs.Story.{IsFresh, IsImageSince, LeftSince, Story}
 use Rattle.meta_model.specs.declared.event.Logged.{Logged}
@@ -19,10 +18,9 @@ use Rattle.store_model.specs.Origins.{Book, Reading}
 use Rattle.store_model.specs.Valid.{IsValid}
 use Rattle.store_model.proofs.Lasting.{empty_is_valid}
 use Rattle.build_store.specs.Sound.{IsReadable}
-use Rattle.build_resume.specs.Build.{FailsClean, HasRun, HasTargets, IsCrash, IsEntry, LeavesOthers, is_unsteady}
-use Rattle.build_resume.specs.Ends.{failed_in}
-use Rattle.build_resume.specs.Outcome.{RanStarted}
-use Rattle.bitbake_top.specs.Devices.{OnLast, Runs}
+use Rattle.run_workers.specs.Runs.{Runs}
+use Rattle.build_resume.specs.Benches.{AtSeats, BreaksByFault}
+use Rattle.build_resume.specs.Build.{FailsClean, HasRun, IsCrash, IsEntry, Leaves, LeavesOthers, failed_in, is_unsteady}
 use Rattle.bitbake_top.specs.Headline.{BeginsAgain, BeginsFirst, Keeps, MayBegin}
 
 pub begins_first : BeginsFirst
@@ -79,30 +77,27 @@ unbegun_keeps gives reading book plan options tales s old story before now fresh
       ran = same_runs;
     })
 
--- what is promised of a run with one tale, over what its bench gives
-pub record Kept (gives : Gives) (reading : Reading) (book : Book) (held : Store) (plan : Plan) (options : Options) (tale : List Logged) (s : Status) (story : Story) (before now : List Runs) : Type 0 where
-  pub exact : s ≡ status.Ok → EachNow story (HasTargets gives plan)
-  pub crashes : (image : Store) → IsImageSince story 0 image → IsCrash gives reading book image
-  pub legal : (tale ≡ []) ⊎ HasRun gives reading book held plan options tale story
-  pub real : (t : ℕ) → Contains (failed_in tale) t → FailsClean gives plan t
-  pub others : (image : Store) → IsImageSince story 0 image → LeavesOthers gives book held plan options tale image
-  pub steady : is_unsteady s ≡ false
-  pub ran : OnLast (RanStarted gives plan tale) before now
-
 -- what is promised of a run that was begun
-pub begun_keeps : (gives own : Gives) (reading : Reading) (book : Book) (held : Store) (plan : Plan) (options : Options) (tales : List (List Logged)) (tale : List Logged) (s : Status) (story : Story) (before now : List Runs)
-    → own ≡ gives → tales ≡ tale ∷ [] → Kept own reading book held plan options tale s story before now → Keeps gives reading book held plan options tales s story before now
-begun_keeps gives own reading book held plan options tales tale s story before now same one kept =
-    subst (λ (x : Gives). Keeps x reading book held plan options tales s story before now) same
-    (subst (λ (l : List (List Logged)). Keeps own reading book held plan options l s story before now) (sym one) (record {
+pub begun_keeps : (gives : Gives) (reading : Reading) (book : Book) (held : Store) (plan : Plan) (options : Options) (tales : List (List Logged)) (tale : List Logged) (s : Status) (story : Story) (before now : List Runs)
+    → tales ≡ tale ∷ [] → Leaves gives reading book held plan options tale s story before now → Keeps gives reading book held plan options tales s story before now
+begun_keeps gives reading book held plan options tales tale s story before now one kept =
+    subst (λ (l : List (List Logged)). Keeps gives reading book held plan options l s story before now) (sym one) (record {
       exact = kept.exact;
       crashes = kept.crashes;
-      legal = All-cons (λ x. (x ≡ []) ⊎ HasRun own reading book held plan options x story) tale [] kept.legal (All-nil _);
-      real = All-cons (λ x. (t : ℕ) → Contains (failed_in x) t → FailsClean own plan t) tale [] kept.real (All-nil _);
-      others = All-cons (λ x. (image : Store) → IsImageSince story 0 image → LeavesOthers own book held plan options x image) tale [] kept.others (All-nil _);
+      legal = All-cons (λ x. (x ≡ []) ⊎ HasRun gives reading book held plan options x story) tale [] kept.legal (All-nil _);
+      real = All-cons (λ x. (t : ℕ) → Contains (failed_in x) t → FailsClean gives plan t) tale [] kept.real (All-nil _);
+      others = All-cons (λ x. (image : Store) → IsImageSince story 0 image → LeavesOthers gives book held plan options x image) tale [] kept.others (All-nil _);
       steady = kept.steady;
       ran = kept.ran;
-    }))
+    })
+
+-- the causes of broken tasks, of the one tale
+pub begun_broke : (tales : List (List Logged)) (tale : List Logged) (before now : List ℕ) → tales ≡ tale ∷ [] → AtSeats (BreaksByFault tale) before now → All (λ x. AtSeats (BreaksByFault x) before now) tales
+begun_broke tales tale before now one broke = subst (All (λ x. AtSeats (BreaksByFault x) before now)) (sym one) (All-cons (λ x. AtSeats (BreaksByFault x) before now) tale [] broke (All-nil _))
+
+-- without a tale there is none
+pub unbegun_broke : (tales : List (List Logged)) (before now : List ℕ) → tales ≡ [] → All (λ x. AtSeats (BreaksByFault x) before now) tales
+unbegun_broke tales before now none = subst (All (λ x. AtSeats (BreaksByFault x) before now)) (sym none) (All-nil _)
 
 -- the list of one behind none
 pub one_behind : {A : Type 0} (old new : List A) (x : A) → old ≡ [] → new ≡ old ++ x ∷ [] → new ≡ x ∷ []

@@ -9,7 +9,7 @@ use Rattle.bb_report.specs.Texts.{fault_text, plan_text}
 use Rattle.bb_report.specs.Written.{WritesFront}
 use Rattle.build_resume.specs.Build.{RanPrinted, WritesReport}
 use Rattle.bitbake_top.specs.Answers.{Says}
-use Rattle.bitbake_top.specs.Devices.{OnLast, Runs}
+use Rattle.run_workers.specs.Runs.{Runs}
 use Rattle.bitbake_top.specs.Run.{RanPrintedCall, WritesCall}
 use Rattle.bitbake_top.proofs.Devices.{rose_from}
 
@@ -49,9 +49,9 @@ plan_front base now failed plan plans tales s one none fails front =
     subst (λ (p : List Plan). WritesCall failed base now p tales s) (sym one)
     (subst (λ (t : List (List Logged)). WritesCall failed base now (plan ∷ []) t s) (sym none) (inr (fails, inr (plan, (0, omega arith, refl), front))))
 
--- what one run of the last bench ran had been printed behind the plan's text
+-- what the benches of one run ran had been printed behind the plan's text
 pub printed_one : (base now : List ℕ) (plan : Plan) (plans : List Plan) (tale : List Logged) (tales : List (List Logged)) (before after : List Runs) → plans ≡ plan ∷ [] → tales ≡ tale ∷ []
-    → OnLast (λ b n. RanPrinted plan tale b n (base ++ plan_text plan) now) before after → RanPrintedCall plans tales before after base now
+    → RanPrinted plan tale before after (base ++ plan_text plan) now → RanPrintedCall plans tales before after base now
 printed_one base now plan plans tale tales before after one_plan one_tale ran =
     subst (λ (p : List Plan). RanPrintedCall p tales before after base now) (sym one_plan) (subst (λ (t : List (List Logged)). RanPrintedCall (plan ∷ []) t before after base now) (sym one_tale) ran)
 

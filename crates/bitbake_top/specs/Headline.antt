@@ -16,11 +16,10 @@ use Rattle.store_model.specs.Reuse.{MayReuse}
 use Rattle.store_model.specs.Valid.{IsValid}
 use Rattle.build_store.specs.Sound.{IsReadable}
 use Rattle.run_queue.specs.Opening.{HasFolders}
-use Rattle.build_resume.specs.Build.{FailsClean, HasRun, HasTargets, IsCrash, LeavesOthers, is_unsteady}
-use Rattle.build_resume.specs.Ends.{failed_in}
+use Rattle.run_workers.specs.Runs.{Runs}
+use Rattle.build_resume.specs.Benches.{AtSeats, BreaksByFault}
+use Rattle.build_resume.specs.Build.{FailsClean, HasRun, HasTargets, IsCrash, LeavesOthers, RanStarted, failed_in, is_unsteady}
 use Rattle.build_resume.specs.Laws.{nothing}
-use Rattle.build_resume.specs.Outcome.{RanStarted}
-use Rattle.bitbake_top.specs.Devices.{OnLast, Runs}
 
 -- what scripts give are trees
 abbrev pub GivesTrees : Gives → Type 0
@@ -35,10 +34,10 @@ pub record MayBegin (gives : Gives) (reading : Reading) (book : Book) (held : St
   pub may : MayReuse gives reading held book plan.tasks
   pub trees : GivesTrees gives
 
--- Of the benches the last one ran what the tale started, each over the clean outputs of what it needs; without a tale none ran anything.
+-- Each bench ran what its seat started in the tale, each over the clean outputs of what it needs; without a tale none ran anything.
 abbrev pub RanTales : Gives → Plan → List (List Logged) → List Runs → List Runs → Type 0
 RanTales gives plan [] before now = now ≡ before
-RanTales gives plan (tale ∷ more) before now = OnLast (RanStarted gives plan tale) before now
+RanTales gives plan (tale ∷ more) before now = AtSeats (RanStarted gives plan tale) before now
 
 -- *The headline*, but for when the answer is Ok. The store is what the disk held as the call began, the story is the disk's at its end.
 pub record Keeps (gives : Gives) (reading : Reading) (book : Book) (held : Store) (plan : Plan) (options : Options) (tales : List (List Logged)) (s : Status) (story : Story) (before now : List Runs) : Type 0 where
@@ -54,7 +53,7 @@ pub record Keeps (gives : Gives) (reading : Reading) (book : Book) (held : Store
   pub others : All (λ tale. (image : Store) → IsImageSince story 0 image → LeavesOthers gives book held plan options tale image) tales
   -- no output is found to differ from one run to another
   pub steady : is_unsteady s ≡ false
-  -- the bench runs are the started tasks
+  -- the runs of each bench are the tasks that its seat started
   pub ran : RanTales gives plan tales before now
 
 -- ---- where a run may begin

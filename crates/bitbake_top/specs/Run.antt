@@ -4,14 +4,16 @@ use Rattle.outside_traits.specs.Bench.{Gives}
 use Rattle.meta_model.specs.declared.event.Logged.{Logged}
 use Rattle.meta_model.specs.declared.event.Status.{Status}
 use Rattle.meta_model.specs.declared.event.Status.TheVariants as status
+use Rattle.meta_model.specs.declared.plan.Options.{Options}
 use Rattle.meta_model.specs.declared.plan.Plan.{Plan}
-use Rattle.bb_report.specs.Runs.{has_failure, report}
+use Rattle.bb_report.specs.Runs.{report}
 use Rattle.bb_report.specs.Texts.{fault_text, plan_text}
 use Rattle.bb_report.specs.Written.{WritesFront}
 use Rattle.project_reading.specs.Answered.{is_refusal}
 use Rattle.run_plan.specs.Plans.{HasPlan, IsPlanRefused}
+use Rattle.run_workers.specs.Runs.{Runs}
 use Rattle.build_resume.specs.Build.{AllClean, MayEndSo, RanPrinted}
-use Rattle.bitbake_top.specs.Devices.{OnLast, Runs}
+use Rattle.build_resume.specs.Outcome.{EndsAs}
 use Rattle.bitbake_top.specs.declared.asked.RunRequest.{RunRequest}
 
 -- what each path of the project holds
@@ -32,14 +34,19 @@ pub record HasBuild (files : Files) (paths : List (List ℕ)) (request : RunRequ
 abbrev pub IsUnrun : Files → List (List ℕ) → RunRequest → Status → Type 0
 IsUnrun files paths request s = (s ≡ status.OutOfMemory) ⊎ ((s ≡ status.ReadFault) ⊎ IsPlanRefused files paths request.targets request.task request.force s)
 
--- A run was begun: it has one tale, in which a task failed where the status says so.
-abbrev pub IsBegun : List (List Logged) → Status → Type 0
-IsBegun tales s = (tale : List Logged) × (tales ≡ tale ∷ []) × (s ≡ status.TaskFailed → has_failure tale ≡ true)
+-- A run was begun: it has one plan and one tale. Under Ok the tale leaves nothing to do and no task failed in it; where the status says that
+-- a task failed, one did.
+pub record IsBegun (options : Options) (plans : List Plan) (tales : List (List Logged)) (s : Status) : Type 0 where
+  pub plan : Plan
+  pub tale : List Logged
+  pub plans_are : plans ≡ plan ∷ []
+  pub tales_are : tales ≡ tale ∷ []
+  pub ends : EndsAs plan options tale s
 
 -- The status of a call fits its tales: no run was begun, and it is a refusal of metadata, a limit, a failure of the layers or want of
 -- memory, or the plan's text failed; or one was begun.
-abbrev pub Concludes : List (List Logged) → Status → Type 0
-Concludes tales s = ((tales ≡ []) × ((is_refusal s ≡ true) ⊎ (s ≡ status.WriteFault))) ⊎ IsBegun tales s
+abbrev pub Concludes : Options → List Plan → List (List Logged) → Status → Type 0
+Concludes options plans tales s = ((tales ≡ []) × ((is_refusal s ≡ true) ⊎ (s ≡ status.WriteFault))) ⊎ IsBegun options plans tales s
 
 -- The status isn't one that may come although no device failed and the clean build succeeds: want of memory, or two signatures with one
 -- digest.
@@ -63,9 +70,9 @@ WritesCall failed base now plans [] s = (now ≡ base ++ fault_text s) ⊎ (fail
 WritesCall failed base now [] (tale ∷ more) s = ⊥
 WritesCall failed base now (plan ∷ plans) (tale ∷ more) s = (now ≡ base ++ report plan tale s) ⊎ (failed × ((met : Status) × WritesFront base now (report plan tale met)))
 
--- What ran had been printed: without a tale no bench ran anything; else the last one ran the scripts of just those tasks that a front of the
--- tale starts, whose lines stand whole behind the text of the plan.
+-- What ran had been printed: without a tale no bench ran anything; else each ran the scripts of just those tasks that its seat starts in a
+-- front of the tale, whose lines stand whole behind the text of the plan.
 abbrev pub RanPrintedCall : List Plan → List (List Logged) → List Runs → List Runs → List ℕ → List ℕ → Type 0
 RanPrintedCall plans [] before now old new = now ≡ before
 RanPrintedCall [] (tale ∷ more) before now old new = ⊥
-RanPrintedCall (plan ∷ plans) (tale ∷ more) before now old new = OnLast (λ b n. RanPrinted plan tale b n (old ++ plan_text plan) new) before now
+RanPrintedCall (plan ∷ plans) (tale ∷ more) before now old new = RanPrinted plan tale before now (old ++ plan_text plan) new

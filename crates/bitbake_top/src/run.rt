@@ -10,7 +10,8 @@ ghost use Rattle.project_reading.specs.Project.{not_built};
 ghost use Rattle.plan_model.specs.Sound.{IsSound};
 ghost use Rattle.plan_model.specs.Spellings.{HasSpellings};
 ghost use Rattle.store_model.specs.Origins.{Book, Reading};
-ghost use Rattle.bitbake_top.specs.Devices.{AreUnchanged, IsUnchanged, SomeRose};
+ghost use Rattle.build_resume.specs.Benches.{AtSeats, BreaksByFault, SomeRose};
+ghost use Rattle.bitbake_top.specs.Devices.{AreUnchanged, IsUnchanged};
 ghost use Rattle.bitbake_top.specs.Headline.{Keeps, MayBegin};
 ghost use Rattle.bitbake_top.specs.Run.{Concludes, HasBuild, HasCause, IsCertain, IsRunPlan, IsUnrun, RanPrintedCall, WritesCall};
 
@@ -22,6 +23,8 @@ use meta_model::{Plan, Status};
 use outside_traits::{Bench, Disk, Layers, Sink};
 use run_plan::find_plan;
 use std::alloc::Global;
+use std::sync::Wait;
+use std::thread::Threads;
 
 /// Finds the plan that a request is a run of.
 fn find<L: Layers>(alloc: Global, layers: &mut L, request: &RunRequest) -> Result<Plan, Status>
@@ -42,7 +45,8 @@ fn find<L: Layers>(alloc: Global, layers: &mut L, request: &RunRequest) -> Resul
 }
 
 /// Runs what a request asks for, or prints the line of its refusal.
-pub fn run<L: Layers, D: Disk, B: Bench, W: Sink>(
+pub fn run<L, D, B, W, R>(
+    rt: &R,
     alloc: Global,
     request: &RunRequest,
     mut layers: L,
@@ -50,6 +54,12 @@ pub fn run<L: Layers, D: Disk, B: Bench, W: Sink>(
     benches: Vec<B>,
     mut sink: W,
 ) -> Finish<L, D, B, W>
+where
+    L: Layers,
+    D: Disk + Drop + Send,
+    B: Bench + Drop + Send,
+    W: Sink + Drop + Send,
+    R: Threads + Wait + Sync,
     requires bench { 0 < vec_len benches }
     requires reach { 3900 ≤ D.reach }
     requires fresh { D.tells → IsFresh (D.story disk) }
@@ -73,7 +83,7 @@ pub fn run<L: Layers, D: Disk, B: Bench, W: Sink>(
     ensures plans { L.tells → (paths : List (List ℕ)) → IsListing [] (L.files layers) paths
         → All (IsRunPlan (L.files layers) paths request.now) result.plans.items }
     ensures found { is_refusal result.status ≡ false → (plan : Whole) × (result.plans.items ≡ plan ∷ []) }
-    ensures concludes { Concludes result.tales.items result.status }
+    ensures concludes { Concludes request.now.options result.plans.items result.tales.items result.status }
     ensures text { W.tells → WritesCall (Rose (W.faults sink) (W.faults result.sink)) (W.written sink) (W.written result.sink) result.plans.items result.tales.items result.status }
     ensures printed { W.tells → B.tells → RanPrintedCall result.plans.items result.tales.items (map (λ b. (B.place b).runs) benches.items) (map (λ b. (B.place b).runs) result.benches.items) (W.written sink) (W.written result.sink) }
     ensures unrun { result.tales.items ≡ [] → result.status ≢ Status.WriteFault → L.tells
@@ -83,6 +93,7 @@ pub fn run<L: Layers, D: Disk, B: Bench, W: Sink>(
     ensures no_usage { result.status ≢ Status.Usage }
     ensures same_disk { result.tales.items ≡ [] → result.disk ≡ disk }
     ensures same_benches { result.tales.items ≡ [] → result.benches.items ≡ benches.items }
+    ensures broke { All (λ tale. AtSeats (BreaksByFault tale) (map B.faults benches.items) (map B.faults result.benches.items)) result.tales.items }
     ensures causes { HasCause (Rose (L.faults layers) (L.faults result.layers)) (D.faults result.disk) (SomeRose (map B.faults benches.items) (map B.faults result.benches.items)) (Rose (W.faults sink) (W.faults result.sink)) result.status }
 {
     match find(alloc, &mut layers, request) {
@@ -94,7 +105,7 @@ pub fn run<L: Layers, D: Disk, B: Bench, W: Sink>(
                 disk,
                 benches,
                 sink,
-            } = run_whole(alloc, plan, request.options, disk, benches, sink);
+            } = run_whole(rt, alloc, plan, request.options, disk, benches, sink);
             Finish {
                 status,
                 plans,

@@ -12,7 +12,8 @@ ghost use Rattle.project_reading.specs.Project.{not_built};
 ghost use Rattle.read_modes.specs.Modes.{mode_text};
 ghost use Rattle.outside_traits.specs.Story.{IsFresh};
 ghost use Rattle.store_model.specs.Origins.{Book, Reading};
-ghost use Rattle.bitbake_top.specs.Devices.{AreUnchanged, IsUnchanged, SomeRose};
+ghost use Rattle.build_resume.specs.Benches.{AtSeats, BreaksByFault, SomeRose};
+ghost use Rattle.bitbake_top.specs.Devices.{AreUnchanged, IsUnchanged};
 ghost use Rattle.bitbake_top.specs.Headline.{Keeps, MayBegin};
 ghost use Rattle.meta_model.specs.declared.plan.Plan.{Plan};
 ghost use Rattle.bb_report.specs.Texts.{dry_text};
@@ -31,6 +32,8 @@ use crate::run::run;
 use meta_model::Status;
 use outside_traits::{Bench, Disk, Layers, Sink};
 use std::alloc::Global;
+use std::sync::Wait;
+use std::thread::Threads;
 use tree_model::Text;
 
 /// Does all that the program does, and gives the devices back with the status and the tale.
@@ -43,7 +46,8 @@ use tree_model::Text;
 /// the plan, and is refused where one of these is, in this order. It prints the plan, opens the store that earlier runs left, finds and
 /// restores what it can trust, and runs what is missing. With `-f` the targets' tasks run in any case, with `-k` it goes on after
 /// failures, and with `--no-setscene` it restores no shared state object.
-pub fn bitbake<L: Layers, D: Disk, B: Bench, W: Sink>(
+pub fn bitbake<L, D, B, W, R>(
+    rt: &R,
     alloc: Global,
     words: &[Text],
     mut layers: L,
@@ -51,6 +55,12 @@ pub fn bitbake<L: Layers, D: Disk, B: Bench, W: Sink>(
     benches: Vec<B>,
     mut sink: W,
 ) -> Finish<L, D, B, W>
+where
+    L: Layers,
+    D: Disk + Drop + Send,
+    B: Bench + Drop + Send,
+    W: Sink + Drop + Send,
+    R: Threads + Wait + Sync,
     requires bench { 0 < vec_len benches }
     requires reach { 3900 ≤ D.reach }
     requires fresh { D.tells → IsFresh (D.story disk) }
@@ -58,7 +68,7 @@ pub fn bitbake<L: Layers, D: Disk, B: Bench, W: Sink>(
 
     // A run. Whatever runs, edits and crashes came before: where it may begin on what the disk holds, under Ok each target's folder
     // holds exactly its clean output, every crash leaves a store in which the next run may begin, the tale is legal, named failures are
-    // real, and the bench runs are the started tasks.
+    // real, and the runs of each bench are the tasks that its seat started.
     ensures keeps { (request : Request) → AskRun words.now request → L.tells → D.tells → B.tells
         → (paths : List (List ℕ)) → IsListing [] (L.files layers) paths
         → (plan : Plan) → IsRunPlan (L.files layers) paths request plan
@@ -79,11 +89,12 @@ pub fn bitbake<L: Layers, D: Disk, B: Bench, W: Sink>(
         → IsCertain result.status
         → ((result.status ≡ Status.Ok) ↔ HasBuild (L.files layers) paths request gives) }
 
-    // The plan that is handed back is the request's, and each answer but a refusal hands one back. The status fits the tale.
+    // The plan that is handed back is the request's, and each answer but a refusal hands one back. The status fits the tale: Ok comes only
+    // where nothing is left to do and no task failed.
     ensures plans { (request : Request) → AskRun words.now request → L.tells → (paths : List (List ℕ)) → IsListing [] (L.files layers) paths
         → All (IsRunPlan (L.files layers) paths request) result.plans.items }
     ensures found { (request : Request) → AskRun words.now request → is_refusal result.status ≡ false → (plan : Plan) × (result.plans.items ≡ plan ∷ []) }
-    ensures concludes { (request : Request) → AskRun words.now request → Concludes result.tales.items result.status }
+    ensures concludes { (request : Request) → AskRun words.now request → Concludes request.options result.plans.items result.tales.items result.status }
 
     // What a run wrote is the text of the plan, the tale and the status, or where the sink failed a front of such a text.
     ensures text { (request : Request) → AskRun words.now request → W.tells
@@ -165,11 +176,12 @@ pub fn bitbake<L: Layers, D: Disk, B: Bench, W: Sink>(
     ensures said { AskNoRun words.now → result.status ≢ Status.Ok → result.status ≢ Status.WriteFault → W.tells
         → Says (fault_text result.status) (W.written sink) (W.written result.sink) (W.faults sink) (W.faults result.sink) }
 
-    // Each fault has its cause.
+    // Each fault has its cause, and a task broke off since its bench failed only where the count of its seat's bench rose.
+    ensures broke { (request : Request) → AskRun words.now request → All (λ tale. AtSeats (BreaksByFault tale) (map B.faults benches.items) (map B.faults result.benches.items)) result.tales.items }
     ensures causes { HasCause (Rose (L.faults layers) (L.faults result.layers)) (D.faults result.disk) (SomeRose (map B.faults benches.items) (map B.faults result.benches.items)) (Rose (W.faults sink) (W.faults result.sink)) result.status }
 {
     match asked_of(alloc, words) {
-        Ok(Asked::Runs(request)) => run(alloc, &request, layers, disk, benches, sink),
+        Ok(Asked::Runs(request)) => run(rt, alloc, &request, layers, disk, benches, sink),
         Ok(Asked::Reads { mode, targets }) => Finish {
             status: read(alloc, mode, targets.as_slice(), &mut layers, &mut sink),
             plans: Vec::new(alloc),

@@ -8,7 +8,8 @@ ghost use Rattle.plan_model.specs.Sound.{AreWanted, IsSound};
 ghost use Rattle.plan_model.specs.Spellings.{HasSpellings};
 ghost use Rattle.store_model.specs.Origins.{Book, Reading};
 ghost use Rattle.build_resume.specs.Build.{AllClean, MayEndSo};
-ghost use Rattle.bitbake_top.specs.Devices.{AreUnchanged, SomeRose};
+ghost use Rattle.build_resume.specs.Benches.{AtSeats, BreaksByFault, SomeRose};
+ghost use Rattle.bitbake_top.specs.Devices.{AreUnchanged};
 ghost use Rattle.bitbake_top.specs.Headline.{Keeps, MayBegin};
 ghost use Rattle.bitbake_top.specs.Run.{Concludes, IsBegun, IsCertain, RanPrintedCall, WritesCall};
 
@@ -18,6 +19,8 @@ use build_resume::{Outcome, build};
 use meta_model::{ListOf, Logged, Options, Plan, Status};
 use outside_traits::{Bench, Disk, Sink};
 use std::alloc::Global;
+use std::sync::Wait;
+use std::thread::Threads;
 use tree_model::{Mem, Text};
 
 /// What a run of a plan hands back.
@@ -71,28 +74,22 @@ fn prepare(alloc: Global, plan: &Plan) -> Result<Ready, Mem>
     })
 }
 
-/// Takes the last bench off.
-fn take_last<B: Bench>(benches: &mut Vec<B>) -> B
-    requires { 0 < vec_len benches.old }
-    ensures items { benches.old.items ≡ benches.new.items ++ result ∷ [] }
-    ensures room { vec_len benches.new < vec_capacity benches.new }
-{
-    match benches.pop() {
-        Some(bench) => bench,
-        None => unreachable!(),
-    }
-}
-
-/// Runs a plan whose text was printed on the last bench.
-fn run_ready<D: Disk, B: Bench, W: Sink>(
+/// Runs a plan whose text was printed.
+fn run_ready<D, B, W, R>(
+    rt: &R,
     alloc: Global,
     room: Room,
     plan: Plan,
     options: Options,
     disk: D,
-    mut benches: Vec<B>,
+    benches: Vec<B>,
     sink: W,
 ) -> Ran<D, B, W>
+where
+    D: Disk + Drop + Send,
+    B: Bench + Drop + Send,
+    W: Sink + Drop + Send,
+    R: Threads + Wait + Sync,
     requires bench { 0 < vec_len benches }
     requires reach { 3900 ≤ D.reach }
     requires fresh { D.tells → IsFresh (D.story disk) }
@@ -110,30 +107,29 @@ fn run_ready<D: Disk, B: Bench, W: Sink>(
         → (Rose (W.faults sink) (W.faults result.sink) → ⊥) → IsCertain result.status
         → ((result.status ≡ Status.Ok) ↔ AllClean gives plan) }
     ensures plans { result.plans.items ≡ plan ∷ [] }
-    ensures begun { IsBegun result.tales.items result.status }
+    ensures begun { IsBegun options result.plans.items result.tales.items result.status }
     ensures text { W.tells → (base : List ℕ) (before : ℕ) → before ≤ W.faults sink → W.written sink ≡ base ++ text_of plan
         → WritesCall (Rose before (W.faults result.sink)) base (W.written result.sink) result.plans.items result.tales.items result.status }
     ensures printed { W.tells → B.tells → (base : List ℕ) → W.written sink ≡ base ++ text_of plan
         → RanPrintedCall result.plans.items result.tales.items (map (λ b. (B.place b).runs) benches.items) (map (λ b. (B.place b).runs) result.benches.items) base (W.written result.sink) }
+    ensures broke { All (λ tale. AtSeats (BreaksByFault tale) (map B.faults benches.items) (map B.faults result.benches.items)) result.tales.items }
     ensures causes { (before : ℕ) → before ≤ W.faults sink → MayEndSo (D.faults result.disk) (SomeRose (map B.faults benches.items) (map B.faults result.benches.items)) (Rose before (W.faults result.sink)) result.status }
 {
     let Room {
         mut plans,
         mut tales,
     } = room;
-    let bench = take_last(&mut benches);
     let Outcome {
         status,
         plan,
         failed: _,
         disk,
-        bench,
+        benches,
         sink,
         tale,
-    } = build(alloc, plan, options, disk, bench, sink);
+    } = build(rt, alloc, plan, options, disk, benches, sink);
     plans.push_reserved(plan);
     tales.push_reserved(ListOf::from_vec(tale));
-    benches.push_reserved(bench);
     Ran {
         status,
         plans,
@@ -144,10 +140,11 @@ fn run_ready<D: Disk, B: Bench, W: Sink>(
     }
 }
 
-/// Prints a plan and runs it on the last bench, and gives the devices back with the status and the tale.
+/// Prints a plan and runs it, and gives the devices back with the status and the tale.
 ///
 /// Nothing is begun before the plan's text is printed.
-pub fn run_whole<D: Disk, B: Bench, W: Sink>(
+pub fn run_whole<D, B, W, R>(
+    rt: &R,
     alloc: Global,
     plan: Plan,
     options: Options,
@@ -155,6 +152,11 @@ pub fn run_whole<D: Disk, B: Bench, W: Sink>(
     benches: Vec<B>,
     mut sink: W,
 ) -> Ran<D, B, W>
+where
+    D: Disk + Drop + Send,
+    B: Bench + Drop + Send,
+    W: Sink + Drop + Send,
+    R: Threads + Wait + Sync,
     requires bench { 0 < vec_len benches }
     requires reach { 3900 ≤ D.reach }
     requires fresh { D.tells → IsFresh (D.story disk) }
@@ -170,17 +172,18 @@ pub fn run_whole<D: Disk, B: Bench, W: Sink>(
         → (Rose (W.faults sink) (W.faults result.sink) → ⊥) → IsCertain result.status
         → ((result.status ≡ Status.Ok) ↔ AllClean gives plan) }
     ensures plans { (result.plans.items ≡ plan ∷ []) ⊎ ((result.plans.items ≡ []) × (result.status ≡ Status.OutOfMemory)) }
-    ensures concludes { Concludes result.tales.items result.status }
+    ensures concludes { Concludes options result.plans.items result.tales.items result.status }
     ensures unbegun { result.tales.items ≡ [] → (result.status ≡ Status.OutOfMemory) ⊎ (result.status ≡ Status.WriteFault) }
     ensures text { W.tells → WritesCall (Rose (W.faults sink) (W.faults result.sink)) (W.written sink) (W.written result.sink) result.plans.items result.tales.items result.status }
     ensures printed { W.tells → B.tells → RanPrintedCall result.plans.items result.tales.items (map (λ b. (B.place b).runs) benches.items) (map (λ b. (B.place b).runs) result.benches.items) (W.written sink) (W.written result.sink) }
     ensures same_disk { result.tales.items ≡ [] → result.disk ≡ disk }
     ensures same_benches { result.tales.items ≡ [] → result.benches.items ≡ benches.items }
+    ensures broke { All (λ tale. AtSeats (BreaksByFault tale) (map B.faults benches.items) (map B.faults result.benches.items)) result.tales.items }
     ensures causes { MayEndSo (D.faults result.disk) (SomeRose (map B.faults benches.items) (map B.faults result.benches.items)) (Rose (W.faults sink) (W.faults result.sink)) result.status }
 {
     match prepare(alloc, &plan) {
         Ok(Ready { text, mut room }) => match write_all(&mut sink, text.as_str().as_bytes()) {
-            Ok(()) => run_ready(alloc, room, plan, options, disk, benches, sink),
+            Ok(()) => run_ready(rt, alloc, room, plan, options, disk, benches, sink),
             Err(_) => {
                 room.plans.push_reserved(plan);
                 Ran {

@@ -8,7 +8,7 @@ use Rattle.meta_model.specs.declared.event.Status.{Status}
 use Rattle.meta_model.specs.declared.event.Status.TheVariants as status
 use Rattle.meta_model.specs.declared.plan.Options.{Options}
 use Rattle.meta_model.specs.declared.plan.Plan.{Plan}
-use Rattle.meta_model.specs.CleanBuild.{Entries, Gives}
+use Rattle.meta_model.specs.CleanBuild.{Gives}
 use Rattle.build_store.specs.declared.fault.StoreFault.{StoreFault}
 use Rattle.build_store.specs.declared.fault.StoreFault.TheVariants as fault
 use Rattle.bb_report.specs.Runs.{has_failure}
@@ -18,12 +18,15 @@ use Rattle.run_queue.specs.Keeps.{IsRun}
 use Rattle.run_queue.specs.Opening.{Opening}
 use Rattle.run_queue.specs.Seen.{RunView, seen}
 use Rattle.run_queue.specs.Turns.{IsAtEnd, SameRun}
-use Rattle.build_resume.specs.Build.{RanThese, started_in}
-use Rattle.build_resume.specs.Drive.{Drove, IsHalted}
+use Rattle.outside_traits.specs.Fault.{Counts}
+use Rattle.run_workers.specs.Runs.{RanScripts, RanThese, Runs, by_bench}
+use Rattle.build_resume.specs.Benches.{started_by}
+use Rattle.build_resume.specs.Build.{RanJust, RanStarted}
+use Rattle.build_resume.specs.Drive.{Drove, Grows, IsHalted, RanOn, WentOn}
 use Rattle.build_resume.specs.Ends.{EndsBy, status_by, status_of}
-use Rattle.build_resume.specs.Outcome.{EndsAs, KeptTo, RanStarted}
-use Rattle.build_resume.specs.declared.drive.Halt.{Halt}
-use Rattle.build_resume.specs.declared.drive.Halt.TheVariants as halt
+use Rattle.build_resume.specs.Outcome.{EndsAs, KeptTo}
+use Rattle.run_workers.specs.declared.worker.Halt.{Halt}
+use Rattle.run_workers.specs.declared.worker.Halt.TheVariants as halt
 use Rattle.build_resume.proofs.Outcomes.{failure_told}
 
 -- ---- the status
@@ -110,17 +113,37 @@ kept_to story written o old last disk tale same disk_is tale_is run = record {
   story_is = ap story (sym disk_is);
 }
 
-pub ran_started : (gives : Gives) (plan : Plan) (h : Halt) (old tale new : List Logged) (before now : List (List ℕ × Entries)) → old ≡ [] → tale ≡ new → Drove gives plan (Some h) old new before now → RanStarted gives plan tale before now
-ran_started gives plan h old tale new before now none tale_is d = record {
-  runs = d.runs;
-  ran = d.ran;
-  these = subst (λ (l : List Logged). RanThese gives plan (started_in l) d.runs) (sym (tale_is ∙ d.tale ∙ ap (λ (l : List Logged). l ++ d.more) none)) d.these;
-}
+-- what the bench ran for the tale that went on
+pub ran_on : (gives : Gives) (plan : Plan) (h : Halt) (old tale new : List Logged) (before now : Runs) → tale ≡ new → Drove gives plan (Some h) old new before now → RanOn gives plan old tale before now
+ran_on gives plan h old tale new before now tale_is d = record { more = d.more; is = tale_is ∙ d.tale; ran = record { runs = d.runs; ran = d.ran; these = d.these } }
 
 -- where no turn was taken
-pub ran_nothing : (gives : Gives) (plan : Plan) (tale : List Logged) (before now : List (List ℕ × Entries)) → tale ≡ [] → now ≡ before → RanStarted gives plan tale before now
-ran_nothing gives plan tale before now none same = record {
+pub ran_nothing : (gives : Gives) (plan : Plan) (tale : List Logged) → tale ≡ [] → (seat : ℕ) (runs : Runs) → RanStarted gives plan tale seat runs runs
+ran_nothing gives plan tale none seat runs = record {
   runs = [];
-  ran = same ∙ sym (append-nil before);
-  these = subst (λ (l : List Logged). RanThese gives plan (started_in l) []) (sym none) tt;
+  ran = sym (append-nil runs);
+  these = subst (λ (l : List Logged). RanThese gives plan (started_by seat l) []) (sym none) tt;
 }
+
+pub just_nothing : (plan : Plan) (tale : List Logged) → tale ≡ [] → (seat : ℕ) (runs : Runs) → RanJust plan (started_by seat tale) runs runs
+just_nothing plan tale none seat runs = record {
+  runs = [];
+  ran = sym (append-nil runs);
+  these = subst (λ (l : List Logged). RanScripts plan (started_by seat l) []) (sym none) tt;
+}
+
+-- a tale that went on to the run's end
+pub went_on : (h : Halt) (old new tale : List Logged) (before now : ℕ) → tale ≡ new → Grows (Some h) old new → Counts before now (by_bench (Some h)) → WentOn old tale before now
+went_on h old new tale before now tale_is grows counts = record {
+  more = grows.more;
+  is = tale_is ∙ grows.is;
+  alone = grows.alone;
+  breaks = λ b. (subst (Counts before now) (grows.breaks b) counts).rose;
+}
+
+-- what is told of a run by a later state is told of it by its first one
+pub ends_still : {D W : Type 0} (old mid : RunView D W) (tale : List Logged) (s : Status) → SameRun old mid → EndsAs mid.plan mid.options tale s → EndsAs old.plan old.options tale s
+ends_still old mid tale s same e = subst (λ (p : Plan). EndsAs p old.options tale s) same.plan (subst (λ (x : Options). EndsAs mid.plan x tale s) same.options e)
+
+pub kept_still : {D W : Type 0} (o : Opening) (old mid : RunView D W) (tale : List Logged) (story : Story) → SameRun old mid → KeptTo o mid.plan mid.options tale story → KeptTo o old.plan old.options tale story
+kept_still o old mid tale story same k = subst (λ (p : Plan). KeptTo o p old.options tale story) same.plan (subst (λ (x : Options). KeptTo o mid.plan x tale story) same.options k)

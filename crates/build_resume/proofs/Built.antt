@@ -1,5 +1,5 @@
 -- What a run leaves of a disk on which it began, over a book.
-use Rattle.std.proofs.Common.{◌≡◌, subst, refl, ℕ, List}
+use Rattle.std.proofs.Common.{◌≡◌, subst, refl, ℕ, false, List, [], arith, inl, inr}
 use Rattle.std.specs.Prelude.{◌≢◌, Contains}
 use Rattle.outside_traits.specs.Passes.{EachNow, Passes}
 use Rattle.outside_traits.specs.Store.{Store}
@@ -19,10 +19,11 @@ use Rattle.build_store.proofs.Reopened.{opened_is_valid}
 use Rattle.run_queue.specs.Keeps.{IsOpening}
 use Rattle.run_queue.specs.Opening.{MayRun, Opening}
 use Rattle.run_queue.specs.Stands.{AllStand}
-use Rattle.build_resume.specs.Build.{AllClean, FailsClean, HasRun, HasTargets, IsCrash, IsEntry, LeavesOthers}
-use Rattle.build_resume.specs.Ends.{failed_in}
+use Rattle.run_workers.specs.Runs.{Runs}
+use Rattle.build_resume.specs.Benches.{AtSeats}
+use Rattle.build_resume.specs.Build.{AllClean, FailsClean, HasRun, HasTargets, IsCrash, IsEntry, Leaves, LeavesOthers, RanStarted, failed_in, is_unsteady}
 use Rattle.build_resume.specs.Outcome.{EndsAs, KeptTo}
-use Rattle.build_resume.proofs.Alone.{early_alone, kept_others}
+use Rattle.build_resume.proofs.Alone.{early_alone, kept_others, opened_alone}
 use Rattle.build_resume.proofs.Outcomes.{kept_all, kept_clean, kept_crash, kept_exact, kept_real, opened_crash, opened_may_run, opening_of}
 
 -- A store was opened on a disk that was fresh: what is held is what opening leaves, and durable; and at each moment nothing went that it
@@ -78,9 +79,39 @@ module _ (gives : Gives) (reading : Reading) (book : Book) (plan : Plan) (option
     pub built_real : (t : ℕ) → Contains (failed_in tale) t → FailsClean gives plan t
     built_real = kept_real opening plan options tale story k
 
+    -- all together
+    pub built_leaves : IsStorySound story → is_unsteady s ≡ false → (runs now : List Runs) → AtSeats (RanStarted gives plan tale) runs now → Leaves gives reading book before.held plan options tale s story runs now
+    built_leaves lawful steady runs now ran = record {
+      exact = built_exact;
+      crashes = built_crashes;
+      others = built_others;
+      complete = built_complete lawful;
+      steady = steady;
+      legal = inr built_legal;
+      real = built_real;
+      ran = ran;
+    }
+
 -- The plan and the options of a run are those that it was begun with.
 pub as_begun : (o : Opening) (p plan : Plan) (x options : Options) (tale : List Logged) (story : Story) (s : Status) → p ≡ plan → x ≡ options → KeptTo o p x tale story → EndsAs p x tale s → KeptTo o plan options tale story × EndsAs plan options tale s
 as_begun o p plan x options tale story s plan_is options_are kept ends = (
   subst (λ (y : Options). KeptTo o plan y tale story) options_are (subst (λ (q : Plan). KeptTo o q x tale story) plan_is kept),
   subst (λ (y : Options). EndsAs plan y tale s) options_are (subst (λ (q : Plan). EndsAs q x tale s) plan_is ends),
 )
+
+-- What a run leaves that didn't begin, over a store that was opened, or wasn't.
+pub unbegun_leaves : (gives : Gives) (reading : Reading) (book : Book) (plan : Plan) (options : Options) (before after story : Story) (tale : List Logged) (s : Status) (runs now : List Runs) → IsFresh before → IsEntry gives reading book before.held plan → Passes before after (Clears before.held) → story ≡ after
+    → tale ≡ [] → s ≢ status.Ok → s ≢ status.TaskFailed → is_unsteady s ≡ false → AtSeats (RanStarted gives plan tale) runs now → Leaves gives reading book before.held plan options tale s story runs now
+unbegun_leaves gives reading book plan options before after story tale s runs now fresh entry clears same none ok failed steady ran = record {
+  exact = λ e. absurd (ok e);
+  crashes = λ image since. opened_crash gives reading book plan before after image fresh entry clears (subst (λ (x : Story). IsImageSince x 0 image) same since);
+  others = λ image since. opened_alone gives book before after plan options tale image fresh clears (subst (λ (x : Story). IsImageSince x 0 image) same since);
+  complete = λ wanted. (λ e. absurd (ok e), λ clean e. absurd (failed e));
+  steady = steady;
+  legal = inl none;
+  real = λ t has. absurd (none_fails t (subst (λ (l : List Logged). Contains (failed_in l) t) none has));
+  ran = ran;
+}
+  where
+    none_fails : (t : ℕ) → Contains (failed_in []) t → ⊥
+    none_fails t has = let lt = has.1 in omega (arith, lt)

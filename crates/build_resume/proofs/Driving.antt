@@ -1,5 +1,5 @@
 -- What a turn adds to the tale of a run, and to what its bench ran.
-use Rattle.std.proofs.Common.{◌≡◌, ◌∙◌, sym, ap, subst, refl, ℕ, List, [], ◌∷◌, ◌++◌, append_assoc, append-nil, Some, None, inl, inr}
+use Rattle.std.proofs.Common.{◌≡◌, ◌∙◌, sym, ap, subst, refl, ℕ, List, [], ◌∷◌, ◌++◌, append_assoc, append-nil, Some, None, inl, inr, true, false}
 use Rattle.std.specs.Prelude.{◌⊎◌, Option, IsSome}
 use Rattle.std.proofs.lemmas.Bool.{false≢true}
 use Rattle.meta_model.specs.declared.event.Event.{Event}
@@ -12,16 +12,15 @@ use Rattle.task_worker.specs.declared.given.Job.{Job}
 use Rattle.run_queue.specs.Opening.{Opening}
 use Rattle.run_queue.specs.Seen.{Seen}
 use Rattle.run_queue.specs.Turns.{IsCleanJob, Marks}
-use Rattle.build_resume.specs.Build.{IsRunOf, RanThese, started_in}
-use Rattle.build_resume.specs.Drive.{AllRan, Closes, Drove, RanSoFar}
-use Rattle.build_resume.specs.declared.drive.Halt.{Halt}
-use Rattle.build_resume.proofs.Turning.{all_then, started_split, these_then}
-
-abbrev Runs : Type 0
-Runs = List (List ℕ × Entries)
+use Rattle.run_workers.specs.Runs.{AllRan, IsRunOf, RanSoFar, RanThese, Runs, by_bench}
+use Rattle.build_resume.specs.Benches.{BreaksBench, started_by}
+use Rattle.build_resume.specs.Drive.{Closes, Drove, Grows}
+use Rattle.run_workers.specs.declared.worker.Halt.{Halt}
+use Rattle.build_resume.proofs.Seating.{alone_nil, alone_one, alone_then, breaks_nil, breaks_one, breaks_split, started_split}
+use Rattle.build_resume.proofs.Turning.{all_then, these_then}
 
 -- a turn that marked nothing
-pub drove_none : (gives : Gives) (plan : Plan) (halt : Halt) (old new : List Logged) (runs : List (List ℕ × Entries)) → new ≡ old → Drove gives plan (Some halt) old new runs runs
+pub drove_none : (gives : Gives) (plan : Plan) (halt : Halt) (old new : List Logged) (runs : Runs) → new ≡ old → Drove gives plan (Some halt) old new runs runs
 drove_none gives plan halt old new runs same = record { more = []; tale = same ∙ sym (append-nil old); runs = []; ran = sym (append-nil runs); these = tt }
 
 -- the job's run is one over the clean outputs
@@ -37,23 +36,20 @@ clean_run o s plan gives job same plan_is j =
     }))
 
 -- an event that closes a task starts none
-pub closing_starts : (t : ℕ) (entry : Logged) → task_of entry.event ≡ t → ((seat : ℕ) → entry.event ≡ events.Started t seat → ⊥) → started_in (entry ∷ []) ≡ []
-closing_starts t entry of none = by entry.event of none
-  where
-    by : (x : Event) → task_of x ≡ t → ((seat : ℕ) → x ≡ events.Started t seat → ⊥) → started_in (record entry { event = x } ∷ []) ≡ []
-    by (events.Found u) e n = refl
-    by (events.Restored u) e n = refl
-    by (events.Started u seat) e n = absurd (n seat (ap (λ k. events.Started k seat) e))
-    by (events.Ended u) e n = refl
-    by (events.Failed u w) e n = refl
-    by (events.Broke u c) e n = refl
+pub closing_starts : (t moment : ℕ) (event : Event) → task_of event ≡ t → ((seat : ℕ) → event ≡ events.Started t seat → ⊥) → started_by 0 (record { event = event; seat = 0; moment = moment } ∷ []) ≡ []
+closing_starts t moment (events.Found u) e n = refl
+closing_starts t moment (events.Restored u) e n = refl
+closing_starts t moment (events.Started u seat) e n = absurd (n seat (ap (λ k. events.Started k seat) e))
+closing_starts t moment (events.Ended u) e n = refl
+closing_starts t moment (events.Failed u w) e n = refl
+closing_starts t moment (events.Broke u c) e n = refl
 
 so_far : (gives : Gives) (plan : Plan) (halt : Option Halt) (t : ℕ) (run : List ℕ × Entries) → IsRunOf gives plan t run → RanSoFar gives plan halt (t ∷ []) (run ∷ [])
 so_far gives plan None t run is = (is, tt)
 so_far gives plan (Some h) t run is = (is, tt)
 
 -- a turn that started a task, whose job came to an end
-pub drove_job : (gives : Gives) (plan : Plan) (halt : Option Halt) (t : ℕ) (run : List ℕ × Entries) (old mid new : List Logged) (before now : List (List ℕ × Entries)) → IsRunOf gives plan t run → Marks 0 (events.Started t 0) old mid → Closes t mid new
+pub drove_job : (gives : Gives) (plan : Plan) (halt : Option Halt) (t : ℕ) (run : List ℕ × Entries) (old mid new : List Logged) (before now : Runs) → IsRunOf gives plan t run → Marks 0 (events.Started t 0) old mid → Closes t halt mid new
     → (now ≡ before ++ run ∷ []) ⊎ ((now ≡ before) × IsSome halt) → Drove gives plan halt old new before now
 drove_job gives plan halt t run old mid new before now is m c ran = elim ran [
   | inl did ↦ record { more = entries; tale = tale; runs = run ∷ []; ran = did; these = subst (λ ts. RanSoFar gives plan halt ts (run ∷ [])) (sym started) (so_far gives plan halt t run is) }
@@ -72,15 +68,15 @@ drove_job gives plan halt t run old mid new before now is m c ran = elim ran [
     tale : new ≡ old ++ entries
     tale = c.marks.is ∙ ap (λ (l : List Logged). l ++ last ∷ []) m.is ∙ append_assoc old (first ∷ []) (last ∷ [])
 
-    started : started_in entries ≡ t ∷ []
-    started = ap (λ l. t ∷ l) (closing_starts t last c.of c.starts_none)
+    started : started_by 0 entries ≡ t ∷ []
+    started = ap (λ l. t ∷ l) (closing_starts t c.marks.moment c.event c.of c.starts_none)
 
     halted : (h : Option Halt) → IsSome h → RanSoFar gives plan h (t ∷ []) []
     halted None s = absurd (false≢true s)
     halted (Some h) s = refl
 
 -- one turn behind others
-pub drove_on : (gives : Gives) (plan : Plan) (halt : Option Halt) (old mid new : List Logged) (before between now : List (List ℕ × Entries)) → Drove gives plan None old mid before between → Drove gives plan halt mid new between now → Drove gives plan halt old new before now
+pub drove_on : (gives : Gives) (plan : Plan) (halt : Option Halt) (old mid new : List Logged) (before between now : Runs) → Drove gives plan None old mid before between → Drove gives plan halt mid new between now → Drove gives plan halt old new before now
 drove_on gives plan halt old mid new before between now one other = record {
   more = one.more ++ other.more;
   tale = other.tale ∙ ap (λ (l : List Logged). l ++ other.more) one.tale ∙ append_assoc old one.more other.more;
@@ -89,14 +85,66 @@ drove_on gives plan halt old mid new before between now one other = record {
   these = by halt other.these;
 }
   where
-    by : (h : Option Halt) → RanSoFar gives plan h (started_in other.more) other.runs → RanSoFar gives plan h (started_in (one.more ++ other.more)) (one.runs ++ other.runs)
-    by None these = subst (λ ts. AllRan gives plan ts (one.runs ++ other.runs)) (sym (started_split one.more other.more)) (all_then gives plan (started_in one.more) (started_in other.more) one.runs other.runs one.these these)
-    by (Some h) these = subst (λ ts. RanThese gives plan ts (one.runs ++ other.runs)) (sym (started_split one.more other.more)) (these_then gives plan (started_in one.more) (started_in other.more) one.runs other.runs one.these these)
+    by : (h : Option Halt) → RanSoFar gives plan h (started_by 0 other.more) other.runs → RanSoFar gives plan h (started_by 0 (one.more ++ other.more)) (one.runs ++ other.runs)
+    by None these = subst (λ ts. AllRan gives plan ts (one.runs ++ other.runs)) (sym (started_split 0 one.more other.more)) (all_then gives plan (started_by 0 one.more) (started_by 0 other.more) one.runs other.runs one.these these)
+    by (Some h) these = subst (λ ts. RanThese gives plan ts (one.runs ++ other.runs)) (sym (started_split 0 one.more other.more)) (these_then gives plan (started_by 0 one.more) (started_by 0 other.more) one.runs other.runs one.these these)
 
 -- before the first turn
-pub drove_first : (gives : Gives) (plan : Plan) (tale : List Logged) (runs : List (List ℕ × Entries)) → Drove gives plan None tale tale runs runs
+pub drove_first : (gives : Gives) (plan : Plan) (tale : List Logged) (runs : Runs) → Drove gives plan None tale tale runs runs
 drove_first gives plan tale runs = record { more = []; tale = sym (append-nil tale); runs = []; ran = sym (append-nil runs); these = tt }
 
 -- by the plan, and what scripts give, as they were
-pub drove_same : {gives other : Gives} {plan now : Plan} (halt : Option Halt) (old new : List Logged) (before after : List (List ℕ × Entries)) → gives ≡ other → plan ≡ now → Drove gives plan halt old new before after → Drove other now halt old new before after
+pub drove_same : {gives other : Gives} {plan now : Plan} (halt : Option Halt) (old new : List Logged) (before after : Runs) → gives ≡ other → plan ≡ now → Drove gives plan halt old new before after → Drove other now halt old new before after
 drove_same {gives} {other} {plan} {now} halt old new before after same plan_is d = subst (λ (p : Plan). Drove other p halt old new before after) plan_is (subst (λ (x : Gives). Drove x plan halt old new before after) same d)
+
+-- ---- a tale that seat 0 goes on with
+
+-- no event is both the start of a task and that it broke off since its bench failed
+not_both : (x : Event) (t s : ℕ) → x ≡ events.Started t s → Rattle.run_workers.specs.Worked.is_bench_break x ≡ true → ⊥
+not_both x t s is breaks = false≢true (sym (ap Rattle.run_workers.specs.Worked.is_bench_break is) ∙ breaks)
+
+-- by nothing
+pub grows_none : (halt : Option Halt) (old new : List Logged) → new ≡ old → Grows halt old new
+grows_none halt old new same = record { more = []; is = same ∙ sym (append-nil old); alone = alone_nil; breaks = λ b. absurd (breaks_nil 0 b) }
+
+-- by one event, which isn't that a task broke off since its bench failed
+pub grows_one : (halt : Option Halt) (event : Event) (old new : List Logged) → Marks 0 event old new → Rattle.run_workers.specs.Worked.is_bench_break event ≡ false → Grows halt old new
+grows_one halt event old new m calm = record {
+  more = entry ∷ [];
+  is = m.is;
+  alone = alone_one entry refl;
+  breaks = λ b. absurd (false≢true (sym calm ∙ breaks_one 0 entry b));
+}
+  where
+    entry : Logged
+    entry = record { event = event; seat = 0; moment = m.moment }
+
+-- by a task that it started, whose job came to an end
+pub grows_job : (halt : Option Halt) (t : ℕ) (old mid new : List Logged) → Marks 0 (events.Started t 0) old mid → Closes t halt mid new → Grows halt old new
+grows_job halt t old mid new m c = record {
+  more = first ∷ last ∷ [];
+  is = c.marks.is ∙ ap (λ (l : List Logged). l ++ last ∷ []) m.is ∙ append_assoc old (first ∷ []) (last ∷ []);
+  alone = alone_then (first ∷ []) (last ∷ []) (alone_one first refl) (alone_one last refl);
+  breaks = λ b. elim (breaks_split 0 (first ∷ []) (last ∷ []) b) [
+    | inl one ↦ absurd (not_both first.event t 0 refl (breaks_one 0 first one))
+    | inr two ↦ c.breaks (breaks_one 0 last two)
+  ];
+}
+  where
+    first : Logged
+    first = record { event = events.Started t 0; seat = 0; moment = m.moment }
+
+    last : Logged
+    last = record { event = c.event; seat = 0; moment = c.marks.moment }
+
+-- by one turn behind others
+pub grows_on : (halt : Option Halt) (old mid new : List Logged) → Grows None old mid → Grows halt mid new → Grows halt old new
+grows_on halt old mid new one other = record {
+  more = one.more ++ other.more;
+  is = other.is ∙ ap (λ (l : List Logged). l ++ other.more) one.is ∙ append_assoc old one.more other.more;
+  alone = alone_then one.more other.more one.alone other.alone;
+  breaks = λ b. elim (breaks_split 0 one.more other.more b) [
+    | inl first ↦ absurd (false≢true (one.breaks first))
+    | inr later ↦ other.breaks later
+  ];
+}

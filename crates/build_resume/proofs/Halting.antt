@@ -12,7 +12,7 @@ use Rattle.run_queue.specs.Opening.{Opening}
 use Rattle.run_queue.specs.Seen.{RunView, seen}
 use Rattle.run_queue.specs.Turns.{IsCleanJob}
 use Rattle.build_resume.specs.Drive.{IsHalted, left_over}
-use Rattle.build_resume.specs.declared.drive.Halt.{Halt}
+use Rattle.run_workers.specs.declared.worker.Halt.{Halt}
 
 -- a job is handed out only where no fault is kept
 pub none_before : (fault : Option RunFault) (job : Job) → (IsSome fault → ◌≡◌ {A = Result Claim Mem} (Ok (claim.Run job)) (Ok claim.Stopped)) → fault ≡ None
@@ -39,5 +39,6 @@ clean_still story written o old new job same j = record {
   clean = subst (λ (p : Plan). Rattle.task_worker.specs.OneTask.AreClean o.gives p.tasks j.outputs) (sym same) j.clean;
   script = j.script;
   layout = subst (λ (p : Plan). job.layout ≡ Rattle.task_worker.specs.Layouts.layout_over p.tasks j.task j.outputs) (sym same) j.layout;
+  placing = j.placing;
   within = j.within;
 }

@@ -1,4 +1,5 @@
 pub mod Given
+pub mod Seating
 pub mod Turning
 pub mod Driving
 pub mod Halting
@@ -8,6 +9,8 @@ pub mod Reports
 pub mod Alone
 pub mod Begun
 pub mod Built
+pub mod Benches
+pub mod Working
 pub mod Entered
 pub mod Printing
 pub mod Statuses

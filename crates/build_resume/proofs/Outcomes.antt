@@ -33,8 +33,7 @@ use Rattle.run_queue.specs.Turns.{IsAtEnd}
 use Rattle.run_queue.proofs.Ending.{exact_at_end}
 use Rattle.run_queue.proofs.Failing.{failed_is_real}
 use Rattle.run_queue.proofs.Wanted.{all_have_outputs}
-use Rattle.build_resume.specs.Build.{AllClean, FailsClean, HasTargets, IsCrash, IsEntry}
-use Rattle.build_resume.specs.Ends.{failed_in}
+use Rattle.build_resume.specs.Build.{AllClean, FailsClean, HasTargets, IsCrash, IsEntry, failed_in}
 use Rattle.build_resume.specs.Outcome.{KeptTo}
 use Rattle.build_resume.proofs.Failed.{failed_entry}
 use Rattle.meta_model.specs.declared.event.Why.{Why}
@@ -100,7 +99,7 @@ pub some_failed : (tale : List Logged) → has_failure tale ≡ true → (t : �
 some_failed [] is = absurd (false≢true is)
 some_failed (e ∷ tale) is = by e.event is (some_failed tale)
   where
-    by : (x : Event) → Rattle.std.specs.Prelude.◌||◌ (is_failure x) (has_failure tale) ≡ true → (has_failure tale ≡ true → (t : ℕ) × Contains (failed_in tale) t) → (t : ℕ) × Contains (Rattle.build_resume.specs.Ends.failed_by x (failed_in tale)) t
+    by : (x : Event) → Rattle.std.specs.Prelude.◌||◌ (is_failure x) (has_failure tale) ≡ true → (has_failure tale ≡ true → (t : ℕ) × Contains (failed_in tale) t) → (t : ℕ) × Contains (Rattle.build_resume.specs.Build.failed_by x (failed_in tale)) t
     by (events.Found u) h rest = rest h
     by (events.Restored u) h rest = rest h
     by (events.Started u s) h rest = rest h

@@ -20,8 +20,8 @@ use Rattle.run_queue.specs.Keeps.{IsFront, IsSteady, IsSteadyAnswer}
 use Rattle.run_queue.proofs.Printed.{front_all, front_some}
 use Rattle.build_resume.specs.Build.{MayEndSo, WritesReport, is_collision, is_unsteady}
 use Rattle.build_resume.specs.Ends.{EndsBy, is_plain, status_at, status_by, status_of}
-use Rattle.build_resume.specs.declared.drive.Halt.{Halt}
-use Rattle.build_resume.specs.declared.drive.Halt.TheVariants as halt
+use Rattle.run_workers.specs.declared.worker.Halt.{Halt}
+use Rattle.run_workers.specs.declared.worker.Halt.TheVariants as halt
 
 -- ---- the last line
 
@@ -113,3 +113,45 @@ ended_exactly disk bench sink clean (status.Collision name held given) may stead
 ended_exactly disk bench sink clean (status.Unsteady pn task held given) may steady both disk_none bench_none sink_none memory alone = absurd (false≢true (sym steady))
 ended_exactly disk bench sink clean (status.Limit kind) may steady both disk_none bench_none sink_none memory alone = absurd may
 ended_exactly disk bench sink clean status.OutOfMemory may steady both disk_none bench_none sink_none memory alone = absurd (memory refl)
+
+-- what is a cause of less is one of more
+pub wider_cause : (disk : ℕ) (bench more_bench sink more_sink : Type 0) (s : Status) → (bench → more_bench) → (sink → more_sink) → MayEndSo disk bench sink s → MayEndSo disk more_bench more_sink s
+wider_cause disk bench more_bench sink more_sink status.Ok b k cause = cause
+wider_cause disk bench more_bench sink more_sink status.TaskFailed b k cause = cause
+wider_cause disk bench more_bench sink more_sink status.Usage b k cause = absurd cause
+wider_cause disk bench more_bench sink more_sink (status.Metadata file line kind detail) b k cause = absurd cause
+wider_cause disk bench more_bench sink more_sink status.DiskFault b k cause = cause
+wider_cause disk bench more_bench sink more_sink status.BenchFault b k cause = b cause
+wider_cause disk bench more_bench sink more_sink status.ReadFault b k cause = absurd cause
+wider_cause disk bench more_bench sink more_sink status.WriteFault b k cause = k cause
+wider_cause disk bench more_bench sink more_sink (status.Collision name held given) b k cause = cause
+wider_cause disk bench more_bench sink more_sink (status.Unsteady pn task held given) b k cause = cause
+wider_cause disk bench more_bench sink more_sink (status.Limit kind) b k cause = absurd cause
+wider_cause disk bench more_bench sink more_sink status.OutOfMemory b k cause = cause
+
+-- a run that didn't begin ends neither well nor since a task failed
+pub refused_ends : (sink : Type 0) (f : StoreFault) (s : Status) → EndsBy sink (status_of f) s → IsOutside f → (s ≢ status.Ok) × (s ≢ status.TaskFailed)
+refused_ends sink f s by out = (λ ok. at f out by ok, λ failed. fails f out by failed)
+  where
+    at : (x : StoreFault) → IsOutside x → EndsBy sink (status_of x) s → s ≡ status.Ok → ⊥
+    at fault.Disk o (inl is) ok = let n : status.DiskFault ≡ status.Ok = sym is ∙ ok in cc
+    at fault.Memory o (inl is) ok = let n : status.OutOfMemory ≡ status.Ok = sym is ∙ ok in cc
+    at x o (inr (inl is)) ok = let n : status.OutOfMemory ≡ status.Ok = sym is ∙ ok in cc
+    at x o (inr (inr is)) ok = let n : status.WriteFault ≡ status.Ok = sym is.0 ∙ ok in cc
+    at (fault.Collision name held given) o (inl is) ok = absurd o
+    at (fault.Unsteady pn task held given) o (inl is) ok = absurd o
+
+    fails : (x : StoreFault) → IsOutside x → EndsBy sink (status_of x) s → s ≡ status.TaskFailed → ⊥
+    fails fault.Disk o (inl is) ok = let n : status.DiskFault ≡ status.TaskFailed = sym is ∙ ok in cc
+    fails fault.Memory o (inl is) ok = let n : status.OutOfMemory ≡ status.TaskFailed = sym is ∙ ok in cc
+    fails x o (inr (inl is)) ok = let n : status.OutOfMemory ≡ status.TaskFailed = sym is ∙ ok in cc
+    fails x o (inr (inr is)) ok = let n : status.WriteFault ≡ status.TaskFailed = sym is.0 ∙ ok in cc
+    fails (fault.Collision name held given) o (inl is) ok = absurd o
+    fails (fault.Unsteady pn task held given) o (inl is) ok = absurd o
+
+-- nor does one that wanted memory
+pub memory_ends : (s : Status) → s ≡ status.OutOfMemory → (s ≢ status.Ok) × (s ≢ status.TaskFailed)
+memory_ends s is = (
+  λ ok. let n : status.OutOfMemory ≡ status.Ok = sym is ∙ ok in cc,
+  λ failed. let n : status.OutOfMemory ≡ status.TaskFailed = sym is ∙ failed in cc,
+)

@@ -20,8 +20,11 @@ use Rattle.run_core.proofs.Steps.{count_told, told_push}
 use Rattle.run_queue.specs.declared.fault.RunFault.{RunFault}
 use Rattle.run_queue.specs.Seen.{RunView}
 use Rattle.run_queue.specs.Turns.{Marks, Settles, fates_of}
-use Rattle.build_resume.specs.Build.{RanThese, started_in}
-use Rattle.build_resume.specs.Drive.{AllRan, Closes, fault_once, left_over, waiting_count, waits_once}
+use Rattle.run_workers.specs.Runs.{AllRan, RanThese}
+use Rattle.run_workers.specs.Worked.{is_bench_break}
+use Rattle.build_resume.specs.Benches.{started_by}
+use Rattle.build_resume.specs.Drive.{Closes, fault_once, left_over, waiting_count, waits_once}
+use Rattle.run_workers.specs.declared.worker.Halt.{Halt}
 
 -- ---- the last entry of a tale
 
@@ -124,10 +127,16 @@ settled_by seat t old new (inr (inl m)) = record { event = events.Restored t; wh
 settled_by seat t old new (inr (inr m)) = record { event = events.Failed t why.TooLarge; which = inr (inr refl); marks = m }
 
 -- it starts nothing
-pub settled_starts : (t seat moment : ℕ) (event : Event) → (event ≡ events.Found t) ⊎ ((event ≡ events.Restored t) ⊎ (event ≡ events.Failed t why.TooLarge)) → started_in (record { event = event; seat = seat; moment = moment } ∷ []) ≡ []
-settled_starts t seat moment event (inl is) = ap (λ (e : Event). started_in (record { event = e; seat = seat; moment = moment } ∷ [])) is
-settled_starts t seat moment event (inr (inl is)) = ap (λ (e : Event). started_in (record { event = e; seat = seat; moment = moment } ∷ [])) is
-settled_starts t seat moment event (inr (inr is)) = ap (λ (e : Event). started_in (record { event = e; seat = seat; moment = moment } ∷ [])) is
+pub settled_starts : (t moment : ℕ) (event : Event) → (event ≡ events.Found t) ⊎ ((event ≡ events.Restored t) ⊎ (event ≡ events.Failed t why.TooLarge)) → started_by 0 (record { event = event; seat = 0; moment = moment } ∷ []) ≡ []
+settled_starts t moment event (inl is) = ap (λ (e : Event). started_by 0 (record { event = e; seat = 0; moment = moment } ∷ [])) is
+settled_starts t moment event (inr (inl is)) = ap (λ (e : Event). started_by 0 (record { event = e; seat = 0; moment = moment } ∷ [])) is
+settled_starts t moment event (inr (inr is)) = ap (λ (e : Event). started_by 0 (record { event = e; seat = 0; moment = moment } ∷ [])) is
+
+-- it doesn't tell that a bench failed
+pub settled_calm : (t : ℕ) (event : Event) → (event ≡ events.Found t) ⊎ ((event ≡ events.Restored t) ⊎ (event ≡ events.Failed t why.TooLarge)) → is_bench_break event ≡ false
+settled_calm t event (inl is) = ap is_bench_break is
+settled_calm t event (inr (inl is)) = ap is_bench_break is
+settled_calm t event (inr (inr is)) = ap is_bench_break is
 
 module _ {D W : Type 0} (old new : RunView D W) (t : ℕ) (same : new.plan ≡ old.plan) (none : NoneRuns (fates_of old)) (s : SettledBy 0 t old.tale new.tale) (orderly : EachAfter (IsOrderly new.plan.tasks) new.tale) where
   settled_order : IsInOrder old.plan.tasks (fates_of old) 0 s.event
@@ -169,7 +178,7 @@ module _ {D W : Type 0} (old mid new : RunView D W) (t : ℕ) (same : mid.plan �
   pub within_mid : t < length mid.plan.tasks
   within_mid = subst (λ (p : Plan). t < length p.tasks) (sym same) (subst (λ n. t < n) (count_told (length old.plan.tasks) old.tale) started_lt)
 
-  module _ (c : Closes t mid.tale new.tale) where
+  module _ (halt : Option Halt) (c : Closes t halt mid.tale new.tale) where
     closed_fates : fates_of new ≡ set (fates_of mid) t (fate_by c.event)
     closed_fates =
         ap (λ (p : Plan). fates_told (length p.tasks) new.tale) later ∙ marked_fates mid.plan.tasks 0 c.event mid.tale new.tale c.marks
@@ -199,19 +208,7 @@ module _ {D W : Type 0} (old mid new : RunView D W) (t : ℕ) (same : mid.plan �
           | inr kept ↦ let z = fault_some new.fault kept in let w = waits_at_most (fate_by c.event) in omega (arith, fewer, mid_count, c_set, runs, new_count, one, z, w)
         ]
 
--- ---- what was started, and ran
-
-pub started_split : (one other : List Logged) → started_in (one ++ other) ≡ started_in one ++ started_in other
-started_split [] other = refl
-started_split (e ∷ one) other = by e.event (started_split one other)
-  where
-    by : (x : Event) → started_in (one ++ other) ≡ started_in one ++ started_in other → started_in (record e { event = x } ∷ (one ++ other)) ≡ started_in (record e { event = x } ∷ one) ++ started_in other
-    by (events.Found t) rest = rest
-    by (events.Restored t) rest = rest
-    by (events.Started t seat) rest = ap (λ l. t ∷ l) rest
-    by (events.Ended t) rest = rest
-    by (events.Failed t w) rest = rest
-    by (events.Broke t c) rest = rest
+-- ---- what ran
 
 pub all_these : (gives : Gives) (plan : Plan) (ts : List ℕ) (runs : List (List ℕ × Entries)) → AllRan gives plan ts runs → RanThese gives plan ts runs
 all_these gives plan [] [] all = tt

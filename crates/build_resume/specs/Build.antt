@@ -6,7 +6,7 @@ use Rattle.tree_model.specs.Path.{IsAtOrBelow}
 use Rattle.tree_model.specs.Tree.{IsTree}
 use Rattle.outside_traits.specs.Passes.{EachNow}
 use Rattle.outside_traits.specs.Store.{Store}
-use Rattle.outside_traits.specs.Story.{Story}
+use Rattle.outside_traits.specs.Story.{IsImageSince, Story}
 use Rattle.meta_model.specs.declared.event.Avail.TheVariants.{Object}
 use Rattle.meta_model.specs.declared.event.Event.{Event}
 use Rattle.meta_model.specs.declared.event.Event.TheVariants as events
@@ -17,7 +17,7 @@ use Rattle.meta_model.specs.declared.plan.Options.{Options}
 use Rattle.meta_model.specs.declared.plan.Plan.{Plan}
 use Rattle.meta_model.specs.declared.plan.PlanTask.{PlanTask}
 use Rattle.meta_model.specs.CleanBuild.{Built, Entries, Gives, clean_build, fails}
-use Rattle.plan_model.specs.Sound.{IsSound}
+use Rattle.plan_model.specs.Sound.{AreWanted, IsSound}
 use Rattle.plan_model.specs.Spellings.{HasSpellings}
 use Rattle.store_model.specs.Available.{HoldsClean, IsAvailable, object_folder, stamp_path, work_folder}
 use Rattle.store_model.specs.Origins.{Book, Line, Reading, rows_of}
@@ -36,6 +36,10 @@ use Rattle.run_queue.specs.Books.{book_after}
 use Rattle.run_queue.specs.Courses.{IsLegalTale}
 use Rattle.run_queue.specs.Opening.{HasFolders, Opening}
 use Rattle.run_queue.specs.Stands.{AllStand, HasStarted}
+use Rattle.run_workers.specs.Runs.{RanScripts, Runs}
+use Rattle.run_workers.specs.Told.{own}
+use Rattle.run_workers.specs.Worked as worked
+use Rattle.build_resume.specs.Benches.{AtSeats, started_by}
 
 -- What is asked of a run: the plan is sound; what the disk holds is valid with a book of lines that can be read again, and has folders
 -- where the store keeps them; the plan may reuse of the book what it wants; what scripts give are trees; and a program can hold the
@@ -80,55 +84,25 @@ pub record HasRun (gives : Gives) (reading : Reading) (book : Book) (held : Stor
 
 -- ---- the bench runs
 
--- the tasks that were started, in order
-abbrev pub started_in : List Logged → List ℕ
-started_in [] = []
-started_in (entry ∷ tale) = of entry.event (started_in tale)
-  where
-    of : Event → List ℕ → List ℕ
-    of (events.Started t seat) more = t ∷ more
-    of _ more = more
-
--- A run of the bench is a task's script over the layout of the clean outputs of what it needs.
-pub record IsRunOf (gives : Gives) (plan : Plan) (t : ℕ) (run : List ℕ × Entries) : Type 0 where
-  pub task : PlanTask
-  pub is_task : slice_get plan.tasks t ≡ Some task
-  pub outputs : List (ℕ × Entries)
-  pub numbers : map (λ x. x.0) outputs ≡ task.deps
-  pub clean : AreClean gives plan.tasks outputs
-  pub is : run ≡ (task.script, layout_over plan.tasks task outputs)
-
--- the bench ran these tasks, one after the other; the last one may have no run, where it broke
-abbrev pub RanThese : Gives → Plan → List ℕ → List (List ℕ × Entries) → Type 0
-RanThese gives plan [] [] = Unit {0}
-RanThese gives plan [] (run ∷ runs) = ⊥
-RanThese gives plan (t ∷ ts) [] = ts ≡ []
-RanThese gives plan (t ∷ ts) (run ∷ runs) = IsRunOf gives plan t run × RanThese gives plan ts runs
+-- the bench of a seat ran what that seat started
+abbrev pub RanStarted : Gives → Plan → List Logged → ℕ → Runs → Runs → Type 0
+RanStarted gives plan tale seat before now = worked.RanStarted gives plan (own seat tale) before now
 
 -- ---- what ran was printed
 
--- the script of the task of a number
-pub record IsScriptOf (plan : Plan) (t : ℕ) (script : List ℕ) : Type 0 where
-  pub task : PlanTask
-  pub is_task : slice_get plan.tasks t ≡ Some task
-  pub is : script ≡ task.script
+-- the bench ran just the scripts of these tasks
+pub record RanJust (plan : Plan) (tasks : List ℕ) (before now : Runs) : Type 0 where
+  pub runs : Runs
+  pub ran : now ≡ before ++ runs
+  pub these : RanScripts plan tasks runs
 
--- the bench ran the scripts of these tasks, one after the other; the last one may have no run, where it broke
-abbrev pub RanScripts : Plan → List ℕ → List (List ℕ × Entries) → Type 0
-RanScripts plan [] [] = Unit {0}
-RanScripts plan [] (run ∷ runs) = ⊥
-RanScripts plan (t ∷ ts) [] = ts ≡ []
-RanScripts plan (t ∷ ts) (run ∷ runs) = IsScriptOf plan t run.0 × RanScripts plan ts runs
-
--- What ran had been printed: the bench ran the scripts of just those tasks that a front of the tale starts, and behind what was written
--- before the run the lines of that front stand whole.
-pub record RanPrinted (plan : Plan) (tale : List Logged) (before now : List (List ℕ × Entries)) (old new : List ℕ) : Type 0 where
+-- What ran had been printed: each bench ran the scripts of just those tasks that its seat starts in a front of the tale, and behind what was
+-- written before the run the lines of that front stand whole.
+pub record RanPrinted (plan : Plan) (tale : List Logged) (before now : List Runs) (old new : List ℕ) : Type 0 where
   pub front : List Logged
   pub back : List Logged
   pub cut : tale ≡ front ++ back
-  pub runs : List (List ℕ × Entries)
-  pub ran : now ≡ before ++ runs
-  pub these : RanScripts plan (started_in front) runs
+  pub ran : AtSeats (λ seat. RanJust plan (started_by seat front)) before now
   pub rest : List ℕ
   pub written : new ≡ old ++ (tale_text plan.tasks front ++ rest)
 
@@ -152,10 +126,20 @@ pub record LeavesOthers (gives : Gives) (book : Book) (held : Store) (plan : Pla
 
 -- ---- failed tasks
 
+-- the task of an event, if it is that the task failed
+abbrev pub failed_by : Event → List ℕ → List ℕ
+failed_by (events.Failed t why) more = t ∷ more
+failed_by _ more = more
+
+-- the tasks that failed in a tale, in its order
+abbrev pub failed_in : List Logged → List ℕ
+failed_in [] = []
+failed_in (entry ∷ tale) = failed_by entry.event (failed_in tale)
+
 abbrev pub FailsClean : Gives → Plan → ℕ → Type 0
 FailsClean gives plan t = (built : Built) → slice_get (clean_build gives plan.tasks) t ≡ Some built → (cause : Rattle.meta_model.specs.declared.event.Why.Why) × (built.outcome ≡ Err (fails cause))
 
--- ---- how a run may end
+-- ---- kinds of statuses
 
 -- whether the status is that two signatures have one digest
 abbrev pub is_collision : Status → Bool
@@ -166,6 +150,30 @@ is_collision _ = false
 abbrev pub is_unsteady : Status → Bool
 is_unsteady (status.Unsteady pn task held given) = true
 is_unsteady _ = false
+
+-- ---- all together
+
+-- *What a run leaves* where its devices tell, by the book with which it began: what the disk held then, and the story of the disk now; what
+-- each bench ran before, and now.
+pub record Leaves (gives : Gives) (reading : Reading) (book : Book) (held : Store) (plan : Plan) (options : Options) (tale : List Logged) (s : Status) (story : Story) (before now : List Runs) : Type 0 where
+  -- under Ok each target's work folder holds exactly its clean output, whatever a crash leaves
+  pub exact : s ≡ status.Ok → EachNow story (HasTargets gives plan)
+  -- whatever the status is, each crash since the run began leaves a valid store
+  pub crashes : (image : Store) → IsImageSince story 0 image → IsCrash gives reading book image
+  -- whatever the status is, each crash since the run began leaves the plan's tasks alone that the tale doesn't start and that had no object
+  pub others : (image : Store) → IsImageSince story 0 image → LeavesOthers gives book held plan options tale image
+  -- whatever failed, Ok comes only where every task of the plan has a clean output, and TaskFailed only where one hasn't
+  pub complete : AreWanted plan → (s ≡ status.Ok → AllClean gives plan) × (AllClean gives plan → s ≢ status.TaskFailed)
+  -- no output is found to differ from one run to another
+  pub steady : is_unsteady s ≡ false
+  -- the tale is legal over the store as it was opened, and settled tasks stand to the end
+  pub legal : (tale ≡ []) ⊎ HasRun gives reading book held plan options tale story
+  -- each task that failed fails by itself in the clean build
+  pub real : (t : ℕ) → Contains (failed_in tale) t → FailsClean gives plan t
+  -- each bench ran the tasks that its seat started, each over the clean outputs of what it needs
+  pub ran : AtSeats (RanStarted gives plan tale) before now
+
+-- ---- how a run may end
 
 -- Each status has its cause: the disk's count is above 0, the bench's rose, the sink's rose, two signatures have one digest as their name,
 -- two manifests of one record differ. Ok, TaskFailed and want of memory have none outside. No other status comes.

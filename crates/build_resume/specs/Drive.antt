@@ -1,4 +1,5 @@
 -- What the turns of a run on one seat do.
+use Rattle.std.specs.List.{slice_get}
 use Rattle.std.specs.Prelude.{◌≡◌, ◌⊎◌, ◌≢◌, ◌+◌, ◌*◌, ℕ, Bool, true, false, List, [], ◌∷◌, ◌++◌, Option, Some, None, IsSome}
 use Rattle.meta_model.specs.declared.event.Event.{Event}
 use Rattle.meta_model.specs.declared.event.Event.TheVariants as events
@@ -12,67 +13,94 @@ use Rattle.run_core.specs.Fates.{HoldsFailure, fate_by, is_running, task_of}
 use Rattle.run_queue.specs.Seen.{RunView}
 use Rattle.run_queue.specs.Turns.{IsAtEnd, Marks, fates_of}
 use Rattle.run_queue.specs.declared.fault.RunFault.{RunFault}
-use Rattle.build_resume.specs.Build.{IsRunOf, IsScriptOf, RanScripts, RanThese, started_in}
-use Rattle.build_resume.specs.declared.drive.Halt.{Halt}
-use Rattle.build_resume.specs.declared.drive.Halt.TheVariants as halts
+use Rattle.run_workers.specs.declared.worker.Halt.{Halt}
+use Rattle.run_workers.specs.declared.worker.Halt.TheVariants as halts
+use Rattle.run_workers.specs.Runs.{RanSoFar, Runs, ScriptsSoFar, by_bench}
+use Rattle.run_workers.specs.Worked.{is_bench_break}
+use Rattle.build_resume.specs.Benches.{AtWorkers, BreaksBench, BreaksByFault, started_by}
+use Rattle.build_resume.specs.Build.{RanJust, RanStarted}
 
--- a tale that went on
-pub record Grows (old new : List Logged) : Type 0 where
+-- events that only seat 0 marked
+pub record IsAlone (more : List Logged) : Type 0 where
+  pub starts : (seat : ℕ) → seat ≢ 0 → started_by seat more ≡ []
+  pub seats : (place : ℕ) (entry : Logged) → slice_get more place ≡ Some entry → entry.seat ≡ 0
+
+-- A tale that seat 0 went on with. A task broke off since its bench failed only where that was the last turn.
+pub record Grows (halt : Option Halt) (old new : List Logged) : Type 0 where
   pub more : List Logged
   pub is : new ≡ old ++ more
-
--- the bench ran these tasks, each of them
-abbrev pub AllRan : Gives → Plan → List ℕ → List (List ℕ × Entries) → Type 0
-AllRan gives plan [] [] = Unit {0}
-AllRan gives plan [] (run ∷ runs) = ⊥
-AllRan gives plan (t ∷ ts) [] = ⊥
-AllRan gives plan (t ∷ ts) (run ∷ runs) = IsRunOf gives plan t run × AllRan gives plan ts runs
-
--- that, or where a turn was the last one, all of them but maybe the last
-abbrev pub RanSoFar : Gives → Plan → Option Halt → List ℕ → List (List ℕ × Entries) → Type 0
-RanSoFar gives plan None ts runs = AllRan gives plan ts runs
-RanSoFar gives plan (Some halt) ts runs = RanThese gives plan ts runs
+  pub alone : IsAlone more
+  pub breaks : BreaksBench 0 more → by_bench halt ≡ true
 
 -- What a run did: its tale went on, and the bench ran what was started.
-pub record Drove (gives : Gives) (plan : Plan) (halt : Option Halt) (old new : List Logged) (before now : List (List ℕ × Entries)) : Type 0 where
+pub record Drove (gives : Gives) (plan : Plan) (halt : Option Halt) (old new : List Logged) (before now : Runs) : Type 0 where
   pub more : List Logged
   pub tale : new ≡ old ++ more
-  pub runs : List (List ℕ × Entries)
+  pub runs : Runs
   pub ran : now ≡ before ++ runs
-  pub these : RanSoFar gives plan halt (started_in more) runs
+  pub these : RanSoFar gives plan halt (started_by 0 more) runs
 
--- the bench ran the scripts of these tasks, each of them
-abbrev pub AllScripts : Plan → List ℕ → List (List ℕ × Entries) → Type 0
-AllScripts plan [] [] = Unit {0}
-AllScripts plan [] (run ∷ runs) = ⊥
-AllScripts plan (t ∷ ts) [] = ⊥
-AllScripts plan (t ∷ ts) (run ∷ runs) = IsScriptOf plan t run.0 × AllScripts plan ts runs
-
--- that, or where a turn was the last one, all of them but maybe the last
-abbrev pub ScriptsSoFar : Plan → Option Halt → List ℕ → List (List ℕ × Entries) → Type 0
-ScriptsSoFar plan None ts runs = AllScripts plan ts runs
-ScriptsSoFar plan (Some halt) ts runs = RanScripts plan ts runs
-
--- What ran so far had been printed, as far as a front of the tale. Where the run goes on and no fault is kept that is the whole tale, and
--- nothing else was written.
-pub record RanSaid (plan : Plan) (halt : Option Halt) (fault : Option RunFault) (tale : List Logged) (before now : List (List ℕ × Entries)) (base written : List ℕ) : Type 0 where
+-- What ran so far had been printed, as far as a front of the tale, which goes on from the front as it was at first. Where the run goes on
+-- and no fault is kept that is the whole tale, and nothing else was written.
+pub record RanSaid (plan : Plan) (halt : Option Halt) (fault : Option RunFault) (from tale : List Logged) (before now : Runs) (base written : List ℕ) : Type 0 where
   pub front : List Logged
   pub back : List Logged
   pub cut : tale ≡ front ++ back
-  pub runs : List (List ℕ × Entries)
+  pub on : List Logged
+  pub goes : front ≡ from ++ on
+  pub alone : IsAlone on
+  pub runs : Runs
   pub ran : now ≡ before ++ runs
-  pub these : ScriptsSoFar plan halt (started_in front) runs
+  pub these : ScriptsSoFar plan halt (started_by 0 front) runs
   pub rest : List ℕ
   pub is : written ≡ base ++ (tale_text plan.tasks front ++ rest)
   pub whole : halt ≡ None → fault ≡ None → (back ≡ []) × (rest ≡ [])
 
--- the job of a task came to an end, under seat 0
-pub record Closes (t : ℕ) (old new : List Logged) : Type 0 where
+-- What workers ran had been printed, as far as a front of the tale. Where no fault is kept that is the whole tale, and nothing else was
+-- written.
+pub record SaidByWorkers {B : Type 0} (runs : B → Runs) (plan : Plan) (fault : Option RunFault) (tale : List Logged) (before now : List B) (base written : List ℕ) : Type 0 where
+  pub front : List Logged
+  pub back : List Logged
+  pub cut : tale ≡ front ++ back
+  pub ran : AtWorkers (λ seat old new. RanJust plan (started_by seat front) (runs old) (runs new)) before now
+  pub none : started_by 0 front ≡ []
+  pub rest : List ℕ
+  pub is : written ≡ base ++ (tale_text plan.tasks front ++ rest)
+  pub whole : fault ≡ None → (back ≡ []) × (rest ≡ [])
+
+-- What ran to the end had been printed, as far as a front of the tale, which goes on from this one.
+pub record SaidTo (plan : Plan) (from tale : List Logged) (before now : Runs) (base written : List ℕ) : Type 0 where
+  pub front : List Logged
+  pub back : List Logged
+  pub cut : tale ≡ front ++ back
+  pub on : List Logged
+  pub goes : front ≡ from ++ on
+  pub alone : IsAlone on
+  pub ran : RanJust plan (started_by 0 front) before now
+  pub rest : List ℕ
+  pub written_is : written ≡ base ++ (tale_text plan.tasks front ++ rest)
+
+-- A tale that seat 0 went on with to its end. A task of it broke off since its bench failed only where the count of the last bench rose.
+pub record WentOn (old new : List Logged) (before now : ℕ) : Type 0 where
+  pub more : List Logged
+  pub is : new ≡ old ++ more
+  pub alone : IsAlone more
+  pub breaks : BreaksByFault more 0 before now
+
+-- the bench ran what seat 0 started behind a tale
+pub record RanOn (gives : Gives) (plan : Plan) (old new : List Logged) (before now : Runs) : Type 0 where
+  pub more : List Logged
+  pub is : new ≡ old ++ more
+  pub ran : RanStarted gives plan more 0 before now
+
+-- the job of a task came to an end, under seat 0; it broke off since the bench failed only where that was the last turn
+pub record Closes (t : ℕ) (halt : Option Halt) (old new : List Logged) : Type 0 where
   pub event : Event
   pub marks : Marks 0 event old new
   pub of : task_of event ≡ t
   pub rests : is_running (fate_by event) ≡ false
   pub starts_none : (seat : ℕ) → event ≡ events.Started t seat → ⊥
+  pub breaks : is_bench_break event ≡ true → by_bench halt ≡ true
 
 -- where the run goes on, its task doesn't wait again, or a fault is kept
 abbrev pub GoesOnBehind : {D W : Type 0} → ℕ → RunView D W → Option Halt → Type 0
@@ -95,11 +123,6 @@ fault_once (Some f) = 0
 -- How far a run is from its end, at most: each turn but the last one settles a task, or keeps the first fault.
 abbrev pub left_over : {D W : Type 0} → RunView D W → ℕ
 left_over s = 2 * waiting_count (fates_of s) + fault_once s.fault
-
--- whether the bench failed
-abbrev pub by_bench : Option Halt → Bool
-by_bench (Some halts.Bench) = true
-by_bench _ = false
 
 -- why a run halted
 abbrev pub IsHalted : {D W : Type 0} → RunView D W → Halt → Type 0

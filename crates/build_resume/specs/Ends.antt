@@ -9,8 +9,8 @@ use Rattle.build_store.specs.declared.fault.StoreFault.{StoreFault}
 use Rattle.build_store.specs.declared.fault.StoreFault.TheVariants as fault
 use Rattle.run_queue.specs.declared.fault.RunFault.{RunFault}
 use Rattle.run_queue.specs.declared.fault.RunFault.TheVariants as kept
-use Rattle.build_resume.specs.declared.drive.Halt.{Halt}
-use Rattle.build_resume.specs.declared.drive.Halt.TheVariants as halt
+use Rattle.run_workers.specs.declared.worker.Halt.{Halt}
+use Rattle.run_workers.specs.declared.worker.Halt.TheVariants as halt
 
 -- a fault of the store, as a status
 abbrev pub status_of : StoreFault → Status
@@ -42,13 +42,3 @@ is_plain _ = false
 -- failed; or nothing failed outside before, and the sink did now.
 abbrev pub EndsBy : Type 0 → Status → Status → Type 0
 EndsBy sink cause s = (s ≡ cause) ⊎ ((s ≡ status.OutOfMemory) ⊎ ((s ≡ status.WriteFault) × (is_plain cause ≡ true) × sink))
-
--- the task of an event, if it is that the task failed
-abbrev pub failed_by : Event → List ℕ → List ℕ
-failed_by (events.Failed t why) more = t ∷ more
-failed_by _ more = more
-
--- the tasks that failed in a tale, in its order
-abbrev pub failed_in : List Logged → List ℕ
-failed_in [] = []
-failed_in (entry ∷ tale) = failed_by entry.event (failed_in tale)

@@ -1,3 +1,4 @@
+pub mod Benches
 pub mod Build
 pub mod Drive
 pub mod Ends

@@ -1,24 +1,16 @@
 -- What a run leaves, over an opening.
-use Rattle.std.specs.Prelude.{◌≡◌, ◌++◌, ℕ, false, true, List}
+use Rattle.std.specs.Prelude.{◌≡◌, false, true, List}
 use Rattle.outside_traits.specs.Story.{Story}
 use Rattle.meta_model.specs.declared.event.Logged.{Logged}
 use Rattle.meta_model.specs.declared.event.Status.{Status}
 use Rattle.meta_model.specs.declared.event.Status.TheVariants as status
 use Rattle.meta_model.specs.declared.plan.Options.{Options}
 use Rattle.meta_model.specs.declared.plan.Plan.{Plan}
-use Rattle.meta_model.specs.CleanBuild.{Entries, Gives}
 use Rattle.bb_report.specs.Runs.{has_failure}
 use Rattle.run_queue.specs.Keeps.{IsRun}
 use Rattle.run_queue.specs.Opening.{Opening}
 use Rattle.run_queue.specs.Seen.{Seen}
 use Rattle.run_queue.specs.Turns.{IsAtEnd}
-use Rattle.build_resume.specs.Build.{RanThese, started_in}
-
--- the bench ran what was started
-pub record RanStarted (gives : Gives) (plan : Plan) (tale : List Logged) (before now : List (List ℕ × Entries)) : Type 0 where
-  pub runs : List (List ℕ × Entries)
-  pub ran : now ≡ before ++ runs
-  pub these : RanThese gives plan (started_in tale) runs
 
 -- the state in which a run ended kept all over the opening
 pub record KeptTo (o : Opening) (plan : Plan) (options : Options) (tale : List Logged) (story : Story) : Type 0 where

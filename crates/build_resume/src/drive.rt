@@ -1,7 +1,7 @@
 // The turns of a run on the calling thread, under seat 0.
-ghost use Rattle.std.specs.Prelude.{◌≡◌, ◌<◌, ◌≤◌, ◌⊎◌, ℕ, List, IfSome, IsSome, MatchOption, None, Some, length};
+ghost use Rattle.std.specs.Prelude.{◌≡◌, ◌<◌, ◌≤◌, ◌⊎◌, ℕ, List, IfSome, IsSome, MatchOption, None, Some};
 ghost use Rattle.outside_traits.specs.Fault.{Counts};
-ghost use Rattle.meta_model.specs.CleanBuild.{Entries};
+ghost use Rattle.meta_model.specs.declared.event.Logged.{Logged as Entry};
 ghost use Rattle.run_core.specs.Fates.{NoneRuns};
 ghost use Rattle.task_worker.specs.Jobs.{ran_job};
 ghost use Rattle.bb_report.specs.Runs.{tale_text};
@@ -9,27 +9,16 @@ ghost use Rattle.run_queue.specs.Opening.{Opening};
 ghost use Rattle.run_queue.specs.Seen.{seen};
 ghost use Rattle.run_queue.specs.Keeps.{IsFront, IsRun, IsSteady, Prints};
 ghost use Rattle.run_queue.specs.Turns.{IsCleanJob, RunsUnder, SameRun, fates_of};
-ghost use Rattle.build_resume.specs.Drive.{Closes, Drove, GoesOnBehind, Grows, IsHalted, RanSaid, by_bench, left_over};
+ghost use Rattle.run_workers.specs.Runs.{Runs, by_bench};
+ghost use Rattle.build_resume.specs.Drive.{Closes, Drove, GoesOnBehind, Grows, IsHalted, RanSaid, left_over};
 
 use meta_model::Cut;
 use outside_traits::{Bench, Disk, Sink};
 use run_queue::{Claim, RunState};
+use run_workers::Halt;
 use std::alloc::Global;
 use task_worker::{Job, WorkFault, do_job};
 use tree_model::Mem;
-
-/// Why a run does no more.
-#[derive(Clone, Copy, Debug, PartialEq, Eq)]
-pub(crate) enum Halt {
-    /// Nothing is left to do.
-    Finished,
-    /// Nothing new may begin.
-    Stopped,
-    /// Memory was wanting.
-    Memory,
-    /// The bench failed.
-    Bench,
-}
 
 /// Does a job that was claimed, and says how it came to an end. Where a fault is kept, as that the line of its start couldn't be written,
 /// its script doesn't run. Where the run goes on its task doesn't wait again, or a fault is kept.
@@ -41,9 +30,8 @@ fn do_claimed<D: Disk, B: Bench, W: Sink>(
 ) -> Option<Halt>
     requires reach { 3600 ≤ D.reach }
     requires runs { RunsUnder state.old job.task 0 }
-    requires task { job.task < length state.old.plan.tasks }
     ensures same { SameRun state.old state.new }
-    ensures closes { Closes job.task state.old.tale state.new.tale }
+    ensures closes { Closes job.task result state.old.tale state.new.tale }
     ensures goes_on { GoesOnBehind job.task state.new result }
     ensures fault { IsSome state.old.fault → state.new.fault ≡ state.old.fault }
     ensures halted { IfSome result (IsHalted state.new) }
@@ -61,8 +49,7 @@ fn do_claimed<D: Disk, B: Bench, W: Sink>(
         state.broke(alloc, 0, job, Cut::Fault);
         return Some(Halt::Stopped);
     }
-    let task = &state.plan().tasks.as_slice()[job.task as usize];
-    match do_job(alloc, bench, task.places.as_slice(), task.sstate, &job) {
+    match do_job(alloc, bench, &job) {
         Ok(given) => match state.ended(alloc, 0, job, given) {
             Ok(()) => None,
             Err(Mem) => Some(Halt::Memory),
@@ -88,11 +75,11 @@ fn turn<D: Disk, B: Bench, W: Sink>(
     requires none { NoneRuns (fates_of state.old) }
     ensures none { NoneRuns (fates_of state.new) }
     ensures same { SameRun state.old state.new }
-    ensures grows { Grows state.old.tale state.new.tale }
+    ensures grows { Grows result state.old.tale state.new.tale }
     ensures goes_on { MatchOption result (left_over state.new < left_over state.old) (IsHalted state.new) }
     ensures sink { (before : ℕ) → Counts before (W.faults state.old.sink) state.old.sink_failed → Counts before (W.faults state.new.sink) state.new.sink_failed }
     ensures text { W.tells → (base : List ℕ) → Prints base (W.written state.old.sink) (tale_text state.old.plan.tasks state.old.tale) state.old.sink_failed → Prints base (W.written state.new.sink) (tale_text state.old.plan.tasks state.new.tale) state.new.sink_failed }
-    ensures printed { W.tells → B.tells → (base : List ℕ) (before : List (List ℕ × Entries)) → RanSaid state.old.plan None state.old.fault state.old.tale before (B.place bench.old).runs base (W.written state.old.sink) → RanSaid state.old.plan result state.new.fault state.new.tale before (B.place bench.new).runs base (W.written state.new.sink) }
+    ensures printed { W.tells → B.tells → (from : List Entry) (base : List ℕ) (before : Runs) → RanSaid state.old.plan None state.old.fault from state.old.tale before (B.place bench.old).runs base (W.written state.old.sink) → RanSaid state.old.plan result state.new.fault from state.new.tale before (B.place bench.new).runs base (W.written state.new.sink) }
     ensures gives { B.gives bench.new ≡ B.gives bench.old }
     ensures cause { Counts (B.faults bench.old) (B.faults bench.new) (by_bench result) }
     ensures run { D.tells → B.tells → (o : Opening) → o.gives ≡ B.gives bench.old → IsRun o (seen D.story W.written state.old) → IsRun o (seen D.story W.written state.new) × Drove (B.gives bench.old) state.old.plan result state.old.tale state.new.tale (B.place bench.old).runs (B.place bench.new).runs }
@@ -126,12 +113,12 @@ pub(crate) fn drive<D: Disk, B: Bench, W: Sink>(
     requires reach { 3600 ≤ D.reach }
     requires none { NoneRuns (fates_of state.old) }
     ensures same { SameRun state.old state.new }
-    ensures grows { Grows state.old.tale state.new.tale }
+    ensures grows { Grows (Some result) state.old.tale state.new.tale }
     ensures halted { IsHalted state.new result }
     ensures none { NoneRuns (fates_of state.new) }
     ensures sink { (before : ℕ) → Counts before (W.faults state.old.sink) state.old.sink_failed → Counts before (W.faults state.new.sink) state.new.sink_failed }
     ensures text { W.tells → (base : List ℕ) → Prints base (W.written state.old.sink) (tale_text state.old.plan.tasks state.old.tale) state.old.sink_failed → Prints base (W.written state.new.sink) (tale_text state.old.plan.tasks state.new.tale) state.new.sink_failed }
-    ensures printed { W.tells → B.tells → (base : List ℕ) (before : List (List ℕ × Entries)) → RanSaid state.old.plan None state.old.fault state.old.tale before (B.place bench.old).runs base (W.written state.old.sink) → RanSaid state.old.plan (Some result) state.new.fault state.new.tale before (B.place bench.new).runs base (W.written state.new.sink) }
+    ensures printed { W.tells → B.tells → (from : List Entry) (base : List ℕ) (before : Runs) → RanSaid state.old.plan None state.old.fault from state.old.tale before (B.place bench.old).runs base (W.written state.old.sink) → RanSaid state.old.plan (Some result) state.new.fault from state.new.tale before (B.place bench.new).runs base (W.written state.new.sink) }
     ensures gives { B.gives bench.new ≡ B.gives bench.old }
     ensures cause { Counts (B.faults bench.old) (B.faults bench.new) (by_bench (Some result)) }
     ensures run { D.tells → B.tells → (o : Opening) → o.gives ≡ B.gives bench.old → IsRun o (seen D.story W.written state.old) → IsRun o (seen D.story W.written state.new) × Drove (B.gives bench.old) state.old.plan (Some result) state.old.tale state.new.tale (B.place bench.old).runs (B.place bench.new).runs }

@@ -7,15 +7,15 @@ ghost use Rattle.meta_model.specs.declared.event.Logged.{Logged as Entry};
 ghost use Rattle.meta_model.specs.declared.plan.Plan.{Plan as ThePlan};
 ghost use Rattle.bb_report.specs.Runs.{has_failure, last_line, tale_text};
 ghost use Rattle.run_queue.specs.Keeps.{IsFront, Prints};
-ghost use Rattle.build_resume.specs.Build.{WritesReport};
-ghost use Rattle.build_resume.specs.Ends.{EndsBy, failed_by, failed_in, is_plain, status_at, status_by, status_of};
+ghost use Rattle.build_resume.specs.Build.{WritesReport, failed_by, failed_in};
+ghost use Rattle.build_resume.specs.Ends.{EndsBy, is_plain, status_at, status_by, status_of};
 
-use crate::drive::Halt;
 use bb_report::{end_text, fault_text, write_all};
 use build_store::StoreFault;
 use meta_model::{Event, Logged, Plan, Status};
 use outside_traits::Sink;
 use run_queue::RunFault;
+use run_workers::Halt;
 use std::alloc::Global;
 use tree_model::{Mem, Text};
 

@@ -1,33 +1,35 @@
-//! A run of a plan on the calling thread, from a disk to its outcome: it finds and restores what it can trust, runs what is missing on the
-//! bench, and publishes what that gives.
+//! A run of a plan, from a disk to its outcome: it finds and restores what it can trust, runs what is missing on the benches, and publishes
+//! what that gives.
 //!
-//! `build` opens the store that earlier runs left (`build_store`), takes turns on a state of its own (`run_queue`) until nothing more may be
-//! done, and writes a line for each event and a last one for its status. Contracts see disk, bench and sink by what they tell, and the tale.
+//! `build` opens the store that earlier runs left (`build_store`), takes turns on the state of the run (`run_queue`) until nothing more may be
+//! done, and writes a line for each event and a last one for its status. Contracts see disk, benches and sink by what they tell, and the
+//! tale. Each bench has a seat (`specs/Benches`): the last one is that of the calling thread, whose seat is 0, and each other one a worker's.
 //!
 //! What is promised where they tell holds for a sound plan over a disk that holds a valid store with a book that the plan may reuse
-//! (`IsEntry` in `specs/Build`): an empty disk, or what a crash of any earlier run left (`entry_laws`). Then
+//! (`IsEntry` in `specs/Build`): an empty disk, or what a crash of any earlier run left (`entry_laws`). It is one record, `Leaves`:
 //!
 //! - under Ok each target's work folder holds exactly its clean output, in every image (`exact`);
 //! - whatever the status, every image since the run began holds a valid store, in which the next run may begin (`crashes`), and has those
 //!   tasks as they were that the run neither started nor could restore (`others`);
 //! - where every task of the plan is a target or needed by another task, Ok comes only where every task has a clean output (`complete`), and
-//!   just there where no device failed, memory wasn't wanting and no two signatures have one digest (`exactly`);
-//! - `TaskFailed` comes only where a told task fails by itself in the clean build (`failed`, `real`), and `Unsteady` never (`steady`);
+//!   just there where no device failed, memory wasn't wanting and no two signatures have one digest (the clause `exactly`);
+//! - `TaskFailed` comes only where a told task fails by itself in the clean build (`real`), and `Unsteady` never (`steady`);
 //! - the tale is legal over the store as it was opened, and what it settled stands (`legal`);
-//! - the bench runs the scripts of the tasks that the tale starts, each over the clean outputs of what it needs (`ran`).
+//! - each bench runs the scripts of the tasks that its seat starts, each over the clean outputs of what it needs (`ran`).
 //!
-//! Whatever the disk tells, the bench runs the scripts of just those tasks whose start had been printed (`printed`): where the sink fails at
-//! the line of a start, the task breaks off.
+//! Whatever the disk tells, the benches run the scripts of just those tasks whose start had been printed (`printed`): where the sink fails at
+//! the line of a start, the task breaks off. Ok comes only where the tale leaves nothing to do and no task failed (`told`).
 //!
-//! Whatever they tell each status has its cause (`ends`): a device's fault comes only where its count of faults rose. Want of memory is free.
-//! What was written is the text of the tale and of the status, or a front of one where the sink failed (`text`).
-//! (The BitBake User Manual, "Execution", "Setscene"; formats and bounds are own rules.)
+//! Whatever they tell each status has its cause (`ends`): a device's fault comes only where its count of faults rose; and so has each task that
+//! broke off since its bench failed (`broke`). Want of memory is free. What was written is the text of the tale and of the status, or a front of
+//! one where the sink failed (`text`). (The BitBake User Manual, "Execution", "Setscene"; formats and bounds are own rules.)
 #![tactic(auto)]
 
 mod drive;
 mod ending;
 mod laws;
-mod serial;
+mod running;
+mod workers;
 
 pub use laws::entry_laws;
-pub use serial::{Outcome, build};
+pub use running::{Outcome, build};

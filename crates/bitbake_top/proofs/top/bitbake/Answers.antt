@@ -36,3 +36,6 @@ returns-in-Err-clause-keeps g c request asks l d b paths lists plan planned give
     let story = g.D.Disk.story c.args.disk in
     let refusal = words_refusal c.in-Err.status c.refuse.result c.in-Err.ensures.refusal c.refuse.ensures.status in
     unbegun_keeps gives reading book plan request.options _ c.refuse.result story story _ _ (c.requires.fresh d) may (words_not_ok c.refuse.result refusal) (words_steady c.refuse.result refusal) c.new-in-Err-2.ensures.items refl refl
+
+pub returns-in-Ok-Runs-clause-concludes : goal.returns-in-Ok-Runs-clause-concludes
+returns-in-Ok-Runs-clause-concludes g c = at_request _ c.args.words.now _ (asks_for _ _ _ c.in-Ok-Runs.ensures.ok c.in-Ok-Runs.field-0-is) c.run.ensures.concludes

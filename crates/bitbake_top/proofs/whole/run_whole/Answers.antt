@@ -2,7 +2,7 @@ use Rattle.std.proofs.Common.{◌≡◌, ◌∙◌, refl, subst, ℕ, List}
 use Rattle.meta_model.specs.declared.event.Status.TheVariants as status
 use Rattle.bitbake_top.proofs.Begun.{refused_not_ok, refused_steady}
 use Rattle.bitbake_top.proofs.Devices.{rose_from}
-use Rattle.bitbake_top.proofs.Kept.{one_behind, unbegun_keeps}
+use Rattle.bitbake_top.proofs.Kept.{one_behind, unbegun_broke, unbegun_keeps}
 use Rattle.bitbake_top.proofs.Written.{plan_front}
 use Rattle.bb_report.specs.Written.{WritesFront}
 use Rattle.bitbake_top.proofs.whole.run_whole.Goals as goal
@@ -28,3 +28,9 @@ returns-in-Ok-clause-text g c told =
     plan_front (g.W.Sink.written c.args.sink) (g.W.Sink.written c.write_all.new.sink) _ c.args.plan c.push_reserved.new.self.items c.in-Ok.field-0.room.tales.items status.WriteFault
     (one_behind c.in-Ok.field-0.room.plans.items c.push_reserved.new.self.items c.args.plan c.in-Ok.ensures.none.0 c.push_reserved.ensures.items) c.in-Ok.ensures.none.1 c.in-Err-write_all.ensures.cause.rose
     (subst (λ (t : List ℕ). WritesFront (g.W.Sink.written c.args.sink) (g.W.Sink.written c.write_all.new.sink) t) (c.as_bytes.ensures.value ∙ c.as_str.ensures ∙ c.in-Ok.ensures.text) (c.in-Err-write_all.ensures.err told))
+
+pub returns-in-Ok-clause-broke : goal.returns-in-Ok-clause-broke
+returns-in-Ok-clause-broke g c = unbegun_broke c.in-Ok.field-0.room.tales.items _ _ c.in-Ok.ensures.none.1
+
+pub returns-clause-broke : goal.returns-clause-broke
+returns-clause-broke g c = unbegun_broke c.new-in-Err.result.items _ _ c.new-in-Err.ensures.items

@@ -4,12 +4,12 @@ use Rattle.build_resume.proofs.drive.do_claimed.Goals as goal
 pub returns-in-Ok-ended-clause-run : goal.returns-in-Ok-ended-clause-run
 returns-in-Ok-ended-clause-run g c tells told o gives run job =
     c.in-Ok-ended.ensures.run tells o run
-    (is_given_by o.gives (g.B.Bench.gives c.args.bench.now) c.args.state.now.plan c.plan.result.now c.as_slice.result.now c.args.job c.index-as_slice-job.result c.as_slice-2.result.now c.in-Ok.given gives c.plan.ensures c.as_slice.ensures c.requires.task c.index-as_slice-job.is c.as_slice-2.ensures (c.in-Ok.ensures.given told)) job
+    (is_given_by o.gives (g.B.Bench.gives c.args.bench.now) c.args.job c.in-Ok.given gives (c.in-Ok.ensures.given told)) job
 
 pub returns-in-Err-clause-run : goal.returns-in-Err-clause-run
 returns-in-Err-clause-run g c tells told o gives run job =
     c.in-Err.ensures.run tells o run
-    (is_given_by o.gives (g.B.Bench.gives c.args.bench.now) c.args.state.now.plan c.plan.result.now c.as_slice.result.now c.args.job c.index-as_slice-job.result c.as_slice-2.result.now c.in-Ok.given gives c.plan.ensures c.as_slice.ensures c.requires.task c.index-as_slice-job.is c.as_slice-2.ensures (c.in-Ok.ensures.given told)) job
+    (is_given_by o.gives (g.B.Bench.gives c.args.bench.now) c.args.job c.in-Ok.given gives (c.in-Ok.ensures.given told)) job
 
 pub returns-in-Err-Bench-clause-run : goal.returns-in-Err-Bench-clause-run
 returns-in-Err-Bench-clause-run g c tells told o gives run job = c.broke-in-Err-Bench.ensures.run tells o run
@@ -20,9 +20,9 @@ returns-in-Err-Memory-clause-run g c tells told o gives run job = c.broke-in-Err
 pub returns-in-Ok-ended-clause-steady : goal.returns-in-Ok-ended-clause-steady
 returns-in-Ok-ended-clause-steady g c tells told o gives run job held =
     c.in-Ok-ended.ensures.steady tells o run
-    (is_given_by o.gives (g.B.Bench.gives c.args.bench.now) c.args.state.now.plan c.plan.result.now c.as_slice.result.now c.args.job c.index-as_slice-job.result c.as_slice-2.result.now c.in-Ok.given gives c.plan.ensures c.as_slice.ensures c.requires.task c.index-as_slice-job.is c.as_slice-2.ensures (c.in-Ok.ensures.given told)) job held
+    (is_given_by o.gives (g.B.Bench.gives c.args.bench.now) c.args.job c.in-Ok.given gives (c.in-Ok.ensures.given told)) job held
 
 pub returns-in-Err-clause-steady : goal.returns-in-Err-clause-steady
 returns-in-Err-clause-steady g c tells told o gives run job held =
     c.in-Err.ensures.steady tells o run
-    (is_given_by o.gives (g.B.Bench.gives c.args.bench.now) c.args.state.now.plan c.plan.result.now c.as_slice.result.now c.args.job c.index-as_slice-job.result c.as_slice-2.result.now c.in-Ok.given gives c.plan.ensures c.as_slice.ensures c.requires.task c.index-as_slice-job.is c.as_slice-2.ensures (c.in-Ok.ensures.given told)) job held
+    (is_given_by o.gives (g.B.Bench.gives c.args.bench.now) c.args.job c.in-Ok.given gives (c.in-Ok.ensures.given told)) job held

@@ -1,7 +1,7 @@
 use Rattle.std.proofs.Common.{◌∙◌, sym, ap, inl, inr}
 use Rattle.bb_report.specs.Runs.{has_failure}
 use Rattle.build_resume.specs.Ends.{is_plain, status_by}
-use Rattle.build_resume.proofs.serial.conclude.Goals as goal
+use Rattle.build_resume.proofs.running.conclude.Goals as goal
 
 pub returns-in-Err-clause-text : goal.returns-in-Err-clause-text
 returns-in-Err-clause-text g c told base before prints counts = c.want_unless-status.ensures.text told c.args.parts.plan c.args.parts.tale.items base before prints counts

@@ -1,0 +1,107 @@
+// The workers of a run.
+ghost use Rattle.std.specs.Prelude.{◌≡◌, ◌≤◌, ◌<◌, ◌++◌, ◌∷◌, ℕ, List, [], All, None, false, length, vec_capacity, vec_len};
+ghost use Rattle.outside_traits.specs.Bench.{Gives};
+ghost use Rattle.outside_traits.specs.Fault.{Counts};
+ghost use Rattle.bb_report.specs.Runs.{tale_text};
+ghost use Rattle.run_core.specs.Fates.{NoneRuns};
+ghost use Rattle.run_queue.specs.Keeps.{IsFront, IsRun, IsSteady, Prints};
+ghost use Rattle.run_queue.specs.Opening.{Opening};
+ghost use Rattle.run_queue.specs.Seen.{seen};
+ghost use Rattle.run_queue.specs.Turns.{SameRun, fates_of};
+ghost use Rattle.build_resume.specs.Benches.{AtWorkers, BreaksBench, BreaksByFault, HasSeats, started_by};
+ghost use Rattle.build_resume.specs.Build.{RanStarted};
+ghost use Rattle.build_resume.specs.Drive.{SaidByWorkers};
+
+use outside_traits::{Bench, Disk, Sink};
+use run_queue::RunState;
+use run_workers::run_workers;
+use std::alloc::Global;
+use std::sync::Wait;
+use std::thread::Threads;
+
+/// Takes the last bench off.
+pub(crate) fn take_last<B: Bench>(benches: &mut Vec<B>) -> B
+    requires { 0 < length benches.old.items }
+    ensures items { benches.old.items ≡ benches.new.items ++ result ∷ [] }
+    ensures room { vec_len benches.new < vec_capacity benches.new }
+    ensures capacity { vec_capacity benches.new ≡ vec_capacity benches.old }
+{
+    match benches.pop() {
+        Some(bench) => bench,
+        None => unreachable!(),
+    }
+}
+
+/// Does the jobs of a run by workers on the first of these benches, at most so many, and leaves the others alone. Each worker has a seat of its
+/// own, the first one seat 1. It returns when no worker finds more to do.
+fn with_at_most<D, B, W, R>(
+    rt: &R,
+    alloc: Global,
+    state: RunState<D, W>,
+    mut benches: Vec<B>,
+    workers: usize,
+) -> (RunState<D, W>, Vec<B>)
+where
+    D: Disk + Drop + Send,
+    B: Bench + Drop + Send,
+    W: Sink + Drop + Send,
+    R: Threads + Wait + Sync,
+    requires few { workers ≤ 60 }
+    requires reach { 3600 ≤ D.reach }
+    requires none { state.tale ≡ [] }
+    ensures same { SameRun state result.0 }
+    ensures none { NoneRuns (fates_of result.0) }
+    ensures seats { HasSeats (length benches.items) result.0.tale }
+    ensures sink { (before : ℕ) → Counts before (W.faults state.sink) state.sink_failed → Counts before (W.faults result.0.sink) result.0.sink_failed }
+    ensures text { W.tells → (base : List ℕ) → Prints base (W.written state.sink) (tale_text state.plan.tasks state.tale) state.sink_failed → Prints base (W.written result.0.sink) (tale_text state.plan.tasks result.0.tale) result.0.sink_failed }
+    ensures stays { W.tells → (front : List ℕ) → IsFront front (W.written state.sink) → IsFront front (W.written result.0.sink) }
+    ensures room { vec_capacity result.1 ≡ vec_capacity benches }
+    ensures broke { AtWorkers (λ seat old new. BreaksByFault result.0.tale seat (B.faults old) (B.faults new)) benches.items result.1.items }
+    ensures printed { W.tells → B.tells → state.sink_failed ≡ false → state.fault ≡ None → SaidByWorkers (λ b. (B.place b).runs) state.plan result.0.fault result.0.tale benches.items result.1.items (W.written state.sink) (W.written result.0.sink) }
+    ensures run { D.tells → B.tells → (gives : Gives) → All (λ b. B.gives b ≡ gives) benches.items → (o : Opening) → o.gives ≡ gives → IsRun o (seen D.story W.written state) → IsRun o (seen D.story W.written result.0) × AtWorkers (λ seat old new. RanStarted gives state.plan result.0.tale seat (B.place old).runs (B.place new).runs) benches.items result.1.items }
+    ensures steady { D.tells → B.tells → (gives : Gives) → All (λ b. B.gives b ≡ gives) benches.items → (o : Opening) → o.gives ≡ gives → IsRun o (seen D.story W.written state) → IsSteady state.fault → IsSteady result.0.fault }
+{
+    if benches.len() <= workers {
+        if benches.is_empty() {
+            return (state, benches);
+        }
+        let (state, benches) = run_workers(rt, alloc, state, benches);
+        state.kept();
+        return (state, benches);
+    }
+    let bench = take_last(&mut benches);
+    let (state, mut benches) = with_at_most(rt, alloc, state, benches, workers);
+    benches.push_reserved(bench);
+    (state, benches)
+}
+
+/// Does the jobs of a run on these benches, each on a seat of its own, until no worker finds more to do.
+pub(crate) fn with_workers<D, B, W, R>(
+    rt: &R,
+    alloc: Global,
+    state: RunState<D, W>,
+    benches: Vec<B>,
+) -> (RunState<D, W>, Vec<B>)
+where
+    D: Disk + Drop + Send,
+    B: Bench + Drop + Send,
+    W: Sink + Drop + Send,
+    R: Threads + Wait + Sync,
+    requires reach { 3600 ≤ D.reach }
+    requires none { state.tale ≡ [] }
+    ensures same { SameRun state result.0 }
+    ensures none { NoneRuns (fates_of result.0) }
+    ensures seats { started_by 0 result.0.tale ≡ [] }
+    ensures calm { BreaksBench 0 result.0.tale → ⊥ }
+    ensures sink { (before : ℕ) → Counts before (W.faults state.sink) state.sink_failed → Counts before (W.faults result.0.sink) result.0.sink_failed }
+    ensures text { W.tells → (base : List ℕ) → Prints base (W.written state.sink) (tale_text state.plan.tasks state.tale) state.sink_failed → Prints base (W.written result.0.sink) (tale_text state.plan.tasks result.0.tale) result.0.sink_failed }
+    ensures stays { W.tells → (front : List ℕ) → IsFront front (W.written state.sink) → IsFront front (W.written result.0.sink) }
+    ensures room { vec_capacity result.1 ≡ vec_capacity benches }
+    ensures broke { AtWorkers (λ seat old new. BreaksByFault result.0.tale seat (B.faults old) (B.faults new)) benches.items result.1.items }
+    ensures printed { W.tells → B.tells → state.sink_failed ≡ false → state.fault ≡ None → SaidByWorkers (λ b. (B.place b).runs) state.plan result.0.fault result.0.tale benches.items result.1.items (W.written state.sink) (W.written result.0.sink) }
+    ensures run { D.tells → B.tells → (gives : Gives) → All (λ b. B.gives b ≡ gives) benches.items → (o : Opening) → o.gives ≡ gives → IsRun o (seen D.story W.written state) → IsRun o (seen D.story W.written result.0) × AtWorkers (λ seat old new. RanStarted gives state.plan result.0.tale seat (B.place old).runs (B.place new).runs) benches.items result.1.items }
+    ensures steady { D.tells → B.tells → (gives : Gives) → All (λ b. B.gives b ≡ gives) benches.items → (o : Opening) → o.gives ≡ gives → IsRun o (seen D.story W.written state) → IsSteady state.fault → IsSteady result.0.fault }
+{
+    let workers = (state.plan().threads as usize).min(60);
+    with_at_most(rt, alloc, state, benches, workers)
+}
