@@ -156,7 +156,7 @@ class Case:
             self.write(os.path.join(b"build", path), content, is_exec)
             if path.startswith(b"work/"):
                 self.work[path[5:]] = content, is_exec
-        elif word in ("script", "puts", "links", "exit"):
+        elif word in ("script", "puts", "links", "exit", "benches"):
             pass
         elif word in ("fail", "crash"):
             self.fails = True

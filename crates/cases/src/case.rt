@@ -6,6 +6,8 @@ use crate::words::Word;
 use crate::wrong::Wrong;
 use std::alloc::Global;
 use std::collections::BTreeMap;
+use std::sync::Wait;
+use std::thread::Threads;
 use tree_model::{Bytes, Entry, Text};
 
 /// What stands behind the path of an executable file.
@@ -34,7 +36,7 @@ struct Case {
 }
 
 /// Runs a case, or says what went otherwise and where.
-pub fn run_case(alloc: Global, text: &str) -> Result<(), Wrong> {
+pub fn run_case<R: Threads + Wait + Sync>(rt: &R, alloc: Global, text: &str) -> Result<(), Wrong> {
     let mut case = Case {
         project: Project::new(alloc),
         open: None,
@@ -46,11 +48,11 @@ pub fn run_case(alloc: Global, text: &str) -> Result<(), Wrong> {
     let mut number: u64 = 0;
     for line in text.split('\n') {
         number = number.saturating_add(1);
-        if let Err(wrong) = case.take_line(alloc, number, line) {
+        if let Err(wrong) = case.take_line(rt, alloc, number, line) {
             return Err(case.placed(alloc, number, wrong)?);
         }
     }
-    match case.finish(alloc) {
+    match case.finish(rt, alloc) {
         Ok(()) => Ok(()),
         Err(wrong) => Err(case.placed(alloc, number, wrong)?),
     }
@@ -72,7 +74,13 @@ impl Case {
     }
 
     /// The next line: content, or a directive, which ends the one before.
-    fn take_line(&mut self, alloc: Global, number: u64, line: &str) -> Result<(), Wrong> {
+    fn take_line<R: Threads + Wait + Sync>(
+        &mut self,
+        rt: &R,
+        alloc: Global,
+        number: u64,
+        line: &str,
+    ) -> Result<(), Wrong> {
         if number == 1 {
             return is_title(line);
         }
@@ -87,7 +95,7 @@ impl Case {
         if line.is_empty() || line.starts_with('#') {
             return Ok(());
         }
-        self.close(alloc)?;
+        self.close(rt, alloc)?;
         self.open = Some(directive_of(alloc, line)?);
         Ok(())
     }
@@ -103,20 +111,20 @@ impl Case {
     }
 
     /// Does what the open directive says, which has all its content now.
-    fn close(&mut self, alloc: Global) -> Result<(), Wrong> {
+    fn close<R: Threads + Wait + Sync>(&mut self, rt: &R, alloc: Global) -> Result<(), Wrong> {
         match self.open.take() {
             Some(open) if open.word.is_wish() => self.wish(alloc, open),
             Some(open) => {
                 self.judge(alloc)?;
-                self.prepare(alloc, open)
+                self.prepare(rt, alloc, open)
             }
             None => Ok(()),
         }
     }
 
     /// The end of the case.
-    fn finish(&mut self, alloc: Global) -> Result<(), Wrong> {
-        self.close(alloc)?;
+    fn finish<R: Threads + Wait + Sync>(&mut self, rt: &R, alloc: Global) -> Result<(), Wrong> {
+        self.close(rt, alloc)?;
         self.judge(alloc)?;
         if self.runs == 0 {
             return Err(Wrong::Says("nothing is run"));
@@ -140,7 +148,12 @@ impl Case {
     }
 
     /// A directive before a run, and the run.
-    fn prepare(&mut self, alloc: Global, it: Directive) -> Result<(), Wrong> {
+    fn prepare<R: Threads + Wait + Sync>(
+        &mut self,
+        rt: &R,
+        alloc: Global,
+        it: Directive,
+    ) -> Result<(), Wrong> {
         match it.word {
             Word::File => {
                 let path = unescaped_text(alloc, it.rest.as_str())?;
@@ -154,7 +167,11 @@ impl Case {
             Word::Fail => self.fail(it.rest.as_str()),
             Word::Crash => self.crash(it.rest.as_str()),
             Word::Memory => Ok(()),
-            Word::Run => self.run(alloc, it.rest.as_str()),
+            Word::Benches => {
+                self.project.benches = number_of(it.rest.as_str())?;
+                Ok(())
+            }
+            Word::Run => self.run(rt, alloc, it.rest.as_str()),
             _ => self.add_rule(alloc, it),
         }
     }
@@ -214,7 +231,12 @@ impl Case {
     }
 
     /// Runs the program with these words.
-    fn run(&mut self, alloc: Global, rest: &str) -> Result<(), Wrong> {
+    fn run<R: Threads + Wait + Sync>(
+        &mut self,
+        rt: &R,
+        alloc: Global,
+        rest: &str,
+    ) -> Result<(), Wrong> {
         self.runs = self.runs.saturating_add(1);
         self.wishes = Wishes::new(alloc);
         let mut words = Vec::new(alloc);
@@ -223,7 +245,7 @@ impl Case {
                 words.push(Text::from_string(unescaped_text(alloc, word)?))?;
             }
         }
-        self.ran = Some(self.project.run(alloc, &words)?);
+        self.ran = Some(self.project.run(rt, alloc, &words)?);
         Ok(())
     }
 

@@ -20,6 +20,8 @@ use case::run_case;
 use folder::{names_in, read_text};
 use std::io;
 use std::process::ExitCode;
+use std::sync::Wait;
+use std::thread::Threads;
 use wrong::Wrong;
 
 /// The end of a case file's name.
@@ -34,7 +36,7 @@ struct Count {
 
 /// Ends with status 0 where all cases went as wanted.
 fn main(rt: HostRuntime) -> ExitCode {
-    match run_all(&rt) {
+    match run_all(&rt, &rt) {
         Ok(Count { run, wrong: 0 }) if println!(rt; "{run} cases").is_ok() => ExitCode::from(0),
         Ok(count) => {
             let _ = println!(rt;
@@ -51,14 +53,14 @@ fn main(rt: HostRuntime) -> ExitCode {
 }
 
 /// Runs all cases of all topics.
-fn run_all(rt: &HostRuntime) -> io::Result<Count> {
+fn run_all<R: Threads + Wait + Sync>(rt: &HostRuntime, threads: &R) -> io::Result<Count> {
     let mut count = Count { run: 0, wrong: 0 };
     for topic in names_in(rt, ".")?.iter() {
         for file in names_in(rt, topic.as_str())?.iter() {
             let path = format!(in rt.alloc(); "{topic}/{file}")?;
             if let Some(name) = path.as_str().strip_suffix(ENDING) {
                 count.run = count.run.saturating_add(1);
-                if !goes_as_wanted(rt, name, path.as_str())? {
+                if !goes_as_wanted(rt, threads, name, path.as_str())? {
                     count.wrong = count.wrong.saturating_add(1);
                 }
             }
@@ -68,9 +70,14 @@ fn run_all(rt: &HostRuntime) -> io::Result<Count> {
 }
 
 /// Runs one case, and prints where it went otherwise.
-fn goes_as_wanted(rt: &HostRuntime, name: &str, path: &str) -> io::Result<bool> {
+fn goes_as_wanted<R: Threads + Wait + Sync>(
+    rt: &HostRuntime,
+    threads: &R,
+    name: &str,
+    path: &str,
+) -> io::Result<bool> {
     let text = read_text(rt, path)?;
-    match run_case(rt.alloc(), text.as_str()) {
+    match run_case(threads, rt.alloc(), text.as_str()) {
         Ok(()) => Ok(true),
         Err(Wrong::Memory) => {
             println!(rt; "{name}: memory is wanting")?;

@@ -10,6 +10,8 @@ use outside_mem::{FailDisk, FuseDisk, MemDisk, MemLayers, MemSink, Rule, ScriptT
 use std::alloc::Global;
 use std::collections::BTreeMap;
 use std::mem;
+use std::sync::Wait;
+use std::thread::Threads;
 use tree_model::{Bytes, Entry, Text, Tree};
 
 /// Where the outputs of tasks stand on the disk.
@@ -65,6 +67,8 @@ pub struct Project {
     scripts: Vec<Script>,
     pub fails: Fails,
     pub crash: Option<Crash>,
+    /// How many benches there are; of none there is one.
+    pub benches: u32,
 }
 
 impl Project {
@@ -76,6 +80,7 @@ impl Project {
             scripts: Vec::new(alloc),
             fails: NONE_FAILS,
             crash: None,
+            benches: 1,
         }
     }
 
@@ -133,17 +138,28 @@ impl Project {
     }
 
     /// Calls the program with these words, over devices with what the project has. What it leaves on the disk is held from then on.
-    pub fn run(&mut self, alloc: Global, words: &Vec<Text>) -> Result<Ran, Wrong> {
+    pub fn run<R: Threads + Wait + Sync>(
+        &mut self,
+        rt: &R,
+        alloc: Global,
+        words: &Vec<Text>,
+    ) -> Result<Ran, Wrong> {
         let held = mem::replace(&mut self.held, Vec::new(alloc));
         let disk = MemDisk::new(alloc, held)?;
         match self.crash.take() {
-            Some(crash) => self.run_into_crash(alloc, words, disk, crash),
-            None => self.run_to_end(alloc, words, disk),
+            Some(crash) => self.run_into_crash(rt, alloc, words, disk, crash),
+            None => self.run_to_end(rt, alloc, words, disk),
         }
     }
 
     /// A run that comes to its end.
-    fn run_to_end(&mut self, alloc: Global, words: &Vec<Text>, disk: MemDisk) -> Result<Ran, Wrong>
+    fn run_to_end<R: Threads + Wait + Sync>(
+        &mut self,
+        rt: &R,
+        alloc: Global,
+        words: &Vec<Text>,
+        disk: MemDisk,
+    ) -> Result<Ran, Wrong>
         requires { IsFresh (story_of disk) }
     {
         let fails = mem::replace(&mut self.fails, NONE_FAILS);
@@ -151,14 +167,15 @@ impl Project {
         let layers = self.layers(alloc, fails.layers)?;
         let benches = self.benches(alloc, fails.bench)?;
         let sink = MemSink::new(alloc, numbers(alloc, fails.sink)?)?;
-        let finish = bitbake(alloc, words, layers, disk, benches, sink);
+        let finish = bitbake(rt, alloc, words, layers, disk, benches, sink);
         self.held = copied(alloc, finish.disk.into_disk().held())?;
         answer(alloc, &finish.status, &finish.sink)
     }
 
     /// A run that a crash ends.
-    fn run_into_crash(
+    fn run_into_crash<R: Threads + Wait + Sync>(
         &mut self,
+        rt: &R,
         alloc: Global,
         words: &Vec<Text>,
         disk: MemDisk,
@@ -170,7 +187,7 @@ impl Project {
         let layers = self.layers(alloc, 0)?;
         let benches = self.benches(alloc, 0)?;
         let sink = MemSink::new(alloc, numbers(alloc, 0)?)?;
-        let finish = bitbake(alloc, words, layers, disk, benches, sink);
+        let finish = bitbake(rt, alloc, words, layers, disk, benches, sink);
         let image = finish.disk.into_disk().image(crash.image)?;
         self.held = copied(alloc, image.held())?;
         answer(alloc, &finish.status, &finish.sink)
@@ -185,11 +202,14 @@ impl Project {
         Ok(MemLayers::new(alloc, files, numbers(alloc, fail)?)?)
     }
 
-    /// The one bench.
+    /// The benches. Only the last one fails, where one does.
     fn benches(&self, alloc: Global, fail: u64) -> Result<Vec<ScriptTable>, Wrong>
         ensures { IfOk result (λ made. 0 < vec_len made) }
     {
         let mut benches = Vec::new(alloc);
+        for _ in 1..self.benches {
+            benches.push(ScriptTable::new(alloc, self.rules(alloc)?, numbers(alloc, 0)?))?;
+        }
         benches.push(ScriptTable::new(alloc, self.rules(alloc)?, numbers(alloc, fail)?))?;
         Ok(benches)
     }

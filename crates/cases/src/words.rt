@@ -13,6 +13,7 @@ pub enum Word {
     Fail,
     Crash,
     Memory,
+    Benches,
     Run,
     Status,
     Text,
@@ -36,6 +37,7 @@ impl Word {
             "fail" => Some(Word::Fail),
             "crash" => Some(Word::Crash),
             "memory" => Some(Word::Memory),
+            "benches" => Some(Word::Benches),
             "run" => Some(Word::Run),
             _ => Word::of_wish(text),
         }
