@@ -1,5 +1,5 @@
 -- What a run that has begun leaves.
-use Rattle.std.proofs.Common.{append-nil, ◌≡◌, ◌∙◌, sym, ap, subst, refl, ℕ, List, [], ◌++◌, Bool, true, false, Some, None, inl, inr}
+use Rattle.std.proofs.Common.{append-nil, ◌≡◌, ◌∙◌, sym, ap, subst, refl, ℕ, List, [], Bool, true, false, Some, None, inl, inr}
 use Rattle.std.specs.Prelude.{◌⊎◌, Option, IsSome}
 use Rattle.std.proofs.lemmas.Bool.{false≢true}
 use Rattle.outside_traits.specs.Story.{Story}

@@ -12,8 +12,8 @@ use Rattle.task_worker.specs.declared.given.Job.{Job}
 use Rattle.run_queue.specs.Opening.{Opening}
 use Rattle.run_queue.specs.Seen.{Seen}
 use Rattle.run_queue.specs.Turns.{IsCleanJob, Marks}
-use Rattle.run_workers.specs.Runs.{AllRan, IsRunOf, RanSoFar, RanThese, Runs, by_bench}
-use Rattle.build_resume.specs.Benches.{BreaksBench, started_by}
+use Rattle.run_workers.specs.Runs.{AllRan, IsRunOf, RanSoFar, RanThese, Runs}
+use Rattle.build_resume.specs.Benches.{started_by}
 use Rattle.build_resume.specs.Drive.{Closes, Drove, Grows}
 use Rattle.run_workers.specs.declared.worker.Halt.{Halt}
 use Rattle.build_resume.proofs.Seating.{alone_nil, alone_one, alone_then, breaks_nil, breaks_one, breaks_split, started_split}

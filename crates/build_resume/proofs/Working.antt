@@ -1,6 +1,6 @@
 -- What workers did, by the tale that they left.
 use Rattle.std.proofs.Common.{◌≡◌, ◌≢◌, ◌∙◌, sym, ap, subst, refl, ℕ, ◌+◌, ◌<◌, ◌≤◌, zero, suc, arith, Bool, true, false, List, [], ◌∷◌, ◌++◌, All, take, drop, length, append-nil, Some, None, inl, inr}
-use Rattle.std.specs.Prelude.{◌⊎◌, ◌==◌, Option, if◌then◌else◌}
+use Rattle.std.specs.Prelude.{◌⊎◌, Option, if◌then◌else◌}
 use Rattle.std.specs.List.{slice_get}
 use Rattle.std.proofs.lemmas.Bool.{false≢true}
 use Rattle.std.proofs.lemmas.Bool.Decides.{eqb_tells}
@@ -13,8 +13,6 @@ use Rattle.run_queue.specs.Keeps.{IsFront, Prints}
 use Rattle.outside_traits.specs.Fault.{Rose}
 use Rattle.meta_model.specs.declared.event.Event.{Event}
 use Rattle.meta_model.specs.declared.event.Event.TheVariants as events
-use Rattle.meta_model.specs.declared.event.Cut.{Cut}
-use Rattle.meta_model.specs.declared.event.Cut.TheVariants as cut
 use Rattle.meta_model.specs.declared.event.Logged.{Logged}
 use Rattle.run_workers.specs.Runs.{RanScripts, RanThese, Runs, started_in}
 use Rattle.meta_model.specs.CleanBuild.{Gives}

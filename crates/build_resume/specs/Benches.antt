@@ -1,5 +1,5 @@
 -- What the benches of a run did, each by its seat.
-use Rattle.std.specs.Prelude.{◌≡◌, ◌<◌, ◌≤◌, ◌+◌, ℕ, Bool, true, false, List, [], ◌∷◌, ◌++◌, Some, length, slice_index}
+use Rattle.std.specs.Prelude.{◌≡◌, ◌<◌, ◌≤◌, ◌+◌, ℕ, true, List, [], ◌∷◌, ◌++◌, Some, length, slice_index}
 use Rattle.std.specs.List.{slice_get}
 use Rattle.outside_traits.specs.Fault.{Rose}
 use Rattle.meta_model.specs.declared.event.Logged.{Logged}

@@ -1,5 +1,5 @@
 -- What a run of a plan leaves.
-use Rattle.std.specs.Prelude.{◌≡◌, ◌≢◌, ◌⊎◌, ◌<◌, ℕ, Bool, true, false, List, [], ◌∷◌, ◌++◌, map, Contains, Some, Ok, Err}
+use Rattle.std.specs.Prelude.{◌≡◌, ◌≢◌, ◌⊎◌, ◌<◌, ℕ, Bool, true, false, List, [], ◌∷◌, ◌++◌, Contains, Some, Ok, Err}
 use Rattle.std.specs.List.{slice_get, AllByRecursion}
 use Rattle.sha2.specs.Sha256.{sha256}
 use Rattle.tree_model.specs.Path.{IsAtOrBelow}
@@ -30,8 +30,6 @@ use Rattle.build_store.specs.Reopened.{HaveSameLines}
 use Rattle.build_store.specs.Sound.{IsReadable}
 use Rattle.bb_report.specs.Runs.{run_text, tale_text}
 use Rattle.bb_report.specs.Written.{WritesFront}
-use Rattle.task_worker.specs.Layouts.{layout_over}
-use Rattle.task_worker.specs.OneTask.{AreClean}
 use Rattle.run_queue.specs.Books.{book_after}
 use Rattle.run_queue.specs.Courses.{IsLegalTale}
 use Rattle.run_queue.specs.Opening.{HasFolders, Opening}

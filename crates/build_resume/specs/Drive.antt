@@ -1,11 +1,11 @@
 -- What the turns of a run on one seat do.
 use Rattle.std.specs.List.{slice_get}
-use Rattle.std.specs.Prelude.{◌≡◌, ◌⊎◌, ◌≢◌, ◌+◌, ◌*◌, ℕ, Bool, true, false, List, [], ◌∷◌, ◌++◌, Option, Some, None, IsSome}
+use Rattle.std.specs.Prelude.{◌≡◌, ◌⊎◌, ◌≢◌, ◌+◌, ◌*◌, ℕ, true, false, List, [], ◌∷◌, ◌++◌, Option, Some, None, IsSome}
 use Rattle.meta_model.specs.declared.event.Event.{Event}
 use Rattle.meta_model.specs.declared.event.Event.TheVariants as events
 use Rattle.meta_model.specs.declared.event.Logged.{Logged}
 use Rattle.meta_model.specs.declared.plan.Plan.{Plan}
-use Rattle.meta_model.specs.CleanBuild.{Entries, Gives}
+use Rattle.meta_model.specs.CleanBuild.{Gives}
 use Rattle.bb_report.specs.Runs.{tale_text}
 use Rattle.run_core.specs.declared.fate.Fate.{Fate}
 use Rattle.run_core.specs.declared.fate.Fate.TheVariants as fate

@@ -1,8 +1,5 @@
 -- How a run ends.
-use Rattle.std.specs.Prelude.{◌≡◌, ◌⊎◌, ℕ, Bool, true, false, List, [], ◌∷◌, Option, Some, None, if◌then◌else◌}
-use Rattle.meta_model.specs.declared.event.Event.{Event}
-use Rattle.meta_model.specs.declared.event.Event.TheVariants as events
-use Rattle.meta_model.specs.declared.event.Logged.{Logged}
+use Rattle.std.specs.Prelude.{◌≡◌, ◌⊎◌, Bool, true, false, Option, Some, None, if◌then◌else◌}
 use Rattle.meta_model.specs.declared.event.Status.{Status}
 use Rattle.meta_model.specs.declared.event.Status.TheVariants as status
 use Rattle.build_store.specs.declared.fault.StoreFault.{StoreFault}

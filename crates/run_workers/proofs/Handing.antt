@@ -1,6 +1,6 @@
 -- What a claim marks and hands out, and a job that is the clean build's is so for each state of the run.
-use Rattle.std.proofs.Common.{◌≡◌, ◌∙◌, sym, subst, ap, refl, ℕ, ◌+◌, ◌≤◌, Bool, true, false, List, [], ◌∷◌, ◌++◌, length, map, append-nil, arith, All, inl, inr}
-use Rattle.std.specs.Prelude.{Result, Ok, Err, Some, None, IsSome, is_some, MatchBool, ◌⊎◌}
+use Rattle.std.proofs.Common.{◌≡◌, ◌∙◌, sym, subst, ap, refl, ℕ, Bool, true, false, List, [], ◌∷◌, ◌++◌, map, append-nil, arith, All, inl, inr}
+use Rattle.std.specs.Prelude.{Result, Ok, Err, Some, None, IsSome, is_some, MatchBool}
 use Rattle.std.proofs.lemmas.Bool.{false≢true}
 use Rattle.std.specs.List.{slice_get}
 use Rattle.std.proofs.lemmas.List.Elements.{All-cons}
@@ -20,7 +20,6 @@ use Rattle.run_queue.specs.declared.state.Claim.TheVariants as claim
 use Rattle.run_queue.specs.Opening.{Opening}
 use Rattle.run_queue.specs.Seen.{RunView, Seen}
 use Rattle.run_queue.specs.Turns.{Claims, ClaimsClean, Ends, IsCleanJob, Marks, closed_as}
-use Rattle.turn_lock.specs.Totals.{once}
 use Rattle.run_workers.specs.declared.shared.Told.{Told}
 use Rattle.run_workers.specs.Runs.{IsScriptOf}
 use Rattle.run_workers.specs.Seats.{AddsBy, EndAdds, ended_as, IsCleanClaim, IsScripted}

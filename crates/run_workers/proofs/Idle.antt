@@ -1,7 +1,6 @@
 -- Where no record has a job in hand, and there is no other entry, no task runs.
-use Rattle.std.proofs.Common.{◌≡◌, ◌≢◌, sym, ◌∙◌, ap, subst, refl, ℕ, zero, suc, ◌+◌, ◌<◌, ◌==◌, ◌↔◌, Bool, true, false, List, [], ◌∷◌, length, get_or, Option, Some, None, ◌⊎◌, inl, inr, if◌then◌else◌, All, arith, ne_eqb, eqb}
+use Rattle.std.proofs.Common.{◌≡◌, ◌≢◌, sym, ◌∙◌, ap, refl, ℕ, zero, suc, ◌<◌, ◌↔◌, Bool, true, List, [], ◌∷◌, length, get_or, Some, None, ◌⊎◌, inl, inr, if◌then◌else◌, All, arith, ne_eqb, eqb}
 use Rattle.std.proofs.lemmas.Bool.{cases_eq}
-use Rattle.meta_model.specs.declared.event.Event.{Event}
 use Rattle.meta_model.specs.declared.event.Event.TheVariants as events
 use Rattle.meta_model.specs.declared.event.Logged.{Logged}
 use Rattle.run_core.specs.declared.fate.Fate.{Fate}
@@ -12,7 +11,7 @@ use Rattle.turn_lock.specs.declared.rule.Record.{Record}
 use Rattle.turn_lock.specs.Totals.{once}
 use Rattle.turn_lock.specs.Views.{HasEntries, HasNoOthers, entries_of, numbered}
 use Rattle.run_workers.specs.declared.shared.Told.{Told}
-use Rattle.run_workers.specs.Seats.{HoldsNone, NoneHold}
+use Rattle.run_workers.specs.Seats.{NoneHold}
 use Rattle.run_workers.specs.Told.{told}
 use Rattle.run_workers.proofs.Turning.{last_own}
 

@@ -1,7 +1,6 @@
 -- What the workers of a run left of it.
-use Rattle.std.proofs.Common.{◌≡◌, ◌≢◌, ◌∙◌, sym, ap, subst, refl, ℕ, zero, suc, ◌+◌, ◌<◌, ◌≤◌, ◌==◌, Bool, true, false, if◌then◌else◌, List, [], ◌∷◌, ◌++◌, length, take, get_or, Some, None, All, arith, eq-eqb, ne_eqb, eqb, inl, inr, append-nil}
-use Rattle.std.specs.Prelude.{Option, IsSome, is_some}
-use Rattle.std.specs.List.{slice_get}
+use Rattle.std.proofs.Common.{◌≡◌, ◌≢◌, ◌∙◌, sym, ap, subst, refl, ℕ, suc, ◌+◌, ◌<◌, ◌≤◌, Bool, true, false, if◌then◌else◌, List, [], ◌∷◌, length, take, get_or, Some, None, All, arith, eq-eqb, ne_eqb, eqb, inl, inr}
+use Rattle.std.specs.Prelude.{Option, is_some}
 use Rattle.std.proofs.lemmas.Bool.{cases_eq, false≢true}
 use Rattle.std.proofs.lemmas.List.Elements.{All-cons, All-head, All-tail}
 use Rattle.outside_traits.specs.Bench.{Workplace}
@@ -15,13 +14,13 @@ use Rattle.run_queue.specs.Turns.{fates_of}
 use Rattle.turn_lock.specs.declared.rule.Record.{Record}
 use Rattle.turn_lock.specs.declared.rule.View.{View}
 use Rattle.turn_lock.specs.Totals.{once}
-use Rattle.turn_lock.specs.Views.{HasEntries, HasNoOthers, entries_of, numbered, records_of}
+use Rattle.turn_lock.specs.Views.{entries_of, numbered, records_of}
 use Rattle.run_workers.specs.declared.shared.Told.{Told}
 use Rattle.run_workers.specs.declared.worker.Halt.{Halt}
 use Rattle.run_workers.specs.Left.{AllDid, IsLeft}
 use Rattle.run_workers.specs.Runs.{RanScripts, RanSoFar, RanThese, Runs, ScriptsSoFar, by_bench, started_in}
 use Rattle.run_workers.specs.Told.{logged_in, own, printed_in, told}
-use Rattle.run_workers.specs.Worked.{AllWorked, Breaks, Did, IsJoined, RanMine, RanPrinted, RanStarted, SaidMine, Worked}
+use Rattle.run_workers.specs.Worked.{AllWorked, Breaks, Did, IsJoined, Worked}
 use Rattle.run_workers.proofs.Sinces.{lines_first, since_first}
 use Rattle.run_workers.proofs.Spreading.{WorkedAt, all_at, all_long, all_within}
 use Rattle.run_workers.proofs.Telling.{logged_own, logged_told, printed_own}

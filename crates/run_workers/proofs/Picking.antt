@@ -1,5 +1,5 @@
 -- What scripts give on benches that are alike.
-use Rattle.std.proofs.Common.{◌≡◌, ◌<◌, ℕ, sym, List, [], ◌∷◌, length, All, arith, subst}
+use Rattle.std.proofs.Common.{◌≡◌, ◌<◌, sym, List, [], ◌∷◌, length, All, arith, subst}
 use Rattle.std.proofs.lemmas.List.Elements.{All-head}
 use Rattle.meta_model.specs.CleanBuild.{Gives}
 use Rattle.run_workers.specs.Nothing.{nothing_given}

@@ -1,5 +1,5 @@
 -- How a turn changes what a seat's own record says.
-use Rattle.std.proofs.Common.{◌≡◌, sym, ◌∙◌, ap, subst, refl, ℕ, ◌==◌, Bool, true, false, List, [], ◌∷◌, ◌++◌, Option, Some, None, if◌then◌else◌, ◌⊎◌, inl, inr, eq-eqb, append-nil}
+use Rattle.std.proofs.Common.{◌≡◌, sym, ◌∙◌, ap, refl, ℕ, ◌==◌, Bool, true, false, List, [], ◌∷◌, ◌++◌, Some, None, if◌then◌else◌, eq-eqb}
 use Rattle.std.proofs.lemmas.List.Sums.{fold_push}
 use Rattle.meta_model.specs.declared.event.Event.{Event}
 use Rattle.meta_model.specs.declared.event.Event.TheVariants as events
@@ -7,7 +7,7 @@ use Rattle.meta_model.specs.declared.event.Logged.{Logged}
 use Rattle.bb_report.specs.Runs.{is_started}
 use Rattle.run_core.specs.History.{last_of}
 use Rattle.run_workers.specs.declared.shared.Told.{Told}
-use Rattle.run_workers.specs.Seats.{HoldsNone, Holds}
+use Rattle.run_workers.specs.Seats.{HoldsNone}
 use Rattle.run_workers.specs.Told.{logged_in}
 use Rattle.run_workers.proofs.Telling.{logged_split}
 

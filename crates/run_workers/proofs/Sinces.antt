@@ -1,18 +1,17 @@
 -- Whatever held of a run as it began holds on, turn by turn.
 use Rattle.std.proofs.Common.{◌≡◌, ℕ, ◌+◌, ◌≤◌, ◌∙◌, refl, List, [], ◌∷◌, ◌++◌, length, map, take, sym, subst, ap, Bool, true, false, None, arith, append-nil, append_assoc, inl, inr}
-use Rattle.std.specs.Prelude.{IsSome, ◌⊎◌}
+use Rattle.std.specs.Prelude.{IsSome}
 use Rattle.outside_traits.specs.Fault.{Counts}
 use Rattle.outside_traits.specs.Story.{Story}
 use Rattle.meta_model.specs.declared.event.Logged.{Logged}
 use Rattle.meta_model.specs.CleanBuild.{Gives}
 use Rattle.bb_report.specs.Runs.{tale_text}
-use Rattle.bb_report.specs.Written.{WritesFront}
 use Rattle.run_queue.specs.Opening.{Opening}
 use Rattle.run_queue.specs.Keeps.{IsFront, IsRun, IsSteady, Prints}
 use Rattle.run_queue.specs.Seen.{RunView, Seen, seen}
 use Rattle.run_queue.specs.Turns.{SameRun}
 use Rattle.run_workers.specs.Seats.{HeardOn}
-use Rattle.run_workers.specs.Since.{Kept, SharedView, Since}
+use Rattle.run_workers.specs.Since.{Kept, Since}
 use Rattle.run_workers.specs.Told.{tell, told}
 use Rattle.run_workers.proofs.Telling.{take_all, take_within, told_quiet, told_whole}
 

@@ -1,5 +1,5 @@
 -- The tale as seats hand it on: how it grows, and what of it is a seat's.
-use Rattle.std.proofs.Common.{◌≡◌, sym, ◌∙◌, ap, refl, ℕ, zero, suc, ◌+◌, ◌≤◌, ◌==◌, arith, Bool, true, false, if◌then◌else◌, List, [], ◌∷◌, ◌++◌, length, map, take}
+use Rattle.std.proofs.Common.{◌≡◌, ◌∙◌, ap, refl, ℕ, zero, suc, ◌+◌, ◌≤◌, ◌==◌, arith, Bool, true, false, if◌then◌else◌, List, [], ◌∷◌, ◌++◌, length, map, take}
 use Rattle.meta_model.specs.declared.event.Logged.{Logged}
 use Rattle.turn_lock.specs.Views.{entries_of}
 use Rattle.run_workers.specs.declared.shared.Told.{Told}

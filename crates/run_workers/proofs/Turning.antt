@@ -1,6 +1,6 @@
 -- What a seat's own record says of the tasks that run, and how a turn changes what a seat knows.
-use Rattle.std.proofs.Common.{◌≡◌, ◌↔◌, sym, ◌∙◌, ap, subst, refl, ℕ, ◌==◌, Bool, true, false, List, [], ◌∷◌, ◌++◌, length, drop, Option, Some, None, if◌then◌else◌, All, arith}
-use Rattle.std.specs.List.{filter, fold}
+use Rattle.std.proofs.Common.{◌≡◌, ◌↔◌, sym, ◌∙◌, ap, refl, ℕ, ◌==◌, Bool, true, false, List, [], ◌∷◌, ◌++◌, length, drop, Option, Some, None, if◌then◌else◌, arith}
+use Rattle.std.specs.List.{fold}
 use Rattle.std.proofs.Math.Seq.{drop-append_seam}
 use Rattle.meta_model.specs.declared.event.Event.{Event}
 use Rattle.meta_model.specs.declared.event.Event.TheVariants as events

@@ -12,7 +12,7 @@ use Rattle.run_queue.specs.Turns.{fates_of}
 use Rattle.turn_lock.specs.declared.rule.Record.{Record}
 use Rattle.turn_lock.specs.Views.{HasEntries, HasNoOthers}
 use Rattle.run_workers.specs.declared.shared.Told.{Told}
-use Rattle.run_workers.specs.Since.{Kept, SharedView, Since}
+use Rattle.run_workers.specs.Since.{Kept, Since}
 use Rattle.run_workers.specs.Told.{told}
 use Rattle.run_workers.specs.Worked.{Did}
 

@@ -1,5 +1,5 @@
 -- How no run began: place holders.
-use Rattle.std.specs.Prelude.{ℕ, false, None, [], Ok}
+use Rattle.std.specs.Prelude.{false, None, [], Ok}
 use Rattle.meta_model.specs.CleanBuild.{Gives}
 use Rattle.run_queue.specs.Seen.{Seen}
 

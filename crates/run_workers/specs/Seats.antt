@@ -1,11 +1,10 @@
 -- What a seat knows of a run, by its own record, and how a turn changes it.
-use Rattle.std.specs.Prelude.{◌≡◌, ◌⊎◌, ◌+◌, ℕ, IsSome, List, [], ◌∷◌, ◌++◌, Bool, true, false, not, Option, Some, None, Result, Ok, Err, All}
+use Rattle.std.specs.Prelude.{◌≡◌, ◌⊎◌, ℕ, IsSome, List, [], ◌∷◌, ◌++◌, Bool, true, false, not, Option, Some, None, Result, Ok, Err, All}
 use Rattle.meta_model.specs.declared.event.Cut.{Cut}
 use Rattle.meta_model.specs.declared.event.Cut.TheVariants as cut
 use Rattle.meta_model.specs.declared.event.Event.{Event}
 use Rattle.meta_model.specs.declared.event.Event.TheVariants as events
 use Rattle.meta_model.specs.declared.event.Why.TheVariants as why
-use Rattle.meta_model.specs.declared.event.Logged.{Logged}
 use Rattle.meta_model.specs.declared.plan.Plan.{Plan}
 use Rattle.tree_model.specs.declared.text.Mem.{Mem}
 use Rattle.run_core.specs.History.{last_of}

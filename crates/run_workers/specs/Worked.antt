@@ -1,5 +1,5 @@
 -- What a worker did on its bench, by the own entries of its seat.
-use Rattle.std.specs.Prelude.{◌≡◌, ◌⊎◌, ◌+◌, ◌≤◌, ℕ, suc, List, [], ◌∷◌, ◌++◌, Bool, true, false, Option, None, IsSome, take}
+use Rattle.std.specs.Prelude.{◌≡◌, ◌⊎◌, ◌≤◌, ℕ, suc, List, [], ◌∷◌, ◌++◌, Bool, true, false, Option, IsSome, take}
 use Rattle.outside_traits.specs.Bench.{Workplace}
 use Rattle.outside_traits.specs.Fault.{Counts, Rose}
 use Rattle.meta_model.specs.declared.event.Cut.TheVariants as cut

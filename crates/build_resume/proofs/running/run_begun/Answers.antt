@@ -1,10 +1,9 @@
-use Rattle.std.proofs.Common.{◌≡◌, ◌∙◌, sym, ap, subst, refl, ℕ, List, [], ◌∷◌, ◌++◌, map}
+use Rattle.std.proofs.Common.{◌≡◌, ◌∙◌, sym, subst, ℕ, List}
 use Rattle.outside_traits.specs.Bench.{Gives}
-use Rattle.outside_traits.specs.Fault.{Counts, Rose}
-use Rattle.meta_model.specs.declared.event.Logged.{Logged}
+use Rattle.outside_traits.specs.Fault.{Rose}
 use Rattle.meta_model.specs.declared.plan.Plan.{Plan}
 use Rattle.bb_report.specs.Runs.{tale_text}
-use Rattle.run_queue.specs.Keeps.{IsSteady, Prints}
+use Rattle.run_queue.specs.Keeps.{Prints}
 use Rattle.run_queue.proofs.Steady.{steady_none}
 use Rattle.run_workers.specs.Runs.{Runs}
 use Rattle.build_resume.specs.Benches.{BreaksByFault, started_by}

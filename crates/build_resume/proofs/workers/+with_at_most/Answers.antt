@@ -57,7 +57,7 @@ returns-then-len-workers-clause-printed g t c heard told stands faultless =
     let prints = subst (λ (p : Plan). Prints base written (tale_text p.tasks now.tale) now.sink_failed) same (c.run_workers-state.ensures.text heard base first) in
     let front = subst (λ (p : Plan). IsFront (base ++ tale_text p.tasks (Rattle.std.specs.Prelude.take printed.0 now.tale)) written) same (printed.2 heard base first) in
     said_by_workers (λ b. (g.B.Bench.place b).runs) state.plan now.fault now.tale c.args.benches.items c.run_workers-state.result.1.items base written now.sink_failed printed.0 (length c.args.benches.items)
-        (has_seats (length c.args.benches.items) now.tale c.run_workers-state.ensures.seats) c.run_workers-state.ensures.benches front (λ k old new was is. printed.3 k old new was is told) printed.1 c.kept.ensures.heard prints
+    (has_seats (length c.args.benches.items) now.tale c.run_workers-state.ensures.seats) c.run_workers-state.ensures.benches front (λ k old new was is. printed.3 k old new was is told) printed.1 c.kept.ensures.heard prints
 
 pub returns-then-len-workers-clause-run : goal.returns-then-len-workers-clause-run
 returns-then-len-workers-clause-run g t c tells told gives all o same run =
@@ -91,14 +91,14 @@ returns-clause-broke g t c =
     let rest = c.take_last-bench.new.benches.items in
     let bench = c.take_last-bench.result in
     workers_pushed (λ s a b. BreaksByFault tale s (g.B.Bench.faults a) (g.B.Bench.faults b)) rest c.with_at_most-state.result.1.items c.args.benches.items c.push_reserved.new.self.items bench c.take_last-bench.ensures.items c.push_reserved.ensures.items
-        c.with_at_most-state.ensures.broke (calm_behind (length rest) (length rest + 1) (g.B.Bench.faults bench) tale (omega arith) c.with_at_most-state.ensures.seats)
+    c.with_at_most-state.ensures.broke (calm_behind (length rest) (length rest + 1) (g.B.Bench.faults bench) tale (omega arith) c.with_at_most-state.ensures.seats)
 
 pub returns-clause-printed : goal.returns-clause-printed
 returns-clause-printed g t c heard told stands faultless =
     let now = c.with_at_most-state.result.0 in
     let rest = c.take_last-bench.new.benches.items in
     said_pushed (λ b. (g.B.Bench.place b).runs) c.args.state.plan now.fault now.tale rest c.with_at_most-state.result.1.items c.args.benches.items c.push_reserved.new.self.items c.take_last-bench.result (g.W.Sink.written c.args.state.sink) (g.W.Sink.written now.sink)
-        c.take_last-bench.ensures.items c.push_reserved.ensures.items c.with_at_most-state.ensures.seats (c.with_at_most-state.ensures.printed heard told stands faultless)
+    c.take_last-bench.ensures.items c.push_reserved.ensures.items c.with_at_most-state.ensures.seats (c.with_at_most-state.ensures.printed heard told stands faultless)
 
 pub returns-clause-run : goal.returns-clause-run
 returns-clause-run g t c tells told gives all o same run =

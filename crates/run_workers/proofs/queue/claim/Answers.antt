@@ -1,4 +1,4 @@
-use Rattle.std.proofs.Common.{rules, ◌≡◌, ◌↔◌, ℕ, Some, sym, subst, ap, ◌∙◌}
+use Rattle.std.proofs.Common.{◌≡◌, ◌↔◌, ℕ, Some, sym, subst, ap, ◌∙◌}
 use Rattle.meta_model.specs.declared.event.Event.TheVariants as events
 use Rattle.run_core.specs.declared.fate.Fate.TheVariants.{Running}
 use Rattle.run_core.specs.Fates.{fate_at, IsFree}

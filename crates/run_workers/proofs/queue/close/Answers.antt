@@ -1,8 +1,5 @@
-use Rattle.std.proofs.Common.{rules, ◌≡◌, ◌↔◌, ℕ, Some, sym, subst, ap, List}
-use Rattle.meta_model.specs.declared.event.Event.TheVariants as events
-use Rattle.run_core.specs.declared.fate.Fate.TheVariants.{Running}
-use Rattle.run_core.specs.Fates.{fate_at, NoneRuns}
-use Rattle.run_core.specs.History.{last_of}
+use Rattle.std.proofs.Common.{sym, subst}
+use Rattle.run_core.specs.Fates.{NoneRuns}
 use Rattle.run_queue.specs.Seen.{RunView}
 use Rattle.run_queue.specs.Turns.{fates_of}
 use Rattle.turn_lock.specs.Seats.{view_of}

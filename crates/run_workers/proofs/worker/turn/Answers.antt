@@ -1,4 +1,4 @@
-use Rattle.std.proofs.Common.{rules, ◌≡◌, ◌++◌, ◌∷◌, [], List, Bool, sym, ◌∙◌, ap, subst, refl, Some, None, inl}
+use Rattle.std.proofs.Common.{◌++◌, List, sym, ◌∙◌, ap, subst, refl, Some, None, inl}
 use Rattle.meta_model.specs.declared.event.Event.TheVariants as events
 use Rattle.run_queue.specs.declared.state.Claim.{Claim}
 use Rattle.turn_lock.specs.Seats.{view_of}

@@ -1,4 +1,4 @@
-use Rattle.std.proofs.Common.{rules, ◌≡◌, sym, subst, arith, None, Some}
+use Rattle.std.proofs.Common.{◌≡◌, sym, subst, arith, None, Some}
 use Rattle.run_core.specs.History.{EachAfter, IsOrderly}
 use Rattle.run_queue.specs.Seen.{RunView}
 use Rattle.run_queue.specs.Turns.{fates_of}

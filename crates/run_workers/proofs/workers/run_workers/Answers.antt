@@ -1,4 +1,4 @@
-use Rattle.std.proofs.Common.{rules, ◌≡◌, ◌+◌, ◌<◌, ℕ, suc, sym, subst, arith}
+use Rattle.std.proofs.Common.{◌≡◌, ◌+◌, ◌<◌, suc, sym, subst, arith}
 use Rattle.std.specs.Prelude.{take}
 use Rattle.outside_traits.specs.Fault.{Rose}
 use Rattle.meta_model.specs.CleanBuild.{Gives}

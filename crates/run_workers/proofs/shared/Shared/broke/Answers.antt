@@ -1,7 +1,5 @@
-use Rattle.std.proofs.Common.{rules, ◌≡◌, ◌++◌, sym, subst, ap, ◌∙◌, Bool, map}
-use Rattle.run_queue.specs.Opening.{Opening}
-use Rattle.run_queue.specs.Seen.{seen}
-use Rattle.std.specs.Prelude.{refl, true}
+use Rattle.std.proofs.Common.{◌++◌, ap, ◌∙◌, map}
+use Rattle.std.specs.Prelude.{refl}
 use Rattle.meta_model.specs.declared.event.Event.TheVariants as events
 use Rattle.run_workers.specs.Seats.{tale_of}
 use Rattle.run_workers.specs.Told.{tell}

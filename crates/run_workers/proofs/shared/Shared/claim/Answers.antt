@@ -1,5 +1,4 @@
-use Rattle.std.proofs.Common.{rules, ◌≡◌, ◌++◌, sym, subst, ap, ◌∙◌, Bool, map}
-use Rattle.run_queue.specs.Opening.{Opening}
+use Rattle.std.proofs.Common.{◌++◌, sym, subst, ap, ◌∙◌, map}
 use Rattle.run_queue.specs.Seen.{seen}
 use Rattle.std.specs.Prelude.{Result, Ok}
 use Rattle.tree_model.specs.declared.text.Mem.{Mem}

@@ -1,7 +1,7 @@
-use Rattle.std.proofs.Common.{rules, ◌≡◌, ◌++◌, sym, subst, ap, ◌∙◌, Bool, map}
+use Rattle.std.proofs.Common.{◌++◌, sym, subst, ap, ◌∙◌, Bool, map}
 use Rattle.run_queue.specs.Opening.{Opening}
 use Rattle.run_queue.specs.Seen.{seen}
-use Rattle.std.specs.Prelude.{Result, true}
+use Rattle.std.specs.Prelude.{Result}
 use Rattle.tree_model.specs.declared.text.Mem.{Mem}
 use Rattle.run_queue.specs.Turns.{IsCleanJob}
 use Rattle.run_workers.specs.Seats.{EndAdds, tale_of}
