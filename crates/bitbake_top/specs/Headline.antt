@@ -17,7 +17,7 @@ use Rattle.store_model.specs.Valid.{IsValid}
 use Rattle.build_store.specs.Sound.{IsReadable}
 use Rattle.run_queue.specs.Opening.{HasFolders}
 use Rattle.run_workers.specs.Runs.{Runs}
-use Rattle.build_resume.specs.Benches.{AtSeats, BreaksByFault}
+use Rattle.build_resume.specs.Benches.{AtSeats}
 use Rattle.build_resume.specs.Build.{FailsClean, HasRun, HasTargets, IsCrash, LeavesOthers, RanStarted, failed_in, is_unsteady}
 use Rattle.build_resume.specs.Laws.{nothing}
 

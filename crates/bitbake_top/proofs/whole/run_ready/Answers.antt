@@ -1,8 +1,6 @@
-use Rattle.std.proofs.Common.{◌≡◌, ◌∙◌, ap, sym, subst, ◌∷◌, ◌++◌, [], ℕ, List, map}
-use Rattle.bb_report.specs.Texts.{plan_text}
+use Rattle.std.proofs.Common.{◌∙◌, ap, subst, ◌∷◌, [], ℕ, List, map}
 use Rattle.run_workers.specs.Runs.{Runs}
 use Rattle.build_resume.specs.Build.{RanPrinted}
-use Rattle.build_resume.specs.Outcome.{EndsAs}
 use Rattle.build_resume.proofs.Statuses.{wider_cause}
 use Rattle.bitbake_top.proofs.Begun.{certain_ample, certain_apart}
 use Rattle.bitbake_top.proofs.Devices.{none_rose, rose_from}
