@@ -1,0 +1,3 @@
+inherit program
+DEPENDS = "lines words"
+SOURCES = "meta-tools/recipes-tools/count/count.c"

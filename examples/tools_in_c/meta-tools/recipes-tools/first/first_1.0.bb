@@ -1,0 +1,3 @@
+inherit program
+DEPENDS = ""
+SOURCES = "meta-tools/recipes-tools/first/first.c"

@@ -1,0 +1,3 @@
+inherit program
+DEPENDS = "lines"
+SOURCES = "meta-tools/recipes-tools/longest/longest.c"

@@ -1,0 +1,2 @@
+/* The number that a line holds, or 0. */
+long number_of(const char *line);

@@ -1,0 +1,2 @@
+inherit library
+SOURCES = "meta/recipes-libs/words/words.c meta/recipes-libs/words/words.h"
