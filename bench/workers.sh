@@ -3,7 +3,8 @@
 # - 1,000 recipes with two tasks each, in a row, that sleep 10 ms, with 1, 2, 4, 8 and 16 threads. The ideal is the sleeping divided by the
 #   threads: at least 0.9 of it to 4 threads, and 0.75 to 16;
 # - 100 recipes with two tasks each that compute, with as many threads as there are processors, against `ninja -j` of the same number over the
-#   same scripts, where ninja is installed. At least 0.8 times as fast.
+#   same scripts, where ninja is installed. At least 0.8 times as fast;
+# - processor time of a chain of 200 tasks with 16 threads, against one: at most 1.5 times.
 # Usage: bench/workers.sh [RECIPES] (1,000 if left out)
 . "$(dirname -- "$0")/head.sh"
 built bitbake_cli
@@ -67,4 +68,17 @@ if command -v ninja >/dev/null; then
 else
     echo "100 recipes that compute, $threads threads: $ours ms; ninja isn't installed"
 fi
+
+mkdir -p "$scratch/chain/conf" "$scratch/chain/recipes"
+awk 'BEGIN {
+    for (n = 1; n <= 200; n++) printf "do_t%d() {\n    echo %d > out\n}\naddtask t%d%s\n", n, n, n, (n > 1 ? " after do_t" n - 1 : "")
+    print "do_build[noexec] = \"1\"\naddtask build after do_t200"
+}' >"$scratch/chain/recipes/chain.bb"
+for threads in 1 16; do
+    echo "BB_NUMBER_THREADS = \"$threads\"" >"$scratch/chain/conf/bitbake.conf"
+    each=$(for _ in 1 2 3; do rm -rf "$scratch/chain/build"; spent "$scratch/chain" "$program" chain; done | sort -n | head -n 1)
+    echo "a chain of 200 tasks, $threads threads: $each ms of processor time"
+    [ "$threads" -ne 1 ] || alone=$each
+done
+aim 'a chain with 16 threads' 'v1 <= 1.5 * v2' "$each" "$alone"
 finish

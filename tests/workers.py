@@ -219,7 +219,8 @@ def waiting(program):
             if status != 0:
                 yield f"a chain of tasks with {threads} threads", f"status {status}"
                 return
-        yield "a chain of tasks with 16 workers", None if took[16] <= 1.5 * took[1] else f"{took[16]:.2f} s of processor time, and {took[1]:.2f} s with one"
+        # (bench/workers.sh measures what they cost; who doesn't sleep costs many times as much)
+        yield "a chain of tasks with 16 workers", None if took[16] <= 4 * took[1] else f"{took[16]:.2f} s of processor time, and {took[1]:.2f} s with one"
 
 
 def example(program, name, target, status=0):
