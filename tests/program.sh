@@ -542,7 +542,7 @@ runs "$program" hello
 wants "a run behind it" 0 "$found_text"
 holds "without a fault nothing is said" test ! -s "$room/said"
 
-# A script that outlives a killed run keeps its bench. The task is done on another one then.
+# A script that outlives a killed run keeps its bench. The task is done on another one then; what is answered is that a bench failed.
 project orphan
 one_worker
 recipe hello 'echo >started; i=0; while test ! -e ../../../../go -a $i -lt 100; do i=$((i + 1)); sleep 0.1; done; rm started; echo hello > hello.txt'
@@ -555,12 +555,12 @@ done
 kill -9 "$first" && wait "$first" 2>/dev/null
 recipe hello 'echo other > hello.txt'
 runs "$program" hello
-wants "a run beside the script of a killed one" 0 "plan 1 tasks, 1 threads
+wants "a run beside the script of a killed one" 5 "plan 1 tasks, 1 threads
 started hello:do_build
 broke hello:do_build bench
 started hello:do_build
 ended hello:do_build
-ok 0 found, 0 restored, 2 started"
+fault 5 bench"
 holds "it says that the script is at work" grep -qx 'bitbake: bench: clearing of build/bench/0: a script of an earlier run is still at work there' "$room/said"
 holds "the script's folder stays" test -e build/bench/0/work/started
 holds "the run's own output" test "$(cat build/work/hello/do_build/hello.txt)" = other

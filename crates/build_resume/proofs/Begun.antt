@@ -23,7 +23,7 @@ use Rattle.run_workers.specs.Runs.{RanScripts, RanThese, Runs, by_bench}
 use Rattle.build_resume.specs.Benches.{started_by}
 use Rattle.build_resume.specs.Build.{RanJust, RanStarted}
 use Rattle.build_resume.specs.Drive.{Drove, Grows, IsHalted, RanOn, WentOn}
-use Rattle.build_resume.specs.Ends.{EndsBy, status_by, status_of}
+use Rattle.build_resume.specs.Ends.{EndsBy, halt_by, status_by, status_of}
 use Rattle.build_resume.specs.Outcome.{EndsAs, KeptTo}
 use Rattle.run_workers.specs.declared.worker.Halt.{Halt}
 use Rattle.run_workers.specs.declared.worker.Halt.TheVariants as halt
@@ -100,6 +100,16 @@ ends_as sink old last h tale s same tale_is halted told = record {
       | inl failed ↦ absurd (false≢true (sym calm ∙ failure_told (Rattle.std.specs.Prelude.length last.plan.tasks) last.tale failed.0))
       | inr fault ↦ absurd (some_none last.fault none fault)
     ]
+
+-- what broke a task in a tale comes before why the calling thread halted
+halted_by : {D W : Type 0} (last : RunView D W) (h : Halt) (bench memory : Bool) → IsHalted last h → IsHalted last (halt_by h bench memory)
+halted_by last h true memory halted = tt
+halted_by last h false true halted = tt
+halted_by last h false false halted = halted
+
+pub ends_by : {D W : Type 0} (sink : Type 0) (old last : RunView D W) (h by : Halt) (bench memory : Bool) (tale : List Logged) (s : Status) → by ≡ halt_by h bench memory → SameRun old last → tale ≡ last.tale → IsHalted last h → EndsSo sink last.fault by (has_failure last.tale) s → EndsAs old.plan old.options tale s
+ends_by sink old last h by bench memory tale s is same tale_is halted told =
+    ends_as sink old last by tale s same tale_is (subst (IsHalted last) (sym is) (halted_by last h bench memory halted)) told
 
 -- ---- what was kept
 

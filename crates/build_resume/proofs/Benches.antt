@@ -1,5 +1,6 @@
 -- What each bench of a row did.
 use Rattle.std.proofs.Common.{◌≡◌, ◌≢◌, ◌∙◌, ap, sym, subst, refl, ℕ, zero, suc, ◌+◌, ◌<◌, List, [], ◌∷◌, ◌++◌, append-nil, arith, length, map, get_or, All, Some, inl, inr}
+use Rattle.std.specs.Prelude.{slice_index}
 use Rattle.std.specs.List.{slice_get}
 use Rattle.std.proofs.lemmas.List.{get_or_append_left, length-append, length-map, map-append}
 use Rattle.std.proofs.lemmas.Option.{none-some, same_Some}
@@ -144,3 +145,39 @@ broke_behind before now old tale more none is by b = elim (Rattle.build_resume.p
 -- without a tale none did
 pub broke_nothing : (tale : List Logged) → tale ≡ [] → (seat count : ℕ) → BreaksByFault tale seat count count
 broke_nothing tale none seat count b = absurd (breaks_nil seat (subst (BreaksBench seat) none b))
+
+-- ---- a seat's bench that rose
+
+module _ {tale : List Logged} (before now : List ℕ) (s : AtSeats (BreaksByFault tale) before now) where
+  long_now : length s.workers_now ≡ length s.workers
+  long_now = s.others.long
+
+  -- the numbers of a row, and the last one behind them
+  in_row : (xs ys row : List ℕ) (y : ℕ) (k : ℕ) → ys ≡ row ++ y ∷ [] → k < length row → slice_index ys k ≡ get_or row k 0
+  in_row xs ys row y k is lt = ap (λ l. get_or l k 0) is ∙ get_or_append_left row (y ∷ []) 0 k lt
+
+  row_get : (row : List ℕ) (k : ℕ) → k < length row → slice_get row k ≡ Some (get_or row k 0)
+  row_get [] k lt = absurd (omega (arith, lt))
+  row_get (x ∷ row) zero lt = refl
+  row_get (x ∷ row) (suc k) lt = row_get row k (omega (arith, lt))
+
+  at_end : (ys row : List ℕ) (y k : ℕ) → ys ≡ row ++ y ∷ [] → k ≡ length row → slice_index ys k ≡ y
+  at_end ys row y k is e = ap (λ l. get_or l k 0) is ∙ ap (λ n. get_or (row ++ y ∷ []) n 0) e ∙ get_or-append_seam row y [] 0
+
+  long_all : length before ≡ length s.workers + 1
+  long_all = ap length s.was ∙ length-append s.workers (s.last ∷ [])
+
+  -- where a task of a seat broke off since its bench failed, the count of one bench rose
+  pub rose_by : (seat : ℕ) → BreaksBench seat tale → seat < length before → SomeRose before now
+  rose_by zero b lt =
+      let was : slice_index before (length s.workers) ≡ s.last = at_end before s.workers s.last (length s.workers) s.was refl in
+      let is : slice_index now (length s.workers) ≡ s.last_now = at_end now s.workers_now s.last_now (length s.workers) s.is (sym long_now) in
+      (length s.workers, (let l = long_all in omega (arith, l)), subst (λ n. Rose n (slice_index now (length s.workers))) (sym was) (subst (Rose s.last) (sym is) (s.alone b)))
+  rose_by (suc k) b lt =
+      let within : k < length s.workers = (let l = long_all in omega (arith, l, lt)) in
+      let within_now : k < length s.workers_now = (let l = long_now in omega (arith, l, within)) in
+      let was = in_row before before s.workers s.last k s.was within in
+      let is = in_row now now s.workers_now s.last_now k s.is within_now in
+      let one : suc k ≡ k + 1 = omega arith in
+      let rose : Rose (get_or s.workers k 0) (get_or s.workers_now k 0) = s.others.each k (get_or s.workers k 0) (get_or s.workers_now k 0) (row_get s.workers k within) (row_get s.workers_now k within_now) (subst (λ n. BreaksBench n tale) one b) in
+      (k, (let l = long_all in omega (arith, l, lt)), subst (λ n. Rose n (slice_index now k)) (sym was) (subst (Rose (get_or s.workers k 0)) (sym is) rose))

@@ -19,6 +19,9 @@ reports_on plan tale base new before old count s counts (inl whole) = inl whole
 reports_on plan tale base new before old count s counts (inr cut) = inr (subst (λ (n : ℕ). Rose n count) counts.stayed cut.0, cut.1)
 
 -- a sink that rose stays risen
+pub rose_from : (before mid now : ℕ) → before ≤ mid → Rose mid now → Rose before now
+rose_from before mid now lt rose = omega (arith, lt, rose)
+
 pub rose_on : (before now later : ℕ) → Rose before now → now ≤ later → Rose before later
 rose_on before now later rose le = omega (arith, rose, le)
 

@@ -1,6 +1,6 @@
 -- Which seats marked what in a tale.
 use Rattle.std.proofs.Common.{◌≡◌, ◌≢◌, ◌∙◌, sym, ap, refl, ℕ, zero, suc, Bool, true, List, [], ◌∷◌, ◌++◌, Some, inl, inr}
-use Rattle.std.specs.Prelude.{◌⊎◌, ◌==◌, if◌then◌else◌}
+use Rattle.std.specs.Prelude.{◌⊎◌, ◌==◌, ◌||◌, false, if◌then◌else◌}
 use Rattle.std.specs.List.{slice_get}
 use Rattle.std.proofs.lemmas.Bool.Decides.{eqb_tells}
 use Rattle.std.proofs.lemmas.List.Elements.{filter-append}
@@ -11,7 +11,9 @@ use Rattle.meta_model.specs.declared.event.Logged.{Logged}
 use Rattle.run_workers.specs.Runs.{started_in}
 use Rattle.run_workers.specs.Told.{own}
 use Rattle.run_workers.specs.Worked.{is_bench_break}
-use Rattle.build_resume.specs.Benches.{BreaksBench, started_by}
+use Rattle.build_resume.specs.Benches.{BreaksBench, SomeBreak, started_by}
+use Rattle.build_resume.specs.Ends.{bench_broke}
+use Rattle.std.proofs.lemmas.Bool.{false≢true}
 use Rattle.build_resume.specs.Drive.{IsAlone}
 
 -- ---- what a seat started
@@ -90,3 +92,14 @@ breaks_before seat old more other alone b = elim (breaks_split seat old more b) 
   | inl before ↦ before
   | inr later ↦ absurd (other (sym later.of ∙ alone.seats later.place later.entry later.is_entry))
 ]
+
+-- a task that broke off since its bench failed, by the test of a tale
+pub some_break : (tale : List Logged) → bench_broke tale ≡ true → SomeBreak tale
+some_break [] e = absurd (false≢true e)
+some_break (x ∷ tale) e = by (is_bench_break x.event) refl (λ more. some_break tale more) e
+  where
+    by : (b : Bool) → is_bench_break x.event ≡ b → (bench_broke tale ≡ true → SomeBreak tale) → (b || bench_broke tale) ≡ true → SomeBreak (x ∷ tale)
+    by true is later one = (x.seat, record { place = 0; entry = x; is_entry = refl; of = refl; breaks = is })
+    by false is later one =
+        let rest = later one in
+        (rest.0, record { place = suc rest.1.place; entry = rest.1.entry; is_entry = rest.1.is_entry; of = rest.1.of; breaks = rest.1.breaks })

@@ -1,6 +1,6 @@
 -- Which statuses come.
-use Rattle.std.proofs.Common.{◌≡◌, ◌∙◌, append_assoc, sym, ap, refl, ℕ, arith, Bool, true, false, List, ◌++◌, Some, None, Ok, Err, inl, inr}
-use Rattle.std.specs.Prelude.{◌≢◌, ◌↔◌, Option, OnErr, OnOk, Result}
+use Rattle.std.proofs.Common.{◌≡◌, ◌∙◌, append_assoc, sym, ap, subst, refl, ℕ, arith, Bool, true, false, List, ◌++◌, Some, None, Ok, Err, inl, inr}
+use Rattle.std.specs.Prelude.{◌≢◌, ◌↔◌, Option, IfSome, OnErr, OnOk, Result, if◌then◌else◌}
 use Rattle.std.proofs.lemmas.Bool.{false≢true}
 use Rattle.outside_traits.specs.Fault.{Counts, Rose, sink_failed}
 use Rattle.outside_traits.specs.declared.fault.SinkFault.{SinkFault}
@@ -16,7 +16,7 @@ use Rattle.build_store.specs.declared.fault.StoreFault.{StoreFault}
 use Rattle.build_store.specs.declared.fault.StoreFault.TheVariants as fault
 use Rattle.run_queue.specs.declared.fault.RunFault.{RunFault}
 use Rattle.run_queue.specs.declared.fault.RunFault.TheVariants as kept
-use Rattle.run_queue.specs.Keeps.{IsFront, IsSteady, IsSteadyAnswer}
+use Rattle.run_queue.specs.Keeps.{IsCause, IsFront, IsSteady, IsSteadyAnswer, IsStoreCause}
 use Rattle.run_queue.proofs.Printed.{front_all, front_some}
 use Rattle.build_resume.specs.Build.{MayEndSo, WritesReport, is_collision, is_unsteady}
 use Rattle.build_resume.specs.Ends.{EndsBy, is_plain, status_at, status_by, status_of}
@@ -96,6 +96,30 @@ refused_never sink fault.Memory before now s out counts (inr (inl is)) none sink
 refused_never sink fault.Memory before now s out counts (inr (inr is)) none sink_none memory = sink_none is.2
 refused_never sink (fault.Collision name held given) before now s out counts by none sink_none memory = absurd out
 refused_never sink (fault.Unsteady pn task held given) before now s out counts by none sink_none memory = absurd out
+
+-- each cause that a run may end by is one that it met
+pub ended_cause : (disk : ℕ) (failed fails : Bool) (bench sink sinks : Type 0) (f : Option RunFault) (h : Halt) (s : Status) → IfSome f (IsCause disk failed) → (failed ≡ true → sink) → (sinks → sink) → (h ≡ halt.Bench → bench) → EndsBy sinks (status_by f h fails) s → MayEndSo disk bench sink s
+ended_cause disk failed fails bench sink sinks f h s cause write more_write broke (inl is) = subst (MayEndSo disk bench sink) (sym is) (by f h cause broke)
+  where
+    calm : (b : Bool) → MayEndSo disk bench sink (if b then status.TaskFailed else status.Ok)
+    calm true = tt
+    calm false = tt
+
+    stored : (x : StoreFault) → IsStoreCause disk x → MayEndSo disk bench sink (status_of x)
+    stored fault.Disk c = c
+    stored (fault.Collision name held given) c = c
+    stored (fault.Unsteady pn task held given) c = c
+    stored fault.Memory c = tt
+
+    by : (x : Option RunFault) (y : Halt) → IfSome x (IsCause disk failed) → (y ≡ halt.Bench → bench) → MayEndSo disk bench sink (status_by x y fails)
+    by (Some (kept.Store x)) y c b = stored x c
+    by (Some kept.Write) y c b = write c
+    by None halt.Finished c b = calm fails
+    by None halt.Stopped c b = calm fails
+    by None halt.Memory c b = tt
+    by None halt.Bench c b = b refl
+ended_cause disk failed fails bench sink sinks f h s cause write more_write broke (inr (inl is)) = subst (MayEndSo disk bench sink) (sym is) tt
+ended_cause disk failed fails bench sink sinks f h s cause write more_write broke (inr (inr is)) = subst (MayEndSo disk bench sink) (sym is.0) (more_write is.2)
 
 -- ---- exactly
 

@@ -20,7 +20,7 @@ use Rattle.run_workers.specs.Told.{own}
 use Rattle.run_workers.specs.Worked.{Breaks, NoneBroke, RanPrinted, is_bench_break, is_break}
 use Rattle.build_resume.specs.Benches.{AtWorkers, BreaksBench, BreaksByFault, HasSeats, started_by}
 use Rattle.build_resume.specs.Build.{RanJust, RanStarted}
-use Rattle.build_resume.specs.Drive.{SaidByWorkers}
+use Rattle.build_resume.specs.Drive.{IsAlone, SaidByWorkers}
 
 -- ---- entries of a seat
 
@@ -232,3 +232,10 @@ said_pushed runs plan fault tale before now old new x base written was is has sa
   is = said.is;
   whole = said.whole;
 }
+
+-- the seat of a break is that of a bench, where the calling thread went on alone
+pub break_seat : (n : ℕ) (mid more tale : List Logged) → tale ≡ mid ++ more → IsAlone more → HasSeats n mid → (seat : ℕ) → BreaksBench seat tale → seat < n + 1
+break_seat n mid more tale is alone has seat b = elim (two_places mid more b.place b.entry (ap (λ (l : List Logged). slice_get l b.place) (sym is) ∙ b.is_entry)) [
+  | inl first ↦ let h = (has b.place b.entry first).1 in let o = b.of in omega (arith, h, o)
+  | inr later ↦ let z = alone.seats later.0 b.entry later.1 in let o = b.of in omega (arith, z, o)
+]

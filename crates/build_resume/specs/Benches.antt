@@ -46,6 +46,10 @@ pub record BreaksBench (seat : ℕ) (tale : List Logged) : Type 0 where
   pub of : entry.seat ≡ seat
   pub breaks : is_bench_break entry.event ≡ true
 
+-- a task of some seat broke off since its bench failed
+abbrev pub SomeBreak : List Logged → Type 0
+SomeBreak tale = (seat : ℕ) × BreaksBench seat tale
+
 -- where a seat's task broke off since its bench failed, the count of that bench rose
 abbrev pub BreaksByFault : List Logged → ℕ → ℕ → ℕ → Type 0
 BreaksByFault tale seat before now = BreaksBench seat tale → Rose before now

@@ -1,5 +1,10 @@
 -- How a run ends.
-use Rattle.std.specs.Prelude.{◌≡◌, ◌⊎◌, Bool, true, false, Option, Some, None, if◌then◌else◌}
+use Rattle.std.specs.Prelude.{List, ◌≡◌, ◌⊎◌, Bool, true, false, Option, Some, None, if◌then◌else◌}
+use Rattle.std.specs.List.{list_any}
+use Rattle.meta_model.specs.declared.event.Cut.TheVariants as cut
+use Rattle.meta_model.specs.declared.event.Event.{Event}
+use Rattle.meta_model.specs.declared.event.Event.TheVariants as events
+use Rattle.meta_model.specs.declared.event.Logged.{Logged}
 use Rattle.meta_model.specs.declared.event.Status.{Status}
 use Rattle.meta_model.specs.declared.event.Status.TheVariants as status
 use Rattle.build_store.specs.declared.fault.StoreFault.{StoreFault}
@@ -8,6 +13,25 @@ use Rattle.run_queue.specs.declared.fault.RunFault.{RunFault}
 use Rattle.run_queue.specs.declared.fault.RunFault.TheVariants as kept
 use Rattle.run_workers.specs.declared.worker.Halt.{Halt}
 use Rattle.run_workers.specs.declared.worker.Halt.TheVariants as halt
+use Rattle.run_workers.specs.Worked.{is_bench_break}
+
+-- the event is that a task broke off since memory was wanting
+abbrev pub is_memory_break : Event → Bool
+is_memory_break (events.Broke t cut.Memory) = true
+is_memory_break _ = false
+
+-- a task broke off in a tale since its bench failed, or since memory was wanting
+abbrev pub bench_broke : List Logged → Bool
+bench_broke tale = list_any (λ l. is_bench_break l.event) tale
+
+abbrev pub memory_broke : List Logged → Bool
+memory_broke tale = list_any (λ l. is_memory_break l.event) tale
+
+-- Why a run ends, by why the calling thread halted: in its place come a bench that failed, and then want of memory, if that broke a task.
+abbrev pub halt_by : Halt → Bool → Bool → Halt
+halt_by h true memory = halt.Bench
+halt_by h false true = halt.Memory
+halt_by h false false = h
 
 -- a fault of the store, as a status
 abbrev pub status_of : StoreFault → Status

@@ -8,11 +8,13 @@ ghost use Rattle.meta_model.specs.declared.plan.Plan.{Plan as ThePlan};
 ghost use Rattle.bb_report.specs.Runs.{has_failure, last_line, tale_text};
 ghost use Rattle.run_queue.specs.Keeps.{IsFront, Prints};
 ghost use Rattle.build_resume.specs.Build.{WritesReport, failed_by, failed_in};
-ghost use Rattle.build_resume.specs.Ends.{EndsBy, is_plain, status_at, status_by, status_of};
+ghost use Rattle.run_workers.specs.declared.worker.Halt.TheVariants as halts;
+ghost use Rattle.build_resume.specs.Benches.{SomeBreak};
+ghost use Rattle.build_resume.specs.Ends.{EndsBy, bench_broke, halt_by, is_plain, memory_broke, status_at, status_by, status_of};
 
 use bb_report::{end_text, fault_text, write_all};
 use build_store::StoreFault;
-use meta_model::{Event, Logged, Plan, Status};
+use meta_model::{Cut, Event, Logged, Plan, Status};
 use outside_traits::Sink;
 use run_queue::RunFault;
 use run_workers::Halt;
@@ -47,6 +49,50 @@ fn some_failed(tale: &[Logged]) -> bool
 {
     tale.iter()
         .any(|logged| matches!(logged.event, Event::Failed { .. }))
+}
+
+/// Whether a task broke off in a tale since its bench failed.
+fn some_by_bench(tale: &[Logged]) -> bool
+    ensures { result ≡ bench_broke tale.now }
+{
+    tale.iter().any(|logged| {
+        matches!(
+            logged.event,
+            Event::Broke {
+                task: _,
+                cut: Cut::Bench
+            }
+        )
+    })
+}
+
+/// Whether a task broke off in a tale since memory was wanting.
+fn some_by_memory(tale: &[Logged]) -> bool
+    ensures { result ≡ memory_broke tale.now }
+{
+    tale.iter().any(|logged| {
+        matches!(
+            logged.event,
+            Event::Broke {
+                task: _,
+                cut: Cut::Memory
+            }
+        )
+    })
+}
+
+/// Why a run ends, by why the calling thread halted, and by what broke tasks in the tale: a bench that failed comes first, then want of memory.
+pub(crate) fn halt_of_run(halt: Halt, tale: &[Logged]) -> Halt
+    ensures is { result ≡ halt_by halt (bench_broke tale.now) (memory_broke tale.now) }
+    ensures bench { result ≡ halts.Bench → (halt ≡ halts.Bench) ⊎ SomeBreak tale.now }
+{
+    if some_by_bench(tale) {
+        return Halt::Bench;
+    }
+    if some_by_memory(tale) {
+        return Halt::Memory;
+    }
+    halt
 }
 
 /// How a run ends in which no fault was met.

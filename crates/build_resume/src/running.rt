@@ -14,7 +14,7 @@ ghost use Rattle.run_queue.specs.Seen.{seen};
 ghost use Rattle.run_queue.specs.Turns.{fates_of};
 ghost use Rattle.meta_model.specs.declared.event.Logged.{Logged as Entry};
 ghost use Rattle.run_workers.specs.Runs.{Runs};
-ghost use Rattle.build_resume.specs.Benches.{AtSeats, BreaksByFault, SomeRose};
+ghost use Rattle.build_resume.specs.Benches.{AtSeats, BreaksByFault, SomeBreak, SomeRose};
 ghost use Rattle.build_resume.specs.Build.{AllClean, IsEntry, Leaves, MayEndSo, RanPrinted, RanStarted, WritesReport, failed_in, is_collision, is_unsteady};
 ghost use Rattle.build_resume.specs.Drive.{RanOn, RanSaid, SaidTo, WentOn};
 ghost use Rattle.build_resume.specs.Ends.{EndsBy, status_by};
@@ -22,7 +22,8 @@ ghost use Rattle.build_resume.specs.Outcome.{EndsAs, KeptTo};
 
 use crate::drive::drive;
 use crate::ending::{
-    end_wanting, failed_for, status_of_run, status_of_store, tell_end, tell_unless, want_unless,
+    end_wanting, failed_for, halt_of_run, status_of_run, status_of_store, tell_end, tell_unless,
+    want_unless,
 };
 use crate::workers::{take_last, with_workers};
 use build_store::{OpenRefused, Store, open_store};
@@ -129,7 +130,7 @@ fn finish<D: Disk, B: Bench, W: Sink>(
     ensures ends { EndsAs state.plan state.options result.tale.items result.status }
     ensures failed { result.status ≡ ends.TaskFailed → result.failed.items ≡ failed_in result.tale.items }
     ensures text { W.tells → (base : List ℕ) (before : ℕ) → Prints base (W.written state.sink) (tale_text state.plan.tasks state.tale) state.sink_failed → Counts before (W.faults state.sink) state.sink_failed → WritesReport (Rose before (W.faults result.sink)) base (W.written result.sink) state.plan result.tale.items result.status }
-    ensures cause { (before : ℕ) → Counts before (W.faults state.sink) state.sink_failed → MayEndSo (D.faults result.disk) (Rose (B.faults last.old) (B.faults last.new)) (Rose before (W.faults result.sink)) result.status }
+    ensures cause { (before : ℕ) → Counts before (W.faults state.sink) state.sink_failed → MayEndSo (D.faults result.disk) (Rose (B.faults last.old) (B.faults last.new) ⊎ SomeBreak result.tale.items) (Rose before (W.faults result.sink)) result.status }
     ensures run { D.tells → B.tells → (o : Opening) → o.gives ≡ B.gives last.old → IsRun o (seen D.story W.written state) → KeptTo o state.plan state.options result.tale.items (D.story result.disk) × RanOn (B.gives last.old) state.plan state.tale result.tale.items (B.place last.old).runs (B.place last.new).runs }
     ensures printed { W.tells → B.tells → (from : List Entry) (base : List ℕ) (before : Runs) → RanSaid state.plan None state.fault from state.tale before (B.place last.old).runs base (W.written state.sink) → SaidTo state.plan from result.tale.items before (B.place last.new).runs base (W.written result.sink) }
     ensures lawful { D.tells → IsLawful (D.story result.disk) }
@@ -137,7 +138,9 @@ fn finish<D: Disk, B: Bench, W: Sink>(
 {
     let halt = drive(alloc, &mut state, last);
     state.kept();
-    conclude(alloc, state.into_parts(), halt)
+    let parts = state.into_parts();
+    let halt = halt_of_run(halt, parts.tale.as_slice());
+    conclude(alloc, parts, halt)
 }
 
 /// Runs what has begun to its end: the workers' turns, and then those of the calling thread on the last bench.

@@ -92,6 +92,7 @@ where
     ensures same { SameRun state result.0 }
     ensures none { NoneRuns (fates_of result.0) }
     ensures seats { started_by 0 result.0.tale ≡ [] }
+    ensures wide { HasSeats (length benches.items) result.0.tale }
     ensures calm { BreaksBench 0 result.0.tale → ⊥ }
     ensures sink { (before : ℕ) → Counts before (W.faults state.sink) state.sink_failed → Counts before (W.faults result.0.sink) result.0.sink_failed }
     ensures text { W.tells → (base : List ℕ) → Prints base (W.written state.sink) (tale_text state.plan.tasks state.tale) state.sink_failed → Prints base (W.written result.0.sink) (tale_text state.plan.tasks result.0.tale) result.0.sink_failed }

@@ -1,50 +1,55 @@
-use Rattle.std.proofs.Common.{◌≡◌, ◌∙◌, sym, subst, ℕ, List, true}
-use Rattle.std.specs.Prelude.{◌⊎◌, Bool}
+use Rattle.std.proofs.Common.{◌≡◌, ◌∙◌, sym, ap, subst, ℕ, List, Some, true, inl, inr}
+use Rattle.std.specs.Prelude.{◌⊎◌, Bool, IfSome}
 use Rattle.outside_traits.specs.Fault.{Counts, Rose}
 use Rattle.meta_model.specs.declared.event.Logged.{Logged}
 use Rattle.meta_model.specs.declared.plan.Plan.{Plan}
 use Rattle.bb_report.specs.Runs.{has_failure, tale_text}
-use Rattle.run_queue.specs.Keeps.{IsFront, IsSteady, Prints}
-use Rattle.build_resume.proofs.Begun.{EndsSo, ends_as, kept_to, ran_on, went_on}
-use Rattle.build_resume.proofs.Reports.{reports_as}
+use Rattle.run_queue.specs.Keeps.{IsCause, IsFront, IsSteady, Prints}
+use Rattle.build_resume.specs.Ends.{bench_broke, memory_broke}
+use Rattle.build_resume.proofs.Begun.{EndsSo, ends_by, kept_to, ran_on, went_on}
+use Rattle.build_resume.proofs.Reports.{reports_as, rose_from, rose_on}
 use Rattle.build_resume.proofs.Printing.{grew, said_last}
-use Rattle.build_resume.proofs.Statuses.{ended_steady}
+use Rattle.build_resume.proofs.Statuses.{ended_cause, ended_steady}
+use Rattle.build_resume.specs.Benches.{SomeBreak}
+use Rattle.run_workers.specs.Runs.{by_bench}
+use Rattle.run_workers.specs.declared.worker.Halt.TheVariants as halts
 use Rattle.build_resume.proofs.running.finish.Goals as goal
 
 pub returns-clause-ends : goal.returns-clause-ends
 returns-clause-ends g c =
-    let parts = c.into_parts.ensures in
-    let sink : Type 0 = (c.into_parts.result.sink_failed ≡ true) ⊎ Rose (g.W.Sink.faults c.into_parts.result.sink) (g.W.Sink.faults c.conclude.result.sink) in
-    let told : EndsSo sink c.drive-halt.new.state.fault c.drive-halt.result (has_failure c.drive-halt.new.state.tale) c.conclude.result.status =
-    subst (λ f. EndsSo sink f c.drive-halt.result (has_failure c.drive-halt.new.state.tale) c.conclude.result.status) parts.fault
-    (subst (λ (l : List Logged). EndsSo sink c.into_parts.result.fault c.drive-halt.result (has_failure l) c.conclude.result.status) parts.tale c.conclude.ensures.status) in
-    ends_as sink c.args.state c.drive-halt.new.state c.drive-halt.result c.conclude.result.tale.items c.conclude.result.status c.drive-halt.ensures.same (c.conclude.ensures.tale ∙ parts.tale) c.drive-halt.ensures.halted told
+    let parts = c.into_parts-parts.ensures in
+    let sink : Type 0 = (c.into_parts-parts.result.sink_failed ≡ true) ⊎ Rose (g.W.Sink.faults c.into_parts-parts.result.sink) (g.W.Sink.faults c.conclude.result.sink) in
+    let by = c.halt_of_run-halt.result in
+    let told : EndsSo sink c.drive-halt.new.state.fault by (has_failure c.drive-halt.new.state.tale) c.conclude.result.status =
+    subst (λ f. EndsSo sink f by (has_failure c.drive-halt.new.state.tale) c.conclude.result.status) parts.fault
+    (subst (λ (l : List Logged). EndsSo sink c.into_parts-parts.result.fault by (has_failure l) c.conclude.result.status) parts.tale c.conclude.ensures.status) in
+    ends_by sink c.args.state c.drive-halt.new.state c.drive-halt.result by (bench_broke c.as_slice.result.now) (memory_broke c.as_slice.result.now) c.conclude.result.tale.items c.conclude.result.status c.halt_of_run-halt.ensures.is c.drive-halt.ensures.same (c.conclude.ensures.tale ∙ parts.tale) c.drive-halt.ensures.halted told
 
 pub returns-clause-went : goal.returns-clause-went
 returns-clause-went g c =
-    went_on c.drive-halt.result c.args.state.tale c.drive-halt.new.state.tale c.conclude.result.tale.items (g.B.Bench.faults c.args.last.now) (g.B.Bench.faults c.drive-halt.new.bench) (c.conclude.ensures.tale ∙ c.into_parts.ensures.tale) c.drive-halt.ensures.grows c.drive-halt.ensures.cause
+    went_on c.drive-halt.result c.args.state.tale c.drive-halt.new.state.tale c.conclude.result.tale.items (g.B.Bench.faults c.args.last.now) (g.B.Bench.faults c.drive-halt.new.bench) (c.conclude.ensures.tale ∙ c.into_parts-parts.ensures.tale) c.drive-halt.ensures.grows c.drive-halt.ensures.cause
 
 pub returns-clause-text : goal.returns-clause-text
 returns-clause-text g c heard base before first counts =
-    let parts = c.into_parts.ensures in
+    let parts = c.into_parts-parts.ensures in
     let last = c.drive-halt.new.state in
     let after : Prints base (g.W.Sink.written last.sink) (tale_text c.args.state.plan.tasks last.tale) last.sink_failed = c.drive-halt.ensures.text heard base first in
     let counted : Counts before (g.W.Sink.faults last.sink) last.sink_failed = c.drive-halt.ensures.sink before counts in
-    let plan : c.into_parts.result.plan ≡ c.args.state.plan = parts.plan ∙ c.drive-halt.ensures.same.plan in
-    let prints : Prints base (g.W.Sink.written c.into_parts.result.sink) (tale_text c.into_parts.result.plan.tasks c.into_parts.result.tale.items) c.into_parts.result.sink_failed =
-    subst (λ (p : Plan). Prints base (g.W.Sink.written c.into_parts.result.sink) (tale_text p.tasks c.into_parts.result.tale.items) c.into_parts.result.sink_failed) (sym plan)
-    (subst (λ x. Prints base (g.W.Sink.written x) (tale_text c.args.state.plan.tasks c.into_parts.result.tale.items) c.into_parts.result.sink_failed) (sym parts.sink)
-    (subst (λ (l : List Logged). Prints base (g.W.Sink.written last.sink) (tale_text c.args.state.plan.tasks l) c.into_parts.result.sink_failed) (sym parts.tale)
+    let plan : c.into_parts-parts.result.plan ≡ c.args.state.plan = parts.plan ∙ c.drive-halt.ensures.same.plan in
+    let prints : Prints base (g.W.Sink.written c.into_parts-parts.result.sink) (tale_text c.into_parts-parts.result.plan.tasks c.into_parts-parts.result.tale.items) c.into_parts-parts.result.sink_failed =
+    subst (λ (p : Plan). Prints base (g.W.Sink.written c.into_parts-parts.result.sink) (tale_text p.tasks c.into_parts-parts.result.tale.items) c.into_parts-parts.result.sink_failed) (sym plan)
+    (subst (λ x. Prints base (g.W.Sink.written x) (tale_text c.args.state.plan.tasks c.into_parts-parts.result.tale.items) c.into_parts-parts.result.sink_failed) (sym parts.sink)
+    (subst (λ (l : List Logged). Prints base (g.W.Sink.written last.sink) (tale_text c.args.state.plan.tasks l) c.into_parts-parts.result.sink_failed) (sym parts.tale)
     (subst (λ (b : Bool). Prints base (g.W.Sink.written last.sink) (tale_text c.args.state.plan.tasks last.tale) b) (sym parts.sink_failed) after))) in
-    let risen : Counts before (g.W.Sink.faults c.into_parts.result.sink) c.into_parts.result.sink_failed =
-    subst (λ x. Counts before (g.W.Sink.faults x) c.into_parts.result.sink_failed) (sym parts.sink)
+    let risen : Counts before (g.W.Sink.faults c.into_parts-parts.result.sink) c.into_parts-parts.result.sink_failed =
+    subst (λ x. Counts before (g.W.Sink.faults x) c.into_parts-parts.result.sink_failed) (sym parts.sink)
     (subst (λ (b : Bool). Counts before (g.W.Sink.faults last.sink) b) (sym parts.sink_failed) counted) in
-    reports_as c.args.state.plan c.into_parts.result.plan c.conclude.result.tale.items c.into_parts.result.tale.items base (g.W.Sink.written c.conclude.result.sink) c.conclude.result.status plan (sym c.conclude.ensures.tale)
+    reports_as c.args.state.plan c.into_parts-parts.result.plan c.conclude.result.tale.items c.into_parts-parts.result.tale.items base (g.W.Sink.written c.conclude.result.sink) c.conclude.result.status plan (sym c.conclude.ensures.tale)
     (c.conclude.ensures.text heard base before prints risen)
 
 pub returns-clause-run : goal.returns-clause-run
 returns-clause-run g c tells told o gives run =
-    let parts = c.into_parts.ensures in
+    let parts = c.into_parts-parts.ensures in
     let last = c.drive-halt.new.state in
     let did = c.drive-halt.ensures.run tells told o gives run in (
       kept_to g.D.Disk.story g.W.Sink.written o c.args.state last c.conclude.result.disk c.conclude.result.tale.items c.drive-halt.ensures.same (c.conclude.ensures.disk ∙ parts.disk) (c.conclude.ensures.tale ∙ parts.tale) did.0,
@@ -53,7 +58,7 @@ returns-clause-run g c tells told o gives run =
 
 pub returns-clause-printed : goal.returns-clause-printed
 returns-clause-printed g c heard told from base before said =
-    let parts = c.into_parts.ensures in
+    let parts = c.into_parts-parts.ensures in
     let state = c.args.state in
     let last = c.drive-halt.new.state in
     let did = c.drive-halt.ensures.printed heard told from base before said in
@@ -62,10 +67,33 @@ returns-clause-printed g c heard told from base before said =
 
 pub returns-clause-steady : goal.returns-clause-steady
 returns-clause-steady g c tells told o gives run held =
-    let parts = c.into_parts.ensures in
-    let sink : Type 0 = (c.into_parts.result.sink_failed ≡ true) ⊎ Rose (g.W.Sink.faults c.into_parts.result.sink) (g.W.Sink.faults c.conclude.result.sink) in
+    let parts = c.into_parts-parts.ensures in
+    let sink : Type 0 = (c.into_parts-parts.result.sink_failed ≡ true) ⊎ Rose (g.W.Sink.faults c.into_parts-parts.result.sink) (g.W.Sink.faults c.conclude.result.sink) in
     let fault = subst (λ f. IsSteady f) (sym parts.fault) (c.drive-halt.ensures.steady tells told o gives run held) in
-    ended_steady sink c.into_parts.result.fault c.drive-halt.result (has_failure c.into_parts.result.tale.items) c.conclude.result.status c.conclude.ensures.status fault
+    ended_steady sink c.into_parts-parts.result.fault c.halt_of_run-halt.result (has_failure c.into_parts-parts.result.tale.items) c.conclude.result.status c.conclude.ensures.status fault
 
 pub returns-clause-lawful : goal.returns-clause-lawful
 returns-clause-lawful g c tells = g.met.D.Disk.sound c.conclude.result.disk tells
+
+pub returns-clause-cause : goal.returns-clause-cause
+returns-clause-cause g c before counts =
+    let parts = c.into_parts-parts.ensures in
+    let last = c.drive-halt.new.state in
+    let sinks : Type 0 = (c.into_parts-parts.result.sink_failed ≡ true) ⊎ Rose (g.W.Sink.faults c.into_parts-parts.result.sink) (g.W.Sink.faults c.conclude.result.sink) in
+    let counted : Counts before (g.W.Sink.faults last.sink) last.sink_failed = c.drive-halt.ensures.sink before counts in
+    let risen : Counts before (g.W.Sink.faults c.into_parts-parts.result.sink) c.into_parts-parts.result.sink_failed =
+    subst (λ x. Counts before (g.W.Sink.faults x) c.into_parts-parts.result.sink_failed) (sym parts.sink) (subst (λ (b : Bool). Counts before (g.W.Sink.faults last.sink) b) (sym parts.sink_failed) counted) in
+    let write : c.into_parts-parts.result.sink_failed ≡ true → Rose before (g.W.Sink.faults c.conclude.result.sink) = λ e. rose_on before (g.W.Sink.faults c.into_parts-parts.result.sink) (g.W.Sink.faults c.conclude.result.sink) (subst (Counts before (g.W.Sink.faults c.into_parts-parts.result.sink)) e risen).rose c.conclude.ensures.later in
+    let cause = subst (λ x. IfSome c.into_parts-parts.result.fault (IsCause (g.D.Disk.faults x) c.into_parts-parts.result.sink_failed)) (sym c.conclude.ensures.disk)
+    (subst (λ x. IfSome c.into_parts-parts.result.fault (IsCause (g.D.Disk.faults x) c.into_parts-parts.result.sink_failed)) (sym parts.disk)
+    (subst (λ (b : Bool). IfSome c.into_parts-parts.result.fault (IsCause (g.D.Disk.faults last.store.disk) b)) (sym parts.sink_failed)
+    (subst (λ f. IfSome f (IsCause (g.D.Disk.faults last.store.disk) last.sink_failed)) (sym parts.fault) c.kept.ensures.cause))) in
+    let broke : c.halt_of_run-halt.result ≡ halts.Bench → Rose (g.B.Bench.faults c.args.last.now) (g.B.Bench.faults c.drive-halt.new.bench) ⊎ SomeBreak c.conclude.result.tale.items = λ e. elim (c.halt_of_run-halt.ensures.bench e) [
+      | inl alone ↦ inl (subst (Counts (g.B.Bench.faults c.args.last.now) (g.B.Bench.faults c.drive-halt.new.bench)) (ap (λ h. by_bench (Some h)) alone) c.drive-halt.ensures.cause).rose
+      | inr some ↦ inr (subst (λ (l : List Logged). SomeBreak l) (c.as_slice.ensures.value ∙ sym c.conclude.ensures.tale) some)
+    ] in
+    ended_cause (g.D.Disk.faults c.conclude.result.disk) c.into_parts-parts.result.sink_failed (has_failure c.into_parts-parts.result.tale.items) (Rose (g.B.Bench.faults c.args.last.now) (g.B.Bench.faults c.drive-halt.new.bench) ⊎ SomeBreak c.conclude.result.tale.items) (Rose before (g.W.Sink.faults c.conclude.result.sink)) sinks
+    c.into_parts-parts.result.fault c.halt_of_run-halt.result c.conclude.result.status cause write (λ e. elim e [
+      | inl failed ↦ write failed
+      | inr rose ↦ rose_from before (g.W.Sink.faults c.into_parts-parts.result.sink) (g.W.Sink.faults c.conclude.result.sink) risen.later rose
+    ]) broke c.conclude.ensures.status

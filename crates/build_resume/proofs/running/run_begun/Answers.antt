@@ -1,4 +1,5 @@
-use Rattle.std.proofs.Common.{◌≡◌, ◌∙◌, sym, subst, ℕ, List}
+use Rattle.std.proofs.Common.{◌≡◌, ◌∙◌, ◌+◌, ◌∷◌, [], sym, ap, subst, arith, ℕ, List, length, length-append, map, inl, inr}
+use Rattle.std.proofs.lemmas.List.{length-map}
 use Rattle.outside_traits.specs.Bench.{Gives}
 use Rattle.outside_traits.specs.Fault.{Rose}
 use Rattle.meta_model.specs.declared.plan.Plan.{Plan}
@@ -6,14 +7,15 @@ use Rattle.bb_report.specs.Runs.{tale_text}
 use Rattle.run_queue.specs.Keeps.{Prints}
 use Rattle.run_queue.proofs.Steady.{steady_none}
 use Rattle.run_workers.specs.Runs.{Runs}
-use Rattle.build_resume.specs.Benches.{BreaksByFault, started_by}
+use Rattle.build_resume.specs.Benches.{AtSeats, BreaksByFault, SomeBreak, SomeRose, started_by}
 use Rattle.build_resume.specs.Build.{RanJust, RanStarted, WritesReport}
 use Rattle.build_resume.specs.Drive.{RanOn, RanSaid, SaidTo}
 use Rattle.build_resume.proofs.Begun.{ends_still, kept_still}
-use Rattle.build_resume.proofs.Benches.{at_seats, broke_before, broke_behind, just_before, last_has, others_have, ran_before, ran_behind, some_rose, workers_weaker}
+use Rattle.build_resume.proofs.Benches.{at_seats, broke_before, broke_behind, just_before, last_has, others_have, ran_before, ran_behind, rose_by, some_rose, workers_weaker}
 use Rattle.build_resume.proofs.Printing.{said_first}
 use Rattle.build_resume.proofs.Reports.{counts_first, prints_first}
 use Rattle.build_resume.proofs.Statuses.{wider_cause}
+use Rattle.build_resume.proofs.Working.{break_seat}
 use Rattle.build_resume.proofs.running.run_begun.Goals as goal
 
 pub returns-clause-plan : goal.returns-clause-plan
@@ -35,14 +37,6 @@ returns-clause-text g c heard =
     subst (λ (p : Plan). WritesReport (Rose (g.W.Sink.faults state.sink) (g.W.Sink.faults c.finish-plan.result.sink)) written (g.W.Sink.written c.finish-plan.result.sink) p c.finish-plan.result.tale.items c.finish-plan.result.status) same
     (c.finish-plan.ensures.text heard written (g.W.Sink.faults state.sink) prints (c.with_workers-state.ensures.sink (g.W.Sink.faults state.sink) counts))
 
-pub returns-clause-cause : goal.returns-clause-cause
-returns-clause-cause g c =
-    let state = c.args.state in
-    let counts = counts_first (g.W.Sink.faults state.sink) state.sink_failed c.requires.stands in
-    wider_cause (g.D.Disk.faults c.finish-plan.result.disk) _ _ _ _ c.finish-plan.result.status
-    (some_rose c.args.benches.items c.push_reserved.new.self.items c.take_last-last.new.benches.items c.with_workers-state.result.1.items c.take_last-last.result c.finish-plan.new.last c.take_last-last.ensures.items c.push_reserved.ensures.items c.with_workers-state.ensures.broke.long g.B.Bench.faults)
-    (λ rose. rose) (c.finish-plan.ensures.cause (g.W.Sink.faults state.sink) (c.with_workers-state.ensures.sink (g.W.Sink.faults state.sink) counts))
-
 pub returns-clause-broke : goal.returns-clause-broke
 returns-clause-broke g c =
     let tale = c.finish-plan.result.tale.items in
@@ -52,6 +46,29 @@ returns-clause-broke g c =
     (workers_weaker (λ s a b. BreaksByFault mid s (g.B.Bench.faults a) (g.B.Bench.faults b)) (λ s a b. BreaksByFault tale s (g.B.Bench.faults a) (g.B.Bench.faults b)) c.take_last-last.new.benches.items c.with_workers-state.result.1.items
     (λ s a b other by. broke_before s (g.B.Bench.faults a) (g.B.Bench.faults b) mid tale went.more other went.is went.alone by) c.with_workers-state.ensures.broke)
     (broke_behind (g.B.Bench.faults c.take_last-last.result) (g.B.Bench.faults c.finish-plan.new.last) mid tale went.more c.with_workers-state.ensures.calm went.is went.breaks)
+
+pub returns-clause-cause : goal.returns-clause-cause
+returns-clause-cause g c =
+    let state = c.args.state in
+    let counts = counts_first (g.W.Sink.faults state.sink) state.sink_failed c.requires.stands in
+    let rest = c.take_last-last.new.benches.items in
+    let before : List ℕ = map g.B.Bench.faults c.args.benches.items in
+    let now : List ℕ = map g.B.Bench.faults c.push_reserved.new.self.items in
+    let tale = c.finish-plan.result.tale.items in
+    let went = c.finish-plan.ensures.went in
+    let by_seats : AtSeats (BreaksByFault tale) before now = returns-clause-broke g c in
+    let long : length before ≡ length rest + 1 = length-map c.args.benches.items g.B.Bench.faults ∙ ap length c.take_last-last.ensures.items ∙ length-append rest (c.take_last-last.result ∷ []) in
+    let broke : SomeBreak tale → SomeRose before now = λ b.
+    let at = break_seat (length rest) c.with_workers-state.result.0.tale went.more tale went.is went.alone c.with_workers-state.ensures.wide b.0 b.1 in
+    rose_by before now by_seats b.0 b.1 (omega (arith, at, long)) in
+    let rose : Rose (g.B.Bench.faults c.take_last-last.result) (g.B.Bench.faults c.finish-plan.new.last) → SomeRose before now =
+    some_rose c.args.benches.items c.push_reserved.new.self.items rest c.with_workers-state.result.1.items c.take_last-last.result c.finish-plan.new.last c.take_last-last.ensures.items c.push_reserved.ensures.items c.with_workers-state.ensures.broke.long g.B.Bench.faults in
+    wider_cause (g.D.Disk.faults c.finish-plan.result.disk) _ _ _ _ c.finish-plan.result.status
+    (λ bench. elim bench [
+      | inl r ↦ rose r
+      | inr b ↦ broke b
+    ])
+    (λ rose. rose) (c.finish-plan.ensures.cause (g.W.Sink.faults state.sink) (c.with_workers-state.ensures.sink (g.W.Sink.faults state.sink) counts))
 
 pub returns-clause-run : goal.returns-clause-run
 returns-clause-run g c tells told gives all o same run =
