@@ -1,4 +1,5 @@
 pub mod Fingerprint
+pub mod Gates
 pub mod Kept
 pub mod Layers
 pub mod Plan

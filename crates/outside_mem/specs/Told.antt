@@ -6,6 +6,7 @@ use Rattle.outside_traits.specs.Story.{Story}
 use Rattle.outside_mem.specs.declared.plan.FaultPlan.{FaultPlan}
 use Rattle.outside_mem.specs.declared.fail_disk.FailDisk.{FailDisk}
 use Rattle.outside_mem.specs.declared.fuse_disk.FuseDisk.{FuseDisk}
+use Rattle.outside_mem.specs.declared.layers.FixedLayers.{FixedLayers}
 use Rattle.outside_mem.specs.declared.layers.MemLayers.{MemLayers}
 use Rattle.outside_mem.specs.declared.mem_bench.MemBench.{MemBench}
 use Rattle.outside_mem.specs.declared.mem_disk.MemDisk.{MemDisk}
@@ -15,9 +16,13 @@ use Rattle.outside_mem.specs.Kept.{story_by}
 use Rattle.outside_mem.specs.Plan.{next_fails}
 use Rattle.outside_mem.specs.Scripts.{gives_by}
 
+-- the bytes of the file that fixed layers hold at a path
+abbrev pub fixed_at : FixedLayers → List ℕ → Option (List ℕ)
+fixed_at layers = get_by_text layers.files
+
 -- the bytes of the file that the layers hold at a path
 abbrev pub file_at : MemLayers → List ℕ → Option (List ℕ)
-file_at layers = get_by_text layers.files
+file_at layers = fixed_at layers.held
 
 -- which calls of the layers fail
 abbrev pub layers_plan : MemLayers → FaultPlan

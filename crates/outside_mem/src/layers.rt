@@ -13,28 +13,87 @@ use std::alloc::Global;
 use std::collections::BTreeMap;
 use tree_model::{Bytes, Mem, Text, Texts, is_clean};
 
-/// Layers that hold files in memory. They never change.
+/// Layers that hold files in memory. They never change, and never fail.
+#[derive(Drop)]
+pub struct FixedLayers {
+    files: BTreeMap<String, Bytes>,
+    ghost clean: { (path : List ℕ) → IsSome (get_by_text files path) → IsClean path },
+}
+
+impl FixedLayers {
+    ghost use Rattle.outside_mem.specs.Told.{fixed_at};
+
+    /// Layers with these files, by their paths. Where a path stands twice the first file counts, and a path that isn't
+    /// clean names nothing.
+    pub fn new(alloc: Global, files: Vec<(Text, Bytes)>) -> Result<FixedLayers, Mem>
+        ensures { IfOk result (λ layers. AreFrom files.items (fixed_at layers)) }
+    {
+        Ok(FixedLayers {
+            files: first_files(alloc, files)?,
+        })
+    }
+
+    /// The bytes of a file, unless there are more than `max`.
+    fn find(&self, path: &str, max: u64) -> Result<Option<Bytes>, ReadFault>
+        ensures found { IfOk result (λ found. found ≡ fixed_at self.now path.now) }
+        ensures within { IfOk result (λ found. IfSome found (λ bytes. length bytes ≤ max)) }
+        ensures too_long { IsErrOf result ReadFault.TooLong → IsSomeAnd (fixed_at self.now path.now) (λ bytes. max < length bytes) }
+        ensures not_failed { read_failed result ≡ false }
+    {
+        match self.files.get(path) {
+            Some(bytes) => Ok(Some(copy_within(bytes, max)?)),
+            None => Ok(None),
+        }
+    }
+
+    /// The paths that begin with the prefix.
+    fn paths(&self, alloc: Global, prefix: &str) -> Result<Texts, Mem>
+        ensures { IfOk result (λ paths. IsListing prefix.now (fixed_at self.now) paths) }
+    {
+        listed(alloc, &self.files, prefix)
+    }
+}
+
+impl Layers for FixedLayers {
+    ghost use Rattle.outside_mem.specs.Told.{fixed_at};
+
+    ghost tells = { Unit {0} };
+
+    ghost files = { fixed_at };
+
+    ghost faults = { λ l. 0 };
+
+    ghost clean = { λ l told. l.clean };
+
+    fn read(&mut self, alloc: Global, path: &str, max: u64) -> Result<Option<Bytes>, ReadFault> {
+        self.find(path, max)
+    }
+
+    fn list(&mut self, alloc: Global, prefix: &str) -> Result<Texts, ReadFault> {
+        Ok(self.paths(alloc, prefix)?)
+    }
+}
+
+/// Layers that hold files in memory, of which some calls fail. They never change.
 #[derive(Drop)]
 pub struct MemLayers {
-    files: BTreeMap<String, Bytes>,
+    held: FixedLayers,
     plan: FaultPlan,
     faults: u64,
-    ghost clean: { (path : List ℕ) → IsSome (get_by_text files path) → IsClean path },
 }
 
 impl MemLayers {
     ghost use Rattle.outside_mem.specs.Plan.{fresh_plan};
     ghost use Rattle.outside_mem.specs.Told.{file_at, layers_faults, layers_plan};
 
-    /// Layers with these files, by their paths. Where a path stands twice the first file counts, and a path that isn't
-    /// clean names nothing. The calls with the numbers of `fail`, from 1, fail.
+    /// Layers with these files, as `FixedLayers::new` has them. The calls with the numbers of `fail`, from 1, fail.
     pub fn new(alloc: Global, files: Vec<(Text, Bytes)>, fail: Vec<u64>) -> Result<MemLayers, Mem>
         ensures files { IfOk result (λ layers. AreFrom files.items (file_at layers)) }
         ensures plan { IfOk result (λ layers. layers_plan layers ≡ fresh_plan fail) }
         ensures fresh { IfOk result (λ layers. layers_faults layers ≡ 0) }
     {
         Ok(MemLayers {
-            files: first_files(alloc, files)?,
+            held: FixedLayers::new(alloc, files)?,
             plan: FaultPlan::new(fail),
             faults: 0,
         })
@@ -51,7 +110,7 @@ impl Layers for MemLayers {
 
     ghost faults = { layers_faults };
 
-    ghost clean = { λ l told. l.clean };
+    ghost clean = { λ l told. l.held.clean };
 
     /// Fails just where the plan says so.
     fn read(&mut self, alloc: Global, path: &str, max: u64) -> Result<Option<Bytes>, ReadFault>
@@ -66,10 +125,7 @@ impl Layers for MemLayers {
             count_fault(&mut self.faults);
             return Err(ReadFault::Failed);
         }
-        match self.files.get(path) {
-            Some(bytes) => Ok(Some(copy_within(bytes, max)?)),
-            None => Ok(None),
-        }
+        self.held.find(path, max)
     }
 
     /// Fails just where the plan says so.
@@ -84,7 +140,7 @@ impl Layers for MemLayers {
             count_fault(&mut self.faults);
             return Err(ReadFault::Failed);
         }
-        Ok(listed(alloc, &self.files, prefix)?)
+        Ok(self.held.paths(alloc, prefix)?)
     }
 }
 
