@@ -8,21 +8,21 @@ use Rattle.task_model.proofs.Agree.{in_front, in_behind}
 use Rattle.task_model.proofs.Least.{in_either}
 use Rattle.name_walk.specs.Walk.{is_met, IsWalk, HasGoneOn, weight, done_after, todo_after}
 
-in_order : (names : List (List ℕ)) → Ascending names → in_byte_order names ≡ names
+pub in_order : (names : List (List ℕ)) → Ascending names → in_byte_order names ≡ names
 in_order names a = ascending_same (in_byte_order names) names (ordered_ascending names) a (λ x. ordered_in names x)
 
 -- the cases of what is met
 
-met_cases : (done todo : List (List ℕ)) (x : List ℕ) → is_met done todo x ≡ true → (is_in x done ≡ true) ⊎ (is_in x todo ≡ true)
+pub met_cases : (done todo : List (List ℕ)) (x : List ℕ) → is_met done todo x ≡ true → (is_in x done ≡ true) ⊎ (is_in x todo ≡ true)
 met_cases done todo x h = elim (either_way (is_in x done)) [
   | inl t ↦ inl t
   | inr f ↦ inr (from_or (is_in x done) (is_in x todo) h f)
 ]
 
-met_done : (done todo : List (List ℕ)) (x : List ℕ) → is_in x done ≡ true → is_met done todo x ≡ true
+pub met_done : (done todo : List (List ℕ)) (x : List ℕ) → is_in x done ≡ true → is_met done todo x ≡ true
 met_done done todo x h = or_first (is_in x done) (is_in x todo) h
 
-met_todo : (done todo : List (List ℕ)) (x : List ℕ) → is_in x todo ≡ true → is_met done todo x ≡ true
+pub met_todo : (done todo : List (List ℕ)) (x : List ℕ) → is_in x todo ≡ true → is_met done todo x ≡ true
 met_todo done todo x h = or_later (is_in x done) (is_in x todo) h
 
 last_in : (x name : List ℕ) → is_in x (name ∷ []) ≡ true → x ≡ name

@@ -14,6 +14,10 @@ pub record IsWalk (led : List ℕ → List (List ℕ)) (start done todo : List (
   pub closed : (from name : List ℕ) → is_in from done ≡ true → is_in name (led from) ≡ true → is_met done todo name ≡ true
   pub least : (other : List (List ℕ)) → ((name : List ℕ) → is_in name start ≡ true → is_in name other ≡ true) → ((from name : List ℕ) → is_in from other ≡ true → is_in name (led from) ≡ true → is_in name other ≡ true) → (name : List ℕ) → is_met done todo name ≡ true → is_in name other ≡ true
 
+-- names that were done, and those that are done besides
+abbrev pub with_more : List (List ℕ) → List (List ℕ) → List (List ℕ)
+with_more done more = in_byte_order (done ++ more)
+
 -- how much those of these names that aren't done may still add
 abbrev pub weight : (List ℕ → List (List ℕ)) → List (List ℕ) → List (List ℕ) → ℕ
 weight led [] done = 0

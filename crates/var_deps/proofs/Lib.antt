@@ -8,3 +8,5 @@ pub mod Tabling
 pub mod Faults
 pub mod Stores
 pub mod Lines
+pub mod Starting
+pub mod GoingOn

@@ -1,7 +1,6 @@
 -- A key that grows line by line.
-use Rattle.std.proofs.Common.{◌≡◌, refl, sym, ◌∙◌, ap, ℕ, ◌+◌, ◌<◌, ◌≤◌, Bool, true, false, ◌||◌, List, [], ◌∷◌, ◌++◌, map, length, get_or, drop, Option, Result, Ok, Err, append_assoc, append-nil, codes}
+use Rattle.std.proofs.Common.{◌≡◌, refl, sym, ◌∙◌, ap, ℕ, Bool, true, false, ◌||◌, List, [], ◌∷◌, ◌++◌, map, Option, Result, Ok, Err, append_assoc, append-nil, codes}
 use Rattle.std.specs.List.{list_any}
-use Rattle.std.proofs.lemmas.List.{drop_more, drop_all}
 use Rattle.meta_model.specs.declared.value.Key.{Key}
 use Rattle.meta_model.specs.declared.entry.EntryLine.{EntryLine}
 use Rattle.meta_model.specs.Refusal.{Refusal, ◌>>=◌}
@@ -44,29 +43,28 @@ key_step k made (Ok t) (Ok rest) e = key_two k t rest ∙ ap (λ j. key_behind j
 key_step k made (Ok t) (Err refusal) e = refl
 key_step k made (Err refusal) rest e = absurd cc
 
-from_here : (names : List (List ℕ)) (i : ℕ) (name : List ℕ) → name ≡ get_or names i name → i < length names → drop i names ≡ name ∷ drop (i + 1) names
-from_here names i name is lt = drop_more names i name lt ∙ ap (λ y. y ∷ drop (i + 1) names) (sym is)
+pub lines_turn : (view : View) (whole : Result Key Refusal) (k made : Key) (all rest : List (List ℕ)) (name : List ℕ) → all ≡ name ∷ rest
+    → whole ≡ key_behind k (lines_of view all) → key_behind k (one_line (line_of view name)) ≡ Ok made → whole ≡ key_behind made (lines_of view rest)
+lines_turn view whole k made all rest name is w e = w ∙ ap (λ l. key_behind k (lines_of view l)) is ∙ key_step k made (line_of view name) (lines_of view rest) e
 
-pub lines_turn : (view : View) (whole : Result Key Refusal) (k made : Key) (names : List (List ℕ)) (i : ℕ) (name : List ℕ) → name ≡ get_or names i name → i < length names
-    → whole ≡ key_behind k (lines_of view (drop i names)) → key_behind k (one_line (line_of view name)) ≡ Ok made → whole ≡ key_behind made (lines_of view (drop (i + 1) names))
-lines_turn view whole k made names i name at lt w e =
-    w ∙ ap (λ l. key_behind k (lines_of view l)) (from_here names i name at lt) ∙ key_step k made (line_of view name) (lines_of view (drop (i + 1) names)) e
-
-pub lines_done : (view : View) (whole : Result Key Refusal) (made : Key) (names : List (List ℕ)) (i : ℕ) → length names ≤ i → whole ≡ key_behind made (lines_of view (drop i names)) → whole ≡ Ok made
-lines_done view whole made names i past w = w ∙ ap (λ l. key_behind made (lines_of view l)) (drop_all i names past) ∙ key_ends made
+pub lines_done : (view : View) (whole : Result Key Refusal) (made : Key) (all : List (List ℕ)) → all ≡ [] → whole ≡ key_behind made (lines_of view all) → whole ≡ Ok made
+lines_done view whole made all none w = w ∙ ap (λ l. key_behind made (lines_of view l)) none ∙ key_ends made
 
 fault_front : (fault : ExpandFault) (k : Key) (m : Result (List Told) Refusal) → IsFaultOf fault (key_behind k m) → IsFaultOf fault m
 fault_front fault k (Ok told) h = no_fault fault (key_behind k (Ok told)) (record { lines = k.lines ++ map (λ t. t.line) told; excluded = k.excluded || list_any (λ t. t.left_out) told }) (Ok told) refl h
 fault_front fault k (Err refusal) h = refused_any Key (List Told) fault refusal h
 
+-- a line that is refused refuses the key
+pub key_fault : (fault : ExpandFault) (k : Key) (m : Result (List Told) Refusal) → IsFaultOf fault m → IsFaultOf fault (key_behind k m)
+key_fault fault k m h = fault_on fault m (λ told. Ok (let r : Key = record { lines = k.lines ++ map (λ t. t.line) told; excluded = k.excluded || list_any (λ t. t.left_out) told } in r)) h
+
 -- a line that is refused
-pub lines_fault : (view : View) (start k : Key) (names : List (List ℕ)) (i : ℕ) (name : List ℕ) (fault : ExpandFault) → name ≡ get_or names i name → i < length names
-    → key_behind start (lines_of view names) ≡ key_behind k (lines_of view (drop i names)) → IsFaultOf fault (line_of view name) → IsFaultOf fault (lines_of view names)
-lines_fault view start k names i name fault at lt w h =
-    fault_front fault start (lines_of view names) (fault_same fault (key_behind start (lines_of view names)) (key_behind k (lines_of view (name ∷ drop (i + 1) names)))
-    (w ∙ ap (λ l. key_behind k (lines_of view l)) (from_here names i name at lt))
-    (fault_on fault (lines_of view (name ∷ drop (i + 1) names)) (λ told. Ok (let r : Key = record { lines = k.lines ++ map (λ t. t.line) told; excluded = k.excluded || list_any (λ t. t.left_out) told } in r))
-    (fault_on fault (line_of view name) (λ first. lines_of view (drop (i + 1) names) >>= λ others. Ok (first ∷ others)) h)))
+pub lines_fault : (view : View) (start k : Key) (names all rest : List (List ℕ)) (name : List ℕ) (fault : ExpandFault) → all ≡ name ∷ rest
+    → key_behind start (lines_of view names) ≡ key_behind k (lines_of view all) → IsFaultOf fault (line_of view name) → IsFaultOf fault (lines_of view names)
+lines_fault view start k names all rest name fault is w h =
+    fault_front fault start (lines_of view names) (fault_same fault (key_behind start (lines_of view names)) (key_behind k (lines_of view (name ∷ rest)))
+    (w ∙ ap (λ l. key_behind k (lines_of view l)) is)
+    (key_fault fault k (lines_of view (name ∷ rest)) (fault_on fault (line_of view name) (λ first. lines_of view rest >>= λ others. Ok (first ∷ others)) h)))
 
 -- the lines of the least set are the key
 pub key_is_made : (view : View) → NoOthers view → (start : Led) (names : List (List ℕ)) → starting view ≡ Ok start → IsLeast (led_to view) start.names names
@@ -89,7 +87,3 @@ key_is store task own ignored sstate is a b c seen =
     let e : seen_with store own ≡ seen_by task (find_in store) = λ i. λ name. seen name i in
     ap (λ m. m >>= key_over) (view_at store task ignored sstate a b)
     ∙ ap (λ f. key_over (record { task = task; find = f; flag = flag store; names = names store; ignored = ignored; sstate = is_in task sstate })) (sym e) ∙ ap (λ s. key_over (view_by store own ignored s task)) (sym c)
-
--- a line that is refused refuses the key
-pub key_fault : (fault : ExpandFault) (k : Key) (m : Result (List Told) Refusal) → IsFaultOf fault m → IsFaultOf fault (key_behind k m)
-key_fault fault k m h = fault_on fault m (λ told. Ok (let r : Key = record { lines = k.lines ++ map (λ t. t.line) told; excluded = k.excluded || list_any (λ t. t.left_out) told } in r)) h

@@ -47,7 +47,7 @@ filter_one : (p : List ℕ → Bool) (b : Bool) (x : List ℕ) (rest xs ys : Nam
 filter_one p true x rest xs ys e = ap (λ l. x ∷ l) e
 filter_one p false x rest xs ys e = e
 
-filter_more : (p : List ℕ → Bool) (xs ys : Names) → filter p (xs ++ ys) ≡ filter p xs ++ filter p ys
+pub filter_more : (p : List ℕ → Bool) (xs ys : Names) → filter p (xs ++ ys) ≡ filter p xs ++ filter p ys
 filter_more p [] ys = refl
 filter_more p (x ∷ xs) ys = filter_one p (p x) x (filter p (xs ++ ys)) (filter p xs) (filter p ys) (filter_more p xs ys)
 
@@ -55,7 +55,7 @@ any_one : (b rest first later : Bool) → rest ≡ (first || later) → (b || re
 any_one true rest first later e = refl
 any_one false rest first later e = e
 
-any_more : (p : List ℕ → Bool) (xs ys : Names) → list_any p (xs ++ ys) ≡ (list_any p xs || list_any p ys)
+pub any_more : (p : List ℕ → Bool) (xs ys : Names) → list_any p (xs ++ ys) ≡ (list_any p xs || list_any p ys)
 any_more p [] ys = refl
 any_more p (x ∷ xs) ys = any_one (p x) (list_any p (xs ++ ys)) (list_any p xs) (list_any p ys) (any_more p xs ys)
 

@@ -1,13 +1,12 @@
 -- What is kept stays right.
-use Rattle.std.proofs.Common.{◌≡◌, refl, sym, ◌∙◌, ap, subst, ℕ, Bool, true, false, cond, List, [], ◌∷◌, ◌++◌, Option, Some, None, is_some, Result, Ok, Err, OnErr, OnOk, bytes_eq, codes, append-nil}
+use Rattle.std.proofs.Common.{◌≡◌, refl, sym, ◌∙◌, ap, subst, ℕ, Bool, true, false, cond, List, [], ◌++◌, Option, Some, None, is_some, Result, Ok, Err, OnErr, OnOk, bytes_eq}
 use Rattle.std.specs.Map.{update}
 use Rattle.meta_model.proofs.Bools.{same_text}
 use Rattle.meta_model.specs.declared.entry.EntryLine.{EntryLine}
 use Rattle.meta_model.specs.Active.{find_in}
 use Rattle.meta_model.specs.declared.value.Resolved.{Resolved}
-use Rattle.meta_model.specs.Refusal.{Refusal, ◌>>=◌}
 use Rattle.task_model.specs.Views.{seen_by, is_bare}
-use Rattle.task_model.specs.Leads.{View, Led, starting, flag_words, exported, without}
+use Rattle.task_model.specs.Leads.{View}
 use Rattle.task_model.specs.Keys.{led_to, line_of, names_led}
 use Rattle.task_model.proofs.Shared.{seen_as_is}
 use Rattle.var_deps.specs.declared.line.Line.{Line}
@@ -19,7 +18,6 @@ use Rattle.var_deps.specs.Reading.{view_by}
 use Rattle.var_deps.specs.Known.{IsKnown, IsLine, read_led, read_line}
 use Rattle.var_deps.specs.Kept.{IsRight, IsReady, IsSame, StaysSo, shared_view, task_view}
 use Rattle.var_deps.proofs.Tables.{leads_read, line_read}
-use Rattle.var_deps.proofs.Passing.{goes_on}
 
 pub on_err : {T E P : Type 0} (r : Result T E) → P → OnErr r P
 on_err (Ok x) h = tt
@@ -98,16 +96,6 @@ seen_bare store own text task made o t m name = ap (λ p. seen_with store p name
 
 pub seen_plain : (store : List EntryLine) (own : Option (List ℕ)) (task made : List ℕ) → own ≡ None → made ≡ task → ((found : Resolved) → find_in store task ≡ Ok (Some found) → is_bare found ≡ false) → (name : List ℕ) → seen_with store own name ≡ seen_by made (find_in store) name
 seen_plain store own task made o m h name = ap (λ p. seen_with store p name) o ∙ sym (seen_as_is (find_in store) task h name) ∙ ap (λ n. seen_by n (find_in store) name) (sym m)
-
--- what a key starts with
-pub start_is : (view : View) (after before all names : List (List ℕ)) (led : Led) → flag_words view view.task (codes "postfuncs") ≡ Ok after → flag_words view view.task (codes "prefuncs") ≡ Ok before
-    → all ≡ before ++ (after ++ exported view) → led ≡ without (view.ignored ++ []) all → names ≡ view.task ∷ led.names → starting view ≡ Ok (record { names = names; left_out = led.left_out })
-start_is view after before all names led a b e l n =
-    let made : List (List ℕ) → List (List ℕ) → Result Led Refusal = λ x y. Ok (record { names = view.task ∷ (without view.ignored (y ++ (x ++ exported view))).names; left_out = (without view.ignored (y ++ (x ++ exported view))).left_out }) in
-    goes_on (flag_words view view.task (codes "postfuncs")) after (λ x. flag_words view view.task (codes "prefuncs") >>= λ y. made x y) a
-    ∙ goes_on (flag_words view view.task (codes "prefuncs")) before (made after) b
-    ∙ ap (λ o. Ok (let r : Led = record { names = view.task ∷ o.names; left_out = o.left_out } in r)) (sym (l ∙ ap (λ i. without i all) (append-nil view.ignored) ∙ ap (without view.ignored) e))
-    ∙ ap (λ m. Ok (let r : Led = record { names = m; left_out = led.left_out } in r)) (sym n)
 
 pub stays_view : (a b : Table) → StaysSo a b → task_view b ≡ task_view a
 stays_view a b same =

@@ -1,28 +1,27 @@
 -- What a store's names lead to, kept for all its tasks.
-use Rattle.std.specs.Prelude.{◌≡◌, ℕ, true, false, List, [], ◌∷◌, ◌++◌, map, ◌||◌, Some, Result, Ok}
+use Rattle.std.specs.Prelude.{◌≡◌, ℕ, true, false, List, [], ◌∷◌, ◌++◌, map, ◌||◌, Some, None, Result, Ok}
 use Rattle.std.specs.List.{list_any}
 use Rattle.std.specs.BTreeMap.{get_by_text}
 use Rattle.meta_model.specs.declared.value.Key.{Key}
 use Rattle.meta_model.specs.Refusal.{Refusal, ◌>>=◌}
 use Rattle.meta_model.specs.Active.{find_in}
 use Rattle.task_model.specs.Views.{seen_by}
-use Rattle.task_model.specs.Leads.{View, exported}
+use Rattle.task_model.specs.Leads.{View}
 use Rattle.task_model.specs.Keys.{Told}
 use Rattle.var_deps.specs.declared.line.Known.{Known}
 use Rattle.var_deps.specs.declared.table.Shared.{Shared}
 use Rattle.var_deps.specs.declared.table.Table.{Table}
 use Rattle.var_deps.specs.Seen.{seen_with}
 use Rattle.var_deps.specs.Reading.{view_by}
-use Rattle.var_deps.specs.Known.{IsKnown}
+use Rattle.var_deps.specs.Known.{IsKnown, read_line}
 
 -- the view of names that aren't the task
 abbrev pub shared_view : Shared → View
 shared_view shared = view_by shared.seen.store.now shared.seen.task shared.ignored false []
 
--- Each name that is kept is right, and the exported names are those of the store.
+-- Each name that is kept is right.
 pub record IsRight (shared : Shared) : Type 0 where
   pub known : (name : List ℕ) (known : Known) → get_by_text shared.known name ≡ Some known → IsKnown (shared_view shared) false name known
-  pub exported : shared.exported ≡ exported (shared_view shared)
 
 -- Two keep what is read of one store in one way.
 pub record IsSame (old new : Shared) : Type 0 where
@@ -45,6 +44,11 @@ pub record StaysSo (old new : Table) : Type 0 where
   pub shared : IsSame old.shared new.shared
   pub task : new.task ≡ old.task
   pub sstate : new.sstate ≡ old.sstate
+
+-- The task sees the store as it is, and its line is told.
+pub record Shares (table : Table) : Type 0 where
+  pub seen : table.shared.seen.task ≡ None
+  pub told : (told : Told) × (read_line (task_view table) true table.task ≡ Ok told)
 
 -- a key with more lines
 abbrev pub key_behind : Key → Result (List Told) Refusal → Result Key Refusal

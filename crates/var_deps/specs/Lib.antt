@@ -4,5 +4,7 @@ pub mod Reading
 pub mod Led
 pub mod Known
 pub mod Kept
+pub mod Exports
 pub mod OfStore
+pub mod Absent
 pub mod Leaders

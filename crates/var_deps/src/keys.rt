@@ -1,5 +1,5 @@
 // The keys of the tasks of a store.
-ghost use Rattle.std.specs.Prelude.{◌≡◌, ◌++◌, ◌∷◌, [], List, ℕ, Some, true, false, IfOk, IfErr, OnOk, Ok, codes, is_some, filter, if◌then◌else◌};
+ghost use Rattle.std.specs.Prelude.{◌≡◌, ◌++◌, ◌∷◌, [], List, ℕ, Some, None, true, false, IfOk, IfErr, OnOk, Ok, codes, is_some, filter, if◌then◌else◌};
 ghost use Rattle.meta_model.specs.declared.value.Resolved.{Resolved as Has};
 ghost use Rattle.meta_model.specs.Active.{find_in};
 ghost use Rattle.meta_model.specs.Base.{flag, names};
@@ -9,6 +9,7 @@ ghost use Rattle.task_model.specs.Leads.{value_words};
 ghost use Rattle.task_model.specs.Keys.{key};
 ghost use Rattle.var_deps.specs.Kept.{IsRight};
 
+use crate::exports::{Exports, exports_of};
 use crate::led::is_among;
 use crate::line::{Known, Line};
 use crate::seen::{Seen, found_in, is_bare};
@@ -22,11 +23,13 @@ use std::marker::Model;
 use tree_model::{Mem, Text, Texts};
 use var_expand::ExpandFault;
 
-/// The keys of the tasks of one store. What a name leads to, and its line, are found out once, for all tasks that ask for it; a
-/// key then costs one look-up for each name that a name leads to. Contracts see the entries of the store.
+/// The keys of the tasks of one store. What a name leads to, and its line, are found out once, for all tasks that ask for it; all
+/// that the exported names lead to is walked once. A key then costs a look-up for each of its lines, and one for each name that a
+/// name leads to which the exported ones don't. Contracts see the entries of the store.
 #[derive(Drop)]
 pub struct StoreKeys<'a> {
     table: Table<'a>,
+    exports: Exports,
     sstate: Texts,
 }
 
@@ -39,7 +42,7 @@ impl<'a> Model for StoreKeys<'a> {
 
     ghost view = { λ k. k.table.shared.seen.store.now };
 
-    ghost invariant = { λ k. IsOfStore k.table k.sstate };
+    ghost invariant = { λ k. IsOfStore k.table k.exports k.sstate };
 }
 
 /// The words of the expanded value of a name, none where it has no value.
@@ -98,21 +101,16 @@ fn exported_names(alloc: Global, store: &Datastore) -> Result<Texts, Mem>
 }
 
 /// A table in which nothing is kept yet.
-fn empty_table<'a>(
-    alloc: Global,
-    store: &'a Datastore,
-    ignored: Texts,
-    exported: Texts,
-) -> Table<'a>
+fn empty_table<'a>(alloc: Global, store: &'a Datastore, ignored: Texts) -> Table<'a>
     ensures store { result.shared.seen.store.now ≡ store.now }
+    ensures task { result.shared.seen.task ≡ None }
     ensures ignored { result.shared.ignored ≡ ignored }
-    ensures right { exported ≡ filter (λ n. is_some (flag store.now n (codes "export"))) (names store.now) → IsRight result.shared }
+    ensures right { IsRight result.shared }
 {
     Table {
         shared: Shared {
             seen: Seen { store, task: None },
             ignored,
-            exported,
             known: BTreeMap::new(alloc),
         },
         task: Text::new(alloc),
@@ -128,7 +126,8 @@ fn empty_table<'a>(
 }
 
 impl StoreKeys<'_> {
-    /// The keys of the tasks of a store, of which nothing is found out yet. A store that is settled is faster.
+    /// The keys of the tasks of a store, of which it is found out what the exported names lead to. A store that is settled is
+    /// faster.
     ///
     /// It is refused where the keys of all tasks are: the active overrides are, or the value of BB_BASEHASH_IGNORE_VARS or of
     /// SSTATETASKS isn't expanded.
@@ -139,8 +138,11 @@ impl StoreKeys<'_> {
         let ignored = words_of(alloc, store, "BB_BASEHASH_IGNORE_VARS")?;
         let sstate = words_of(alloc, store, "SSTATETASKS")?;
         let exported = exported_names(alloc, store)?;
+        let mut table = empty_table(alloc, store, ignored);
+        let exports = exports_of(alloc, &mut table.shared, exported)?;
         Ok(StoreKeys {
-            table: empty_table(alloc, store, ignored, exported),
+            table,
+            exports,
             sstate,
         })
     }
@@ -156,7 +158,7 @@ impl StoreKeys<'_> {
     pub fn exported(&self) -> &[Text]
         ensures { result.now ≡ filter (λ n. is_some (flag self.now n (codes "export"))) (names self.now) }
     {
-        self.table.shared.exported.as_slice()
+        self.exports.all.as_slice()
     }
 
     /// The key of a task: a line for each name that its script reads, directly or through others, absent names included, and
@@ -172,7 +174,7 @@ impl StoreKeys<'_> {
         let bare = is_bare_name(alloc, self.table.shared.seen.store, task)?;
         let sstate = is_among(task, self.sstate.as_slice());
         self.table.turn_to(alloc, task, bare, sstate)?;
-        Ok(self.table.key(alloc)?)
+        Ok(self.table.key(alloc, &self.exports)?)
     }
 }
 

@@ -35,19 +35,13 @@ pub(crate) fn push_all(list: &mut Vec<Text>, more: &[Text]) -> Result<(), Mem>
     Ok(())
 }
 
-/// The texts of three lists, one behind the other.
-pub(crate) fn all_of(
-    alloc: Global,
-    first: &[Text],
-    second: &[Text],
-    third: &[Text],
-) -> Result<Vec<Text>, Mem>
-    ensures { IfOk result (λ made. made.items ≡ first.now ++ (second.now ++ third.now)) }
+/// The texts of two lists, one behind the other.
+pub(crate) fn all_of(alloc: Global, first: &[Text], second: &[Text]) -> Result<Vec<Text>, Mem>
+    ensures { IfOk result (λ made. made.items ≡ first.now ++ second.now) }
 {
     let mut list = Vec::new(alloc);
     push_all(&mut list, first)?;
     push_all(&mut list, second)?;
-    push_all(&mut list, third)?;
     Ok(list)
 }
 

@@ -7,18 +7,21 @@ ghost use Rattle.meta_model.specs.Active.{find_in};
 ghost use Rattle.meta_model.specs.declared.value.Resolved.{Resolved as Has};
 ghost use Rattle.task_model.specs.Views.{is_bare};
 ghost use Rattle.var_expand.specs.Faults.{IsFaultOf};
-ghost use Rattle.task_model.specs.Keys.{Told, key_over, line_of, lines_of, names_led};
-ghost use Rattle.task_model.specs.Leads.{starting};
+ghost use Rattle.task_model.specs.Keys.{Told, key_over, led_to, line_of, lines_of, names_led};
+ghost use Rattle.name_walk.specs.Walk.{IsWalk, with_more};
+ghost use Rattle.meta_model.specs.Text.{in_byte_order, is_in};
 ghost use Rattle.var_deps.specs.Known.{IsKnown, IsLine, read_led, read_line};
 ghost use Rattle.var_deps.specs.Reading.{view_by};
 ghost use Rattle.var_deps.specs.Led.{led_of};
-ghost use Rattle.var_deps.specs.Kept.{IsReady, IsRight, IsSame, StaysSo, key_behind, one_line, shared_view, task_view};
+ghost use Rattle.var_deps.specs.Exports.{AreExports, starting_with};
+ghost use Rattle.var_deps.specs.Kept.{IsReady, IsRight, IsSame, Shares, StaysSo, key_behind, one_line, shared_view, task_view};
 
+use crate::exports::Exports;
 use crate::led::{Led, all_of, push_all, without, words_of_flag};
 use crate::line::{Known, Line, know};
 use crate::seen::Seen;
 use meta_model::{Key, KeyLine, ListOf, Resolved};
-use name_walk::{Leading, reach};
+use name_walk::{Leading, holds, least_of, reach};
 use std::alloc::Global;
 use std::collections::BTreeMap;
 use tree_model::{Mem, Text, Texts};
@@ -29,7 +32,6 @@ use var_expand::ExpandFault;
 pub(crate) struct Shared<'a> {
     pub(crate) seen: Seen<'a>,
     pub(crate) ignored: Texts,
-    pub(crate) exported: Texts,
     pub(crate) known: BTreeMap<String, Known>,
 }
 
@@ -108,14 +110,27 @@ impl Shared<'_> {
             task,
         )
     }
+}
 
-    /// Puts what a name leads to at the end.
-    fn lead(&mut self, alloc: Global, name: &str, list: &mut Vec<Text>) -> Result<(), Mem>
-        requires { IsRight self.old }
-        ensures right { IsRight self.new }
-        ensures same { IsSame self.old self.new }
-        ensures led { OnOk result (list.new.items ≡ list.old.items ++ names_led (read_led (shared_view self.old) false name.now)) }
-    {
+impl Leading for Shared<'_> {
+    ghost use Rattle.var_deps.specs.Kept as kept;
+    ghost use Rattle.var_deps.specs.Leaders as named;
+
+    ghost led = { named.shared_led };
+
+    ghost leaders = { named.shared_leaders };
+
+    ghost IsReady = { kept.IsRight };
+
+    ghost Stays = { kept.IsSame };
+
+    ghost stays_itself = { named.same_itself };
+
+    ghost stays_on = { named.same_on };
+
+    ghost others = { named.no_others_shared };
+
+    fn lead(&mut self, alloc: Global, name: &str, list: &mut Vec<Text>) -> Result<(), Mem> {
         self.fill(alloc, name)?;
         match self.known.get(name) {
             Some(known) => push_all(list, known.led.as_slice()),
@@ -250,20 +265,32 @@ impl Table<'_> {
         self.shared.push_name(alloc, key, name)
     }
 
-    /// The lines of names, in their order.
-    fn lines(&mut self, alloc: Global, names: &[Text], left_out: bool) -> Result<Key, ExpandFault>
-        requires { IsReady self.old }
+    /// The lines of the names of two lists, which are in byte order, in that order.
+    fn lines(
+        &mut self,
+        alloc: Global,
+        done: &[Text],
+        more: &[Text],
+        left_out: bool,
+    ) -> Result<Key, ExpandFault>
+        requires ready { IsReady self.old }
+        requires done { in_byte_order done.now ≡ done.now }
+        requires more { in_byte_order more.now ≡ more.now }
         ensures ready { IsReady self.new }
         ensures stays { StaysSo self.old self.new }
-        ensures ok { IfOk result (λ made. key_behind (record { lines = []; excluded = left_out }) (lines_of (task_view self.old) names.now) ≡ Ok made) }
-        ensures err { IfErr result (λ fault. IsFaultOf fault (lines_of (task_view self.old) names.now)) }
+        ensures ok { IfOk result (λ made. key_behind (record { lines = []; excluded = left_out }) (lines_of (task_view self.old) (with_more done.now more.now)) ≡ Ok made) }
+        ensures err { IfErr result (λ fault. IsFaultOf fault (lines_of (task_view self.old) (with_more done.now more.now))) }
     {
         let mut key = Key {
             lines: ListOf::new(alloc),
             excluded: left_out,
         };
-        for name in names {
+        let mut one = done;
+        let mut other = more;
+        while let Some((name, rest, others)) = least_of(one, other) {
             self.push_name(alloc, &mut key, name)?;
+            one = rest;
+            other = others;
         }
         Ok(key)
     }
@@ -299,35 +326,63 @@ impl Table<'_> {
         Ok(())
     }
 
-    /// The names that the key starts with.
+    /// The names that the key starts with, but for exported ones.
     fn start(&self, alloc: Global) -> Result<Led, ExpandFault>
-        requires { IsReady self.now }
-        ensures ok { IfOk result (λ made. starting (task_view self.now) ≡ Ok (led_of made)) }
-        ensures err { IfErr result (λ fault. IsFaultOf fault (starting (task_view self.now))) }
+        ensures ok { IfOk result (λ made. starting_with (task_view self.now) [] ≡ Ok (led_of made)) }
+        ensures err { IfErr result (λ fault. IsFaultOf fault (starting_with (task_view self.now) [])) }
     {
         let after = words_of_flag(alloc, &self.shared.seen, self.task.as_str(), "postfuncs")?;
         let before = words_of_flag(alloc, &self.shared.seen, self.task.as_str(), "prefuncs")?;
-        let others = all_of(
-            alloc,
-            before.as_slice(),
-            after.as_slice(),
-            self.shared.exported.as_slice(),
-        )?;
-        let mut led = without(alloc, others, self.shared.ignored.as_slice(), &[])?;
+        let words = all_of(alloc, before.as_slice(), after.as_slice())?;
+        let mut led = without(alloc, words, self.shared.ignored.as_slice(), &[])?;
         led.names.insert(0, self.task.copy()?)?;
         Ok(led)
     }
 
+    /// Whether the task sees the store as it is, and its own texts can be read: then all that exported names lead to for others
+    /// they lead to for it, too.
+    fn shares(&self) -> bool
+        requires { IsReady self.now }
+        ensures { result ≡ true → Shares self.now }
+    {
+        match &self.own.line {
+            Line::Told { .. } => self.shared.seen.task.is_none(),
+            Line::Refused(_) => false,
+        }
+    }
+
+    /// Begins the walk from names to be done, of which the task is one, and from the exported names: gives the names that it goes
+    /// on from, and puts to be done what it has to do for them.
+    fn begin<'e>(&self, exports: &'e Exports, todo: &mut Vec<Text>) -> Result<&'e [Text], Mem>
+        requires ready { IsReady self.now }
+        requires exports { AreExports self.now.shared.seen.store.now self.now.shared.ignored exports.now }
+        requires task { is_in self.now.task todo.old.items ≡ true }
+        ensures { IfOk result (λ done. IsWalk (led_to (task_view self.now)) (todo.old.items ++ exports.now.start.names.items) done.now todo.new.items) }
+    {
+        if !self.shares() {
+            push_all(todo, exports.start.names.as_slice())?;
+            return Ok(&[]);
+        }
+        let done = exports.reached.as_slice();
+        if holds(done, self.task.as_str()) {
+            push_all(todo, self.own.led.as_slice())?;
+        }
+        Ok(done)
+    }
+
     /// The key of the task.
-    pub(crate) fn key(&mut self, alloc: Global) -> Result<Key, ExpandFault>
-        requires { IsReady self.old }
+    pub(crate) fn key(&mut self, alloc: Global, exports: &Exports) -> Result<Key, ExpandFault>
+        requires ready { IsReady self.old }
+        requires exports { AreExports self.old.shared.seen.store.now self.old.shared.ignored exports.now }
         ensures ready { IsReady self.new }
         ensures stays { StaysSo self.old self.new }
         ensures ok { IfOk result (λ made. key_over (task_view self.old) ≡ Ok made) }
         ensures err { IfErr result (λ fault. IsFaultOf fault (key_over (task_view self.old))) }
     {
-        let start = self.start(alloc)?;
-        let names = reach(alloc, self, Vec::new(alloc), start.names)?;
-        self.lines(alloc, names.as_slice(), start.left_out)
+        let mut start = self.start(alloc)?;
+        let done = self.begin(exports, &mut start.names)?;
+        let left_out = start.left_out || exports.start.left_out;
+        let more = reach(alloc, self, done, start.names)?;
+        self.lines(alloc, done, more.as_slice(), left_out)
     }
 }

@@ -16,5 +16,4 @@ returns-clause-right c =
     record {
       known = learned c.put_value.result (shared_view old) (get_by_text old.known) (get_by_text c.put_value.new.map) name value c.put_value.ensures.ok c.put_value.ensures.err c.requires.known
           (known_shared old.seen.store.now old.seen.task old.ignored name [] name value known);
-      exported = c.requires.exported;
     }

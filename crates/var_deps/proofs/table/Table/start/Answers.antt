@@ -2,7 +2,7 @@ use Rattle.std.proofs.Common.{◌≡◌, ◌∙◌, ap, subst, [], ◌++◌, ◌
 use Rattle.task_model.specs.Leads.{flag_words, without}
 use Rattle.var_deps.specs.Kept.{task_view}
 use Rattle.var_deps.specs.Led.{led_of}
-use Rattle.var_deps.proofs.Tabling.{start_is}
+use Rattle.var_deps.proofs.Starting.{start_is}
 use Rattle.var_deps.proofs.table.Table.start.Goals as goal
 
 pub returns-clause-ok : goal.returns-clause-ok
@@ -10,9 +10,9 @@ returns-clause-ok c =
     let view = task_view c.args.self.now in
     let after = c.in_ok-after.after in
     let before = c.in_ok-before.before in
-    let all = c.in_ok-others.others.items in
-    start_is view after before all c.insert.new.self.items (led_of c.in_ok-led.led)
+    let words = c.in_ok-words.words.items in
+    start_is view after before words c.insert.new.self.items (led_of c.in_ok-led.led)
     (subst (λ n. flag_words view n (codes "postfuncs") ≡ Ok after) c.as_str.ensures c.in_ok-after.ensures.ok) (subst (λ n. flag_words view n (codes "prefuncs") ≡ Ok before) c.as_str-2.ensures c.in_ok-before.ensures.ok)
-    (c.in_ok-others.ensures ∙ ap (λ l. l ++ (c.as_slice-2.result.now ++ c.as_slice-3.result.now)) c.as_slice.ensures ∙ ap (λ l. before ++ (l ++ c.as_slice-3.result.now)) c.as_slice-2.ensures ∙ ap (λ l. before ++ (after ++ l)) (c.as_slice-3.ensures ∙ c.requires.right.exported))
-    (c.in_ok-led.ensures ∙ ap (λ i. without (i ++ []) all) c.as_slice-4.ensures)
+    (c.in_ok-words.ensures ∙ ap (λ l. l ++ c.as_slice-2.result.now) c.as_slice.ensures ∙ ap (λ l. before ++ l) c.as_slice-2.ensures)
+    (c.in_ok-led.ensures ∙ ap (λ i. without (i ++ []) words) c.as_slice-3.ensures)
     (c.in_ok-insert.ensures.items ∙ ap (λ n. n ∷ c.in_ok-led.led.names.items) c.in_ok-copy.ensures)

@@ -1,8 +1,7 @@
 use Rattle.std.proofs.Common.{◌≡◌, refl, ◌∙◌, ap, sym, false, true, bytes_eq}
-use Rattle.task_model.specs.Keys.{led_to, names_led}
-use Rattle.var_deps.specs.Known.{read_led}
-use Rattle.var_deps.specs.Kept.{shared_view, task_view}
-use Rattle.var_deps.specs.Leaders.{stays_itself}
+use Rattle.task_model.specs.Keys.{led_to}
+use Rattle.var_deps.specs.Kept.{task_view}
+use Rattle.var_deps.specs.Leaders.{shared_led, stays_itself}
 use Rattle.var_deps.proofs.Tabling.{on_ok_pushed, own_led, other_led, ready_still}
 use Rattle.var_deps.proofs.table.TableLeading.lead.Goals as goal
 
@@ -15,17 +14,17 @@ returns-then-eq-clause-led c =
     on_ok_pushed c.push_all.result c.push_all.new.list.items c.args.list.now.items c.as_slice.result.now (led_to view name) led c.push_all.ensures
 
 pub returns-clause-ready : goal.returns-clause-ready
-returns-clause-ready c = ready_still c.args.self.now c.lead.new.self c.requires c.lead.ensures.right c.lead.ensures.same
+returns-clause-ready c = ready_still c.args.self.now c.lead.new.self c.requires c.lead.ensures.ready c.lead.ensures.stays
 
 pub returns-clause-led : goal.returns-clause-led
 returns-clause-led c =
     let view = task_view c.args.self.now in
     let name = c.args.name.now in
     let other : bytes_eq name c.args.self.now.task ≡ false = ap (bytes_eq name) (sym c.as_str.ensures) ∙ sym c.if-eq.ensures in
-    on_ok_pushed c.lead.result c.lead.new.list.items c.args.list.now.items (names_led (read_led (shared_view c.args.self.now.shared) false name)) (led_to view name) (other_led view name other) c.lead.ensures.led
+    on_ok_pushed c.lead.result c.lead.new.list.items c.args.list.now.items (shared_led c.args.self.now.shared name) (led_to view name) (other_led view name other) c.lead.ensures.led
 
 pub returns-then-eq-clause-stays : goal.returns-then-eq-clause-stays
 returns-then-eq-clause-stays c = stays_itself c.args.self.now
 
 pub returns-clause-stays : goal.returns-clause-stays
-returns-clause-stays c = record { shared = c.lead.ensures.same; task = refl; sstate = refl }
+returns-clause-stays c = record { shared = c.lead.ensures.stays; task = refl; sstate = refl }

@@ -3,7 +3,7 @@ use Rattle.task_model.specs.Keys.{names_led}
 use Rattle.var_deps.specs.Known.{read_led}
 use Rattle.var_deps.specs.Kept.{shared_view}
 use Rattle.var_deps.proofs.Tabling.{on_ok_pushed, view_same}
-use Rattle.var_deps.proofs.table.Shared.lead.Goals as goal
+use Rattle.var_deps.proofs.table.SharedLeading.lead.Goals as goal
 
 pub returns-in-Some-clause-led : goal.returns-in-Some-clause-led
 returns-in-Some-clause-led c =
