@@ -265,9 +265,11 @@ known_run o s k run there = record {
   answered = run.answered;
   met = run.met;
   tried = λ u b. elim (run.tried u b) [ inl started ↦ inl started | inr was ↦ inr was ];
+  halted = run.halted;
+  told = run.told;
   images = λ t image le since. elim (run.images t image le since) [
     | inl before ↦ inl before
-    | inr l ↦ inr (record { count = l.count; valid = l.valid; honest = l.honest; others = l.others; folders = l.folders })
+    | inr l ↦ inr (record { count = l.count; valid = l.valid; honest = l.honest; others = l.others; paths = l.paths; objects = l.objects; folders = l.folders })
   ];
   stands = run.stands;
   settled = run.settled;

@@ -1,5 +1,5 @@
 -- What a publication, or a restoring, leaves of other tasks, and of records.
-use Rattle.std.proofs.Common.{◌≡◌, ◌≢◌, ◌∙◌, sym, ap, subst, refl, ℕ, ◌⊎◌, inl, inr, true, List, [], ◌∷◌, Some, None, append_assoc, arith}
+use Rattle.std.proofs.Common.{◌≡◌, ◌≢◌, ◌∙◌, sym, ap, subst, refl, ℕ, ◌⊎◌, inl, inr, true, List, [], ◌∷◌, ◌++◌, Some, None, append_assoc, arith}
 use Rattle.std.specs.Prelude.{codes, Option}
 use Rattle.tree_model.specs.declared.entry.Entry.{Entry}
 use Rattle.tree_model.specs.declared.hash.Hash.{Hash}
@@ -19,6 +19,7 @@ use Rattle.build_store.proofs.Areas.{apart_by_first, differ, heads_differ}
 use Rattle.build_store.proofs.Others.{others_untouched}
 use Rattle.build_store.proofs.Slashes.{slashes_inside}
 use Rattle.run_queue.specs.Opening.{HasFolders}
+use Rattle.run_queue.specs.Own.{IsOfFolder}
 use Rattle.run_queue.specs.Stands.{IsHonest, IsTold}
 
 -- ---- paths above folders
@@ -221,3 +222,66 @@ folders_on p held earlier new task place folder keeps h e = record {
     at_part part plain (inr ne) =
         keeps.work (inside (codes "work") part) (inr (part, refl))
         (subst (λ (f : List ℕ). IsApart (work_at f) (inside (codes "work") part)) (sym folder) (recipes_apart task.id.pn task.id.task part place.pn.alone place.task.alone plain ne)) ∙ e.parts part plain
+
+-- ---- paths that are none of a publication's own
+
+-- What a publication leaves of a path that isn't under `tmp/`, at or under the work folder or the object, the stamp or a new record.
+pub aside_stays : (p : Publication) (task : PlanTask) (old new : Store) (q : List ℕ) → HasPlace task → p.folder ≡ task_folder task → Publishes p old new → HasFolders old → HasFolders new
+    → (IsBelow (codes "tmp") q → ⊥) → (IsOfFolder task q → ⊥) → (p.is_new ≡ true → q ≢ record_path p.name) → ((unihash : Hash) → p.object ≡ Some unihash → (slashes (hash_text unihash) ≡ 0) × (IsAtOrBelow (object_folder unihash) q → ⊥)) → new q ≡ old q
+aside_stays p task old new q place folder publishes before after temporary own stored shared = by (path_cases q (codes "work")) (path_cases q (inside (codes "work") task.id.pn)) (path_cases q (codes "obj"))
+  where
+    work : q ≢ codes "work" → q ≢ inside (codes "work") task.id.pn → IsApart (work_folder task) q
+    work a b = record {
+      not_folder = λ same. own (inl (inl same));
+      not_above = λ up. elim (above_top (codes "work") (task_folder task) q refl up) [
+        | inl top ↦ a top
+        | inr in_it ↦ b (in_it.1 ∙ ap (inside (codes "work")) (above_parts task.id.pn task.id.task in_it.0 place.pn.alone place.task.alone in_it.2))
+      ];
+      not_under = λ under. own (inl (inr under));
+    }
+
+    object : q ≢ codes "obj" → (unihash : Hash) → p.object ≡ Some unihash → IsApart (object_folder unihash) q
+    object c unihash is = record {
+      not_folder = λ same. (shared unihash is).1 (inl same);
+      not_above = λ up. elim (above_top (codes "obj") (hash_text unihash) q refl up) [
+        | inl top ↦ c top
+        | inr in_it ↦ one_part (hash_text unihash) in_it.0 (shared unihash is).0 in_it.2
+      ];
+      not_under = λ under. (shared unihash is).1 (inr under);
+    }
+
+    foreign : q ≢ codes "work" → q ≢ inside (codes "work") task.id.pn → q ≢ codes "obj" → IsForeign p q
+    foreign a b c = record {
+      temporary = temporary;
+      work = subst (λ (f : List ℕ). IsApart (work_at f) q) (sym folder) (work a b);
+      stamp = λ same. own (inr (same ∙ ap stamp_at folder));
+      stored = stored;
+      shared = object c;
+    }
+
+    by : (q ≡ codes "work") ⊎ (q ≢ codes "work") → (q ≡ inside (codes "work") task.id.pn) ⊎ (q ≢ inside (codes "work") task.id.pn) → (q ≡ codes "obj") ⊎ (q ≢ codes "obj") → new q ≡ old q
+    by (inl same) b c = ap new same ∙ after.work ∙ sym (ap old same ∙ before.work)
+    by (inr a) (inl same) c = ap new same ∙ after.parts task.id.pn place.pn.alone ∙ sym (ap old same ∙ before.parts task.id.pn place.pn.alone)
+    by (inr a) (inr b) (inl same) = ap new same ∙ after.objects ∙ sym (ap old same ∙ before.objects)
+    by (inr a) (inr b) (inr c) = publishes.others q (foreign a b c)
+
+pub in_objects : (unihash : Hash) (q : List ℕ) → IsAtOrBelow (object_folder unihash) q → IsAtOrBelow (codes "obj") q
+in_objects unihash q (inl same) = inr (hash_text unihash, same)
+in_objects unihash q (inr down) = inr (inside (hash_text unihash) down.0, down.1 ∙ append_assoc (codes "obj") (47 ∷ hash_text unihash) (47 ∷ down.0))
+
+-- An object stays that is apart from the publication's.
+pub object_stays : (p : Publication) (old new : Store) (unihash : Hash) (q : List ℕ) → Publishes p old new → ((own : Hash) → p.object ≡ Some own → IsApart (object_folder own) q) → IsAtOrBelow (object_folder unihash) q → new q ≡ old q
+object_stays p old new unihash q publishes apart below = by below
+  where
+    foreign : (rest : List ℕ) → q ≡ 111 ∷ rest → IsForeign p q
+    foreign rest is = subst (IsForeign p) (sym is) (record {
+      temporary = λ under. heads_differ (differ 111 116 refl) under.1;
+      work = apart_by_first rest (111 ∷ 114 ∷ 107 ∷ 47 ∷ p.folder) (differ 111 119 refl);
+      stamp = heads_differ (differ 111 115 refl);
+      stored = λ new_one. heads_differ (differ 111 114 refl);
+      shared = λ own some. subst (IsApart (object_folder own)) is (apart own some);
+    })
+
+    by : IsAtOrBelow (object_folder unihash) q → new q ≡ old q
+    by (inl same) = publishes.others q (foreign (98 ∷ 106 ∷ 47 ∷ hash_text unihash) same)
+    by (inr under) = publishes.others q (foreign (98 ∷ 106 ∷ 47 ∷ (hash_text unihash ++ 47 ∷ under.0)) under.1)

@@ -61,6 +61,8 @@ left o plan options written may image same = record {
   valid = subst (λ (h : Store). IsValid o.gives o.reading h (o.book ++ [])) (sym same) (begins_valid o plan may);
   honest = λ t task at. inl (record { stamp = ap (λ (h : Store). h (stamp_at (task_folder task))) same; work = λ q below. ap (λ (h : Store). h q) same });
   others = λ t task at none. record { stamp = ap (λ (h : Store). h (stamp_path task)) same; work = λ q below. ap (λ (h : Store). h q) same; objects = λ line has pn name q below. ap (λ (h : Store). h q) same };
+  paths = λ q aside. ap (λ (h : Store). h q) same;
+  objects = λ line has none q below. ap (λ (h : Store). h q) same;
   folders = subst HasFolders (sym same) may.folders;
 }
 
@@ -91,6 +93,8 @@ begin_is_run o plan options written may = record {
   answered = λ none t a at. absurd (none_begun (length plan.tasks) t a at);
   met = λ t settled. absurd (none_settled plan t settled);
   tried = λ t b. absurd (none_begun (length plan.tasks) t b.0 b.1);
+  halted = 0;
+  told = λ t b. absurd (none_begun (length plan.tasks) t b.0 b.1);
   images = λ t image le since. inl since;
   stands = λ image is t task at settled. absurd (none_settled plan t settled);
   settled = λ k entry at. absurd (cc);

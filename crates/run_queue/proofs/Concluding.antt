@@ -51,9 +51,9 @@ use Rattle.run_queue.specs.Asking.{WasKept, earlier_in, kept_or_meant, meant}
 use Rattle.run_queue.specs.Books.{book_after, book_by, rows_after, signed_after}
 use Rattle.run_queue.specs.Courses.{IsCourse, IsReal}
 use Rattle.run_queue.specs.declared.fault.RunFault.{RunFault}
-use Rattle.run_queue.specs.Keeps.{IsRun, WasThere}
+use Rattle.run_queue.specs.Keeps.{IsRun, WasThere, nobody}
 use Rattle.run_queue.specs.Seen.{IsBegun, Known, Seen, known_in, no_meaning}
-use Rattle.run_queue.specs.Stands.{AllStand, HasEnded, HasOwnRow, IsSettledIn, IsStanding, KeepObjects}
+use Rattle.run_queue.specs.Stands.{AllStand, HasEnded, HasOwnRow, HasStarted, IsSettledIn, IsStanding, KeepObjects}
 use Rattle.run_queue.proofs.Answered.{means_there, one_signature, own_name, own_pn}
 use Rattle.run_queue.proofs.Known.{own_signature, own_task, sound_ordered, up_to_date}
 use Rattle.run_queue.proofs.Enduring.{differ_at, same_signed, row_on, signed_at, signed_task, standing_grown, keeps_object}
@@ -61,14 +61,14 @@ use Rattle.run_queue.proofs.Growing.{book_grows, ended_grows, legal_grows}
 use Rattle.run_queue.proofs.Notes.{set_other, set_same}
 use Rattle.run_queue.proofs.Putting.{Begins, book_now, durable_after, left_after, more_begun, own_after, readable_after, stand_now, stand_since}
 use Rattle.run_queue.proofs.Recorded.{IsPut, which}
-use Rattle.run_queue.proofs.Touched.{Tried, running_started, started_on, tried_as, tried_besides}
+use Rattle.run_queue.proofs.Touched.{Told, Tried, aside_less, aside_on, none_on, running_started, started_on, told_on, told_started, tried_as, tried_besides}
 use Rattle.run_queue.proofs.Unsettled.{if_some_on}
 
 -- ---- with a fault
 
 -- A fault that is kept leaves what a run keeps, where the store wasn't touched; more tasks may be begun.
-pub fault_run : (o : Opening) (s : Seen) (begun : List (Option Avail)) (kept : List KeptSig) (f : RunFault) → ((u : ℕ) → IsBegun s u → IsBegun (record s { begun = begun }) u) → Tried o s begun → IsRun o s → IsRun o (record s { begun = begun; kept = kept; fault = Some f })
-fault_run o s begun kept f more tried run = record {
+pub fault_run : (o : Opening) (s : Seen) (begun : List (Option Avail)) (kept : List KeptSig) (f : RunFault) → ((u : ℕ) → IsBegun s u → IsBegun (record s { begun = begun }) u) → Tried o s begun → (run : IsRun o s) → Told begun s.tale (Some f) run.halted nobody → IsRun o (record s { begun = begun; kept = kept; fault = Some f })
+fault_run o s begun kept f more tried run told = record {
   may = run.may;
   rows = run.rows;
   lines = run.lines;
@@ -92,9 +92,11 @@ fault_run o s begun kept f more tried run = record {
   answered = λ none. absurd (cc);
   met = λ u settled not_yet. let m = run.met u settled not_yet in (m.0, m.1, m.2);
   tried = tried_as o s (record s { begun = begun; kept = kept; fault = Some f }) begun (λ u started. started) (λ u was x here. was x here) tried;
+  halted = run.halted;
+  told = told;
   images = λ from image le since. elim (run.images from image le since) [
     | inl before ↦ inl before
-    | inr l ↦ inr (record { count = l.count; valid = l.valid; honest = l.honest; others = λ u other at_u not_begun. l.others u other at_u (λ b. not_begun (more u b)); folders = l.folders })
+    | inr l ↦ inr (record { count = l.count; valid = l.valid; honest = l.honest; others = λ u other at_u not_begun. l.others u other at_u (λ b. not_begun (more u b)); paths = λ q aside. l.paths q (aside_less s.plan (IsBegun s) (IsBegun (record s { begun = begun })) (HasStarted s.tale) (HasStarted s.tale) q more (λ u b. b) aside); objects = l.objects; folders = l.folders })
   ];
   stands = run.stands;
   settled = run.settled;
@@ -167,8 +169,11 @@ module _ (o : Opening) (s : Seen) (run : IsRun o s) (faultless : s.fault ≡ Non
   rests = ap is_settled runs
 
   -- the task was started
+  started : HasStarted s.tale t
+  started = running_started (length s.plan.tasks) s.tale t seat runs
+
   tried_now : Tried o s begun
-  tried_now = tried_besides o s begun t begins.others run.tried (inl (running_started (length s.plan.tasks) s.tale t seat runs))
+  tried_now = tried_besides o s begun t begins.others run.tried (inl started)
 
   -- A publication in which a fault was met leaves what a run keeps, with that fault.
   pub faulty_run : (kept : List KeptSig) (f : RunFault) → AllByRecursion IsReadable put.more → IsRun o (record s { story = later; begun = begun; kept = kept; fault = Some f })
@@ -196,9 +201,11 @@ module _ (o : Opening) (s : Seen) (run : IsRun o s) (faultless : s.fault ≡ Non
     answered = λ none. absurd (cc);
     met = λ u settled not_yet. let m = run.met u settled not_yet in (m.0, m.1, m.2);
     tried = tried_as o s (record s { story = later; begun = begun; kept = kept; fault = Some f }) begun (λ u started. started) (λ u was x here. was x here) tried_now;
-    images = λ from image le since. elim (left_after o s run faultless orderly may t sg at is_sg tree put rests later sound pass aside begun begins from image le since) [
+    halted = run.halted;
+    told = told_started s.begun begun t s.tale s.fault (Some f) run.halted begins.others started (λ e. faultless) run.told;
+    images = λ from image le since. elim (left_after o s run faultless orderly may t sg at is_sg tree put rests later sound pass aside begun begins started from image le since) [
       | inl before ↦ inl before
-      | inr l ↦ inr (record { count = l.count; valid = l.valid; honest = l.honest; others = l.others; folders = l.folders })
+      | inr l ↦ inr (record { count = l.count; valid = l.valid; honest = l.honest; others = l.others; paths = l.paths; objects = l.objects; folders = l.folders })
     ];
     stands = stand_now o s run faultless orderly may t sg at is_sg tree put rests later sound pass aside;
     settled = stand_since o s run faultless orderly may t sg at is_sg tree put rests later sound pass aside;
@@ -437,9 +444,11 @@ module _ (o : Opening) (s : Seen) (run : IsRun o s) (faultless : s.fault ≡ Non
               let m = run.met u (settled_back u b.0 settled) b.1 in
               (m.0, was_on o s put.more rows run.rows rows_are may u m.0 m.2 m.1, m.2);
           tried = tried_as o s (ended_as rows kept known failed fault written) begun (λ u. started_on s.tale entry u) (λ u was. was_on o s put.more rows run.rows rows_are may u avail.Object (λ n. let e : avail.Object ≡ avail.Missing = n in cc) was) tried_now;
-          images = λ from image le since. elim (left_after o s run faultless orderly may t sg at is_sg tree put rests later sound pass aside begun begins from image le since) [
+          halted = run.halted;
+          told = told_on begun s.tale entry s.fault fault run.halted nobody (λ e. faultless) (λ u never. absurd never) (told_started s.begun begun t s.tale s.fault s.fault run.halted begins.others started (λ e. e) run.told);
+          images = λ from image le since. elim (left_after o s run faultless orderly may t sg at is_sg tree put rests later sound pass aside begun begins started from image le since) [
             | inl before ↦ inl before
-            | inr l ↦ inr (record { count = l.count; valid = subst (λ (b : Book). IsValid o.gives o.reading image (o.book ++ take l.count b)) (sym none) l.valid; honest = l.honest; others = l.others; folders = l.folders })
+            | inr l ↦ inr (record { count = l.count; valid = subst (λ (b : Book). IsValid o.gives o.reading image (o.book ++ take l.count b)) (sym none) l.valid; honest = l.honest; others = l.others; paths = λ q is. l.paths q (aside_on s.plan begun s.tale entry q is); objects = λ line has none. l.objects line has (none_on s.plan s.tale entry line.sig.pn line.sig.task none); folders = l.folders })
           ];
           stands = λ image is. stands_longer image is;
           settled = λ k x here lt image since. settled_longer k x here lt image since;

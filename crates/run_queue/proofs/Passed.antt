@@ -7,11 +7,12 @@ use Rattle.outside_traits.specs.Story.{IsImage, IsImageSince, Story, moment}
 use Rattle.outside_traits.proofs.Images.{now-since, since-now}
 use Rattle.store_model.specs.Valid.{IsValid}
 use Rattle.run_queue.specs.Opening.{Opening}
-use Rattle.run_queue.specs.Keeps.{IsRun}
+use Rattle.run_queue.specs.Keeps.{IsRun, nobody}
 use Rattle.run_queue.specs.declared.fault.RunFault.{RunFault}
 use Rattle.build_store.specs.View.{SameBooks, View}
 use Rattle.run_queue.specs.Seen.{RunView, Seen, seen}
 use Rattle.run_queue.specs.Stands.{IsLeft}
+use Rattle.run_queue.proofs.Touched.{told_by}
 
 -- an image of now was one before
 pub same_now : (old new : Story) (image : Store) → Passes old new Same → IsImage new image → IsImage old image
@@ -47,9 +48,11 @@ passed_run o s story fault p faultless run = record {
   answered = λ none. run.answered (faultless none);
   met = run.met;
   tried = λ u b. elim (run.tried u b) [ inl started ↦ inl started | inr was ↦ inr was ];
+  halted = run.halted;
+  told = told_by s.begun s.begun s.tale s.tale s.fault fault run.halted nobody (λ u b. inl b) (λ u up. up) faultless (λ u never. absurd never) run.told;
   images = λ t image le since. elim (run.images t image le (same_since s.story story t image p (let a = run.later in omega (arith, a, le)) since)) [
     | inl before ↦ inl before
-    | inr l ↦ inr (record { count = l.count; valid = l.valid; honest = l.honest; others = l.others; folders = l.folders })
+    | inr l ↦ inr (record { count = l.count; valid = l.valid; honest = l.honest; others = l.others; paths = l.paths; objects = l.objects; folders = l.folders })
   ];
   stands = λ image is. run.stands image (same_now s.story story image p is);
   settled = λ k entry at lt image since. run.settled k entry at lt image (same_since s.story story entry.moment image p (run.marked k entry at) since);
@@ -90,5 +93,7 @@ left_since o s run image since = elim (run.images (moment o.story) image (omega 
       valid = subst (IsValid o.gives o.reading o.story.held) (sym (append-nil o.book)) run.may.valid;
       honest = λ t task at. inl (record { stamp = refl; work = λ q below. refl });
       others = λ t task at none. record { stamp = refl; work = λ q below. refl; objects = λ line has pn name q below. refl };
+      paths = λ q aside. refl;
+      objects = λ line has none q below. refl;
       folders = run.may.folders;
     }

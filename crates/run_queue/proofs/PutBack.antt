@@ -1,6 +1,6 @@
 -- What a run keeps while a task is restored from its object.
 use Rattle.std.proofs.Common.{◌≡◌, ◌∙◌, sym, ap, subst, refl, ℕ, ◌+◌, ◌<◌, ◌≤◌, ◌-◌, ◌^◌, ◌⊎◌, inl, inr, arith, true, false, List, ◌∷◌, ◌++◌, length, take, Some, None, Ok, append_assoc}
-use Rattle.std.specs.Prelude.{codes, Contains, Option}
+use Rattle.std.specs.Prelude.{codes, Contains, IsSome, Option}
 use Rattle.std.specs.List.{slice_get}
 use Rattle.std.proofs.lemmas.Bool.{cases_eq, false≢true}
 use Rattle.std.proofs.lemmas.List.{length-map, take_all}
@@ -50,12 +50,13 @@ use Rattle.build_store.proofs.Others.{others_untouched}
 use Rattle.build_store.proofs.Validity.{published_is_valid}
 use Rattle.run_queue.specs.Opening.{HasFolders, Opening}
 use Rattle.run_queue.specs.declared.fault.RunFault.{RunFault}
-use Rattle.run_queue.specs.Keeps.{IsRun, IsUpToDate, WasThere}
+use Rattle.run_queue.specs.Keeps.{IsRun, IsRunBut, IsUpToDate, WasThere}
 use Rattle.run_queue.specs.Seen.{IsBegun, Known, Seen}
-use Rattle.run_queue.specs.Stands.{AllStand, HasEnded, IsAsBegun, IsLeft, KeepObjects}
-use Rattle.run_queue.proofs.Touched.{tried_as, tried_besides}
+use Rattle.run_queue.specs.Own.{IsAside}
+use Rattle.run_queue.specs.Stands.{AllStand, HasEnded, HasStarted, IsAsBegun, IsLeft, KeepObjects}
+use Rattle.run_queue.proofs.Touched.{aside_less, told_halted, tried_as, tried_besides}
 use Rattle.run_queue.proofs.Agreement.{signed_count, some_known}
-use Rattle.run_queue.proofs.Aside.{folders_on, honest_on}
+use Rattle.run_queue.proofs.Aside.{aside_stays, folders_on, honest_on, object_stays}
 use Rattle.run_queue.proofs.Concluding.{later_moment}
 use Rattle.run_queue.proofs.Enduring.{differ_at, front_book, keeps_object, standing_on}
 use Rattle.run_queue.proofs.FoldersAbove.{above_object, unihash_is_name}
@@ -291,8 +292,20 @@ module _ (o : Opening) (s : Seen) (run : IsRun o s) (sound : story_of.IsSound s.
                 (has.0, Rattle.store_model.proofs.Standing.stands_further (book_now o s) o.book run.lines has.0 x run.grown has.1) pn name old new r.publishes).object q below ∙ past.objects x has pn name q below;
           }
 
+      -- what is aside now was so before
+      aside_before : (q : List ℕ) → IsAside s.plan (IsBegun (record s { story = later; begun = begun; fault = fault })) (HasStarted s.tale) q → IsAside s.plan (IsBegun s) (HasStarted s.tale) q
+      aside_before q is = aside_less s.plan (IsBegun s) (IsBegun (record s { story = later; begun = begun; fault = fault })) (HasStarted s.tale) (HasStarted s.tale) q (more_begun s begun t begins) (λ u b. b) is
+
+      -- what is at a path that is none of the own ones of tasks that are begun
+      paths_put : (old new : Store) (q : List ℕ) → RestoresObject s.story.held s.rows signed.0 old new → HasFolders old → HasFolders new → IsAside s.plan (IsBegun (record s { story = later; begun = begun; fault = fault })) (HasStarted s.tale) q → new q ≡ old q
+      paths_put old new q r before folders is =
+          aside_stays (restoration signed.0 r.row r.tree) signed.0.task old new q (has_place s.plan t signed.0.task run.may.sound at) refl r.publishes before folders is.temporary
+          (λ own. is.folder t signed.0.task at (begins.there, begins.here) own)
+          (λ new_one. absurd (false≢true new_one))
+          (λ unihash some. absurd (let n : None ≡ Some unihash = some in cc))
+
       left_was : (image : Store) → IsLeft o s (run.lines ++ run.last) image → IsLeft o (record s { story = later; begun = begun; fault = fault }) (run.lines ++ run.last) image
-      left_was image past = record { count = past.count; valid = past.valid; honest = past.honest; others = λ u other at_u not_begun. past.others u other at_u (was_not u not_begun).1; folders = past.folders }
+      left_was image past = record { count = past.count; valid = past.valid; honest = past.honest; others = λ u other at_u not_begun. past.others u other at_u (was_not u not_begun).1; paths = λ q is. past.paths q (aside_before q is); objects = past.objects; folders = past.folders }
 
       left_put : (old new : Store) → IsImage s.story old → HasFolders new → RestoresObject s.story.held s.rows signed.0 old new → IsLeft o (record s { story = later; begun = begun; fault = fault }) (run.lines ++ run.last) new
       left_put old new is folders r =
@@ -304,6 +317,8 @@ module _ (o : Opening) (s : Seen) (run : IsRun o s) (sound : story_of.IsSound s.
             valid = subst (IsValid o.gives o.reading new) (run.grown ∙ ap (λ (b : Book). o.book ++ b) (sym w.1)) v;
             honest = λ u other at_u. honest_on (restoration signed.0 r.row r.tree) o.story.held old new signed.0.task other (has_place s.plan t signed.0.task run.may.sound at) (has_place s.plan u other run.may.sound at_u) refl (either_or u other at_u) r.publishes (λ new_one. not_new new_one) (past.honest u other at_u);
             others = λ u other at_u not_begun. let x = was_not u not_begun in as_begun old new r u other at_u x.0 (past.others u other at_u x.1);
+            paths = λ q is. paths_put old new q r past.folders folders is ∙ past.paths q (aside_before q is);
+            objects = λ l has free q below. object_stays (restoration signed.0 r.row r.tree) old new l.unihash q r.publishes (λ own some. absurd (let n : None ≡ Some own = some in cc)) below ∙ past.objects l has free q below;
             folders = folders;
           }
 
@@ -336,9 +351,9 @@ module _ (o : Opening) (s : Seen) (run : IsRun o s) (sound : story_of.IsSound s.
               inr (put_or made.0 made.1 made.2
               (folders_on (record (restoration signed.0 in_object.row in_object.object.tree) { object = None }) s.story.held kept.0 image signed.0.task (has_place s.plan t signed.0.task run.may.sound at) refl kept.2 (folders s.story.held held_now) (folders kept.0 kept.1)))
 
-      -- Whatever a restoring answers, it leaves what a run keeps, with this fault, if one is kept.
-      pub restoring_run : IsRun o (record s { story = later; begun = begun; fault = fault })
-      restoring_run = record {
+      -- Whatever a restoring answers, it leaves what a run keeps, with this fault, if one is kept; where none is, its task isn't told of yet.
+      pub restoring_run : (but : ℕ → Type 0) → IsSome fault ⊎ but t → IsRunBut o (record s { story = later; begun = begun; fault = fault }) but
+      restoring_run but spare = record {
         may = run.may;
         rows = run.rows;
         lines = run.lines;
@@ -367,6 +382,8 @@ module _ (o : Opening) (s : Seen) (run : IsRun o s) (sound : story_of.IsSound s.
         ];
         met = λ u settled not_yet. let m = run.met u settled not_yet in (m.0, m.1, m.2);
         tried = tried_as o s (record s { story = later; begun = begun; fault = fault }) begun (λ u started. started) (λ u there x here. there x here) (tried_besides o s begun t begins.others run.tried (inr (λ x here. was x here)));
+        halted = t;
+        told = told_halted s.begun begun t s.tale s.fault fault run.halted but begins.others none spare run.told;
         images = λ from image le since. left_after from image le since;
         stands = λ image is. stand_now image is;
         settled = λ n entry here lt image since. stand_since n entry here lt image since;

@@ -1,11 +1,14 @@
 -- What a run keeps of its store while a task's output is published.
 use Rattle.std.proofs.Common.{◌≡◌, ◌≢◌, ◌∙◌, sym, ap, subst, refl, ℕ, ◌+◌, ◌<◌, ◌≤◌, ◌-◌, ◌^◌, ◌⊎◌, inl, inr, zero, suc, arith, Bool, true, false, List, [], ◌∷◌, ◌++◌, length, take, Some, None, Ok, append_assoc, append-nil}
-use Rattle.std.specs.Prelude.{Option}
+use Rattle.std.specs.Prelude.{codes, Option}
 use Rattle.std.specs.List.{AllByRecursion, slice_get}
 use Rattle.std.proofs.lemmas.Bool.{cases_eq, false≢true}
 use Rattle.std.proofs.lemmas.List.{take_all, take-append-le}
+use Rattle.tree_model.specs.declared.hash.Hash.{Hash}
+use Rattle.tree_model.specs.Hash.{hash_text}
+use Rattle.tree_model.specs.Path.{IsAtOrBelow}
 use Rattle.outside_traits.specs.Passes.{Passes}
-use Rattle.outside_traits.specs.Store.{Store}
+use Rattle.outside_traits.specs.Store.{IsApart, Store}
 use Rattle.outside_traits.specs.Story.{IsImage, IsImageSince, Story, moment}
 use Rattle.outside_traits.specs.Story as story_of
 use Rattle.outside_traits.proofs.Images.{held-image, now-since}
@@ -20,6 +23,7 @@ use Rattle.run_core.proofs.Steps.{told_push}
 use Rattle.store_model.specs.Origins.{Book, Line, rows_of}
 use Rattle.store_model.specs.Premises.{HasNoCollision}
 use Rattle.store_model.specs.declared.signature.EquivRow.{EquivRow}
+use Rattle.store_model.specs.Available.{object_folder}
 use Rattle.store_model.specs.Recording.{recorded}
 use Rattle.store_model.specs.Reuse.{MayReuse}
 use Rattle.store_model.specs.Rows.{row_at}
@@ -30,21 +34,26 @@ use Rattle.store_model.proofs.Ordered.{each_append}
 use Rattle.store_model.proofs.Standing.{split_last, stands_further}
 use Rattle.build_store.specs.Faults.{IsClear}
 use Rattle.build_store.specs.Laws.{HasLine}
+use Rattle.build_store.specs.Named.{IsName}
 use Rattle.build_store.specs.Paths.{record_path}
 use Rattle.build_store.specs.Publication.{IsPublished, KeepsOthers, Publication, Publishes, line_for, publication}
 use Rattle.build_store.specs.Sound.{IsReadable}
-use Rattle.build_store.proofs.Others.{others_untouched}
+use Rattle.build_store.proofs.Clean.{name_is_name, name_slashes}
+use Rattle.build_store.proofs.Apart.{apart_under, apart_within}
+use Rattle.build_store.proofs.Others.{longer_valid, others_untouched, texts_apart}
 use Rattle.run_queue.specs.Opening.{HasFolders, Opening}
 use Rattle.run_queue.specs.Books.{book_after}
 use Rattle.run_queue.specs.Keeps.{IsRun}
 use Rattle.run_queue.specs.Seen.{IsBegun, Seen}
-use Rattle.run_queue.specs.Stands.{AllStand, IsAsBegun, IsLeft, IsSettledIn, IsStanding}
-use Rattle.run_queue.proofs.Aside.{folders_on, honest_on}
+use Rattle.run_queue.specs.Own.{IsAside, IsOfNone}
+use Rattle.run_queue.specs.Stands.{AllStand, HasStarted, IsAsBegun, IsLeft, IsSettledIn, IsStanding}
+use Rattle.run_queue.proofs.Aside.{aside_stays, folders_on, honest_on, in_objects, object_stays}
 use Rattle.run_queue.proofs.Clearing.{clear_is_no_collision, unihashes_are}
 use Rattle.run_queue.proofs.Enduring.{differ_at, front_book, keeps_object, standing_on}
 use Rattle.run_queue.proofs.Passed.{left_since}
 use Rattle.run_queue.proofs.Placing.{has_place}
 use Rattle.run_queue.proofs.Recorded.{IsPut, either_valid, front_again, published_valid, unknown, which, whole_again}
+use Rattle.run_queue.proofs.Touched.{aside_less}
 
 -- ---- the book of a run in which no fault is kept
 
@@ -137,6 +146,19 @@ module _ (o : Opening) (s : Seen) (run : IsRun o s) (faultless : s.fault ≡ Non
     | inr ne ↦ inr (differ_at s.plan run.may.sound u t other sg.task at_u at ne)
   ]
 
+  -- the unihash of the publication is a name
+  own_name : IsName put.line.unihash
+  own_name = elim (which o.gives o.reading (book_now o s) sg tree put) [
+    | inl has ↦ by has.0 (valid has.0 put.line has.1)
+    | inr is ↦ by (book_now o s) is
+  ]
+    where
+      by : (before : Book) → IsValidLine o.gives o.reading before put.line → IsName put.line.unihash
+      by before is = elim is.named [
+        | inl own ↦ subst IsName (sym own) (name_is_name put.line.sig)
+        | inr like ↦ subst IsName (sym like.name) (name_is_name like.first.sig)
+      ]
+
   -- ---- images
 
   module _ (begun : List (Option Avail)) (begins : Begins s.begun begun t) where
@@ -147,6 +169,10 @@ module _ (o : Opening) (s : Seen) (run : IsRun o s) (faultless : s.fault ≡ Non
     was_not u not_begun =
         let ne : u ≡ t → ⊥ = λ same. not_begun (begins.there, ap (slice_get begun) same ∙ begins.here) in
         (ne, λ b. not_begun (b.0, begins.others u ne ∙ b.1))
+
+    -- what is aside now was so before
+    aside_before : (q : List ℕ) → IsAside s.plan (IsBegun (record s { begun = begun })) (HasStarted s.tale) q → IsAside s.plan (IsBegun s) (HasStarted s.tale) q
+    aside_before q is = aside_less s.plan (IsBegun s) (IsBegun (record s { begun = begun })) (HasStarted s.tale) (HasStarted s.tale) q (more_begun s begun t begins) (λ u b. b) is
 
     -- the objects of the opening's lines of a task that isn't begun
     as_begun : (u : ℕ) (other : PlanTask) → slice_get s.plan.tasks u ≡ Some other → (u ≡ t → ⊥) → (old new : Store) → Publishes (publication (rows_of (book_now o s)) sg tree) old new → IsAsBegun o.book o.story.held old other → IsAsBegun o.book o.story.held new other
@@ -169,9 +195,40 @@ module _ (o : Opening) (s : Seen) (run : IsRun o s) (faultless : s.fault ≡ Non
         by (inl v) = let w = whole_again run.lines put.more in (w.0, subst (IsValid o.gives o.reading new) (run.grown ∙ ap (λ (b : Book). o.book ++ b) (sym w.1)) v)
         by (inr v) = let l : List Line = run.lines ++ put.more in (length l, subst (IsValid o.gives o.reading new) (longer ∙ ap (λ (b : Book). o.book ++ b) (sym (take_all (length l) l (omega arith)))) v)
 
+    -- what is at a path that is no own one of tasks that are begun
+    paths_put : (old new : Store) (q : List ℕ) → HasStarted s.tale t → HasFolders old → HasFolders new → Publishes (publication (rows_of (book_now o s)) sg tree) old new → IsAside s.plan (IsBegun (record s { begun = begun })) (HasStarted s.tale) q → new q ≡ old q
+    paths_put old new q started before folders publishes is =
+        aside_stays p sg.task old new q (has_place s.plan t sg.task run.may.sound at) refl publishes before folders is.temporary
+        (λ own. is.folder t sg.task at (begins.there, begins.here) own)
+        (λ new_one same. is.output t started (inl (inr (hash_text (name_of sg.sig), same))))
+        (λ unihash some. (
+          name_slashes unihash (subst IsName (sym (put.of_task.object unihash some)) own_name),
+          λ below. is.output t started (inr (in_objects unihash q below)),
+        ))
+
+    -- the object of a line of which no task was started
+    objects_put : (old new : Store) (l : Line) (q : List ℕ) → HasStarted s.tale t → Publishes (publication (rows_of (book_now o s)) sg tree) old new → HasLine o.book l → IsOfNone s.plan (HasStarted s.tale) l.sig.pn l.sig.task → IsAtOrBelow (object_folder l.unihash) q → new q ≡ old q
+    objects_put old new l q started publishes has none below = object_stays p old new l.unihash q publishes (λ own some. subst (λ (h : Hash). IsApart (object_folder h) q) (sym (put.of_task.object own some)) apart) below
+      where
+        here : HasLine (book_now o s) l
+        here = (has.0, stands_further (book_now o s) o.book run.lines has.0 l run.grown has.1)
+
+        other : l.sig.pn ≡ put.line.sig.pn → l.sig.task ≡ put.line.sig.task → ⊥
+        other a b = none t sg.task at started (a ∙ put.pn) (b ∙ put.task)
+
+        texts : IsApart (hash_text put.line.unihash) (hash_text l.unihash)
+        texts = elim (which o.gives o.reading (book_now o s) sg tree put) [
+          | inl known ↦ texts_apart o.gives o.reading (book_now o s) valid put.line l known here other
+          | inr behind ↦ texts_apart o.gives o.reading (book_now o s ++ put.line ∷ []) (longer_valid o.gives o.reading (book_now o s) put.line valid behind) put.line l
+              (book_now o s, record { rest = []; is = refl }) (here.0, stands_further (book_now o s ++ put.line ∷ []) (book_now o s) (put.line ∷ []) here.0 l refl here.1) other
+        ]
+
+        apart : IsApart (object_folder put.line.unihash) q
+        apart = apart_within (object_folder put.line.unihash) (object_folder l.unihash) q (apart_under (codes "obj") (hash_text put.line.unihash) (hash_text l.unihash) texts) below
+
     -- what an image is that the publication made
-    left_put : (old new : Store) → IsImage s.story old → HasFolders new → Publishes (publication (rows_of (book_now o s)) sg tree) old new → IsLeft o (record s { begun = begun }) (run.lines ++ put.more) new
-    left_put old new is folders publishes =
+    left_put : (old new : Store) → HasStarted s.tale t → IsImage s.story old → HasFolders new → Publishes (publication (rows_of (book_now o s)) sg tree) old new → IsLeft o (record s { begun = begun }) (run.lines ++ put.more) new
+    left_put old new started is folders publishes =
         let was = left_since o s run old (now-since s.story (moment o.story) old run.later is) in
         let v = left_valid old new is publishes in
         record {
@@ -179,6 +236,8 @@ module _ (o : Opening) (s : Seen) (run : IsRun o s) (faultless : s.fault ≡ Non
           valid = v.1;
           honest = λ u other at_u. honest_on p o.story.held old new sg.task other (has_place s.plan t sg.task run.may.sound at) (has_place s.plan u other run.may.sound at_u) refl (either_or u other at_u) publishes (new_name old is) (was.honest u other at_u);
           others = λ u other at_u not_begun. let w = was_not u not_begun in as_begun u other at_u w.0 old new publishes (was.others u other at_u w.1);
+          paths = λ q aside. paths_put old new q started was.folders folders publishes aside ∙ was.paths q (aside_before q aside);
+          objects = λ l has none q below. objects_put old new l q started publishes has none below ∙ was.objects l has none q below;
           folders = folders;
         }
 
@@ -192,12 +251,14 @@ module _ (o : Opening) (s : Seen) (run : IsRun o s) (faultless : s.fault ≡ Non
           valid = subst (λ (b : Book). IsValid o.gives o.reading image (o.book ++ b)) (ap (take was.count) none ∙ sym d.1) was.valid;
           honest = was.honest;
           others = λ u other at_u not_begun. was.others u other at_u (was_not u not_begun).1;
+          paths = λ q aside. was.paths q (aside_before q aside);
+          objects = was.objects;
           folders = was.folders;
         }
 
     -- whatever a crash left by now
-    pub left_after : (from : ℕ) (image : Store) → from ≤ moment o.story → IsImageSince later from image → IsImageSince o.story from image ⊎ IsLeft o (record s { begun = begun }) (run.lines ++ put.more) image
-    left_after from image le since = by (pass.since from image come since) (aside.since from image come since)
+    pub left_after : HasStarted s.tale t → (from : ℕ) (image : Store) → from ≤ moment o.story → IsImageSince later from image → IsImageSince o.story from image ⊎ IsLeft o (record s { begun = begun }) (run.lines ++ put.more) image
+    left_after started from image le since = by (pass.since from image come since) (aside.since from image come since)
       where
         come : from ≤ moment s.story
         come = let a = run.later in omega (arith, a, le)
@@ -211,7 +272,7 @@ module _ (o : Opening) (s : Seen) (run : IsRun o s) (faultless : s.fault ≡ Non
 
         put_or : (made : (earlier : Store) × IsImage s.story earlier × Publishes (publication (rows_of (book_now o s)) sg tree) earlier image) → IsImageSince o.story from image ⊎ IsLeft o s (run.lines ++ run.last) image → IsImageSince o.story from image ⊎ IsLeft o (record s { begun = begun }) (run.lines ++ put.more) image
         put_or made (inl before) = inl before
-        put_or made (inr left) = inr (left_put made.0 image made.1 left.folders made.2)
+        put_or made (inr left) = inr (left_put made.0 image started made.1 left.folders made.2)
 
         by : IsImageSince s.story from image ⊎ ((earlier : Store) × IsImage s.story earlier × Publishes (publication (rows_of (book_now o s)) sg tree) earlier image)
             → IsImageSince s.story from image ⊎ ((earlier : Store) × IsImage s.story earlier × KeepsOthers (publication (rows_of (book_now o s)) sg tree).folder (publication (rows_of (book_now o s)) sg tree).object s.story.held earlier image)
@@ -219,7 +280,7 @@ module _ (o : Opening) (s : Seen) (run : IsRun o s) (faultless : s.fault ≡ Non
         by (inl was) other = old (run.images from image le was)
         by (inr made) (inl was) = put_or made (run.images from image le was)
         by (inr made) (inr kept) =
-            inr (left_put made.0 image made.1
+            inr (left_put made.0 image started made.1
             (folders_on p s.story.held kept.0 image sg.task (has_place s.plan t sg.task run.may.sound at) refl kept.2 (folders s.story.held held_now) (folders kept.0 kept.1)) made.2)
 
     -- the lines are of tasks that are begun

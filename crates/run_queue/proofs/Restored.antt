@@ -1,5 +1,5 @@
 -- A task that is restored from its object, as views of a state.
-use Rattle.std.proofs.Common.{◌≡◌, ◌≢◌, ◌∙◌, sym, ap, subst, refl, ℕ, ◌<◌, ◌-◌, ◌^◌, min, zero, suc, arith, Bool, true, false, List, [], ◌∷◌, ◌++◌, length, set, Some, None}
+use Rattle.std.proofs.Common.{◌≡◌, ◌≢◌, ◌∙◌, sym, ap, subst, refl, ℕ, ◌<◌, ◌-◌, ◌^◌, min, zero, suc, arith, Bool, true, false, List, [], ◌∷◌, ◌++◌, length, set, Some, None, ◌⊎◌, inl, inr}
 use Rattle.std.specs.Prelude.{IsSome, Option}
 use Rattle.std.specs.List.{slice_get}
 use Rattle.std.proofs.lemmas.Option.{same_Some, slice_get_within}
@@ -32,10 +32,10 @@ use Rattle.run_queue.specs.Opening.{Opening}
 use Rattle.run_queue.specs.Books.{rows_after, signed_after}
 use Rattle.run_queue.specs.Courses.{IsCourse}
 use Rattle.run_queue.specs.declared.fault.RunFault.{RunFault}
-use Rattle.run_queue.specs.Keeps.{IsRun, IsUpToDate}
+use Rattle.run_queue.specs.Keeps.{IsRun, IsRunBut, IsUpToDate, nobody}
 use Rattle.run_queue.specs.Puts.{HasPutObject, IsSignedAt, PutsObject}
 use Rattle.run_queue.specs.Seen.{Known, RunView, Seen, seen}
-use Rattle.run_queue.specs.Stands.{HasOwnRow, IsStanding}
+use Rattle.run_queue.specs.Stands.{HasOwnRow, IsStanding, IsTakenUp}
 use Rattle.run_queue.specs.Turns.{MarksAt, Notes}
 use Rattle.run_queue.proofs.Claiming.{claim_may_come}
 use Rattle.run_queue.proofs.Growing.{book_grows}
@@ -43,6 +43,7 @@ use Rattle.run_queue.proofs.Notes.{set_same}
 use Rattle.run_queue.proofs.PutBack.{at, built, has_object, in_object, line_at, object_is_clean, restoring_run, signed, was}
 use Rattle.run_queue.proofs.Putting.{Begins}
 use Rattle.run_queue.proofs.Settled.{SettlesOne, settled_view}
+use Rattle.run_queue.proofs.Touched.{restored_last}
 use Rattle.run_queue.proofs.Unsettled.{logged_at}
 
 pub restored_order : (tasks : List PlanTask) (tale : List Logged) (need : List Bool) (t seat : ℕ) → length need ≡ length tasks → IsIn need t → fate_at (fates_told (length tasks) tale) t ≡ fate.Waiting → IsFree (fates_told (length tasks) tale) seat → IsInOrder tasks (fates_told (length tasks) tale) seat (events.Restored t)
@@ -121,8 +122,8 @@ module _ (o : Opening) (s : Seen) (run : IsRun o s) (sound : story_of.IsSound s.
       stands = λ image is own here. subst (λ (x : PlanTask). IsStanding o s.plan (s.tale ++ entry ∷ []) t x image) (same_Some (signed o s run sound none orderly k is_known now t answer object).0.task own (sym (at o s run sound none orderly k is_known now t answer object) ∙ here)) (standing image is);
     }
 
-    pub may_restored : IsRun o (record s { story = later; begun = begun }) → (course : Course) → course.plan ≡ s.plan → IsCourse o s.options (s.tale ++ entry ∷ []) course → MayCome course s.tale entry
-    may_restored run_mid = claim_may_come o (record s { story = later; begun = begun }) k (next.Settle t) entry run_mid orderly is_known now free answer (ap (settled_as t) object)
+    pub may_restored : (course : Course) → course.plan ≡ s.plan → IsCourse o s.options (s.tale ++ entry ∷ []) course → MayCome course s.tale entry
+    may_restored = claim_may_come o s k (next.Settle t) entry run orderly is_known now free answer (ap (settled_as t) object)
 
 -- ---- views
 
@@ -152,22 +153,28 @@ module _ {D W : Type 0} (story : D → Story) (written : W → List ℕ) (o : Op
       written = written old.sink;
     }
 
-    run_by : (fault : Option RunFault) → IsRun o (record (seen story written old) { story = story store.disk; begun = begun; fault = fault })
-    run_by fault =
+    run_by : (fault : Option RunFault) (but : ℕ → Type 0) → IsSome fault ⊎ but t → IsRunBut o (record (seen story written old) { story = story store.disk; begun = begun; fault = fault }) but
+    run_by fault but spare =
         let p = puts (signed o (seen story written old) run sound none orderly k is_known now t answer object).0 (signed o (seen story written old) run sound none orderly k is_known now t answer object).1 in
-        restoring_run o (seen story written old) run sound none orderly k is_known now t answer object (story store.disk) later_sound (p.images tt) (p.others tt) begun begins restoring fault
+        restoring_run o (seen story written old) run sound none orderly k is_known now t answer object (story store.disk) later_sound (p.images tt) (p.others tt) begun begins restoring fault but spare
 
-    -- Whatever a restoring answers, it leaves what a run keeps.
-    pub restoring_view : (fault : Option RunFault) → IsRun o (seen story written (record old { store = store; begun = begun; fault = fault }))
-    restoring_view fault = subst (IsRun o) (path fault) (run_by fault)
+    -- Where a restoring met a fault, which is kept, it leaves what a run keeps.
+    pub restoring_view : (fault : Option RunFault) → IsSome fault → IsRun o (seen story written (record old { store = store; begun = begun; fault = fault }))
+    restoring_view fault some = subst (IsRun o) (path fault) (run_by fault nobody (inl some))
+
+    -- and where it met none, but that its task isn't told of yet
+    untold_view : (fault : Option RunFault) → IsRunBut o (seen story written (record old { store = store; begun = begun; fault = fault })) (λ u. u ≡ t)
+    untold_view fault = subst (λ (x : Seen). IsRunBut o x (λ u. u ≡ t)) (path fault) (run_by fault (λ u. u ≡ t) (inr refl))
 
     -- A task that was restored and marked so leaves it too.
     pub restored_view : (new : RunView D W) (seat : ℕ) → IsFree (fates_told (length old.plan.tasks) old.tale) seat → ((x : Signed) → IsSignedAt old.store.rows old.plan.tasks t x → HasPutObject (Unit {0}) (story old.store.disk) (story store.disk) old.store.rows x true)
         → Notes seat (events.Restored t) (record old { store = store; begun = begun; fault = old.fault }) new → MarksAt (story store.disk) seat (events.Restored t) old.tale new.tale → (IsSome old.fault → new.fault ≡ old.fault) → IsRun o (seen story written new)
     restored_view new seat free answered notes marks stays =
-        settled_view story written o (record old { store = store; begun = begun; fault = old.fault }) new seat (events.Restored t) notes marks stays
+        settled_view story written o (record old { store = store; begun = begun; fault = old.fault }) new (λ u. u ≡ t) seat (events.Restored t) notes marks stays
         (subst (λ (x : Seen). SettlesOne o x (logged_at x seat (events.Restored t))) (path old.fault) settles)
-        (restoring_view old.fault)
+        (untold_view old.fault)
+        (λ u same. subst (IsTakenUp (old.tale ++ logged_at (seen story written (record old { store = store; begun = begun; fault = old.fault })) seat (events.Restored t) ∷ [])) (sym same)
+        (restored_last old.tale (logged_at (seen story written (record old { store = store; begun = begun; fault = old.fault })) seat (events.Restored t)) t refl))
         may
         tt
       where
@@ -178,7 +185,7 @@ module _ {D W : Type 0} (story : D → Story) (written : W → List ℕ) (o : Op
         settles = restored_settles o (seen story written old) run sound none orderly k is_known now t seat free answer object (story store.disk) begun each (min (moment (story store.disk)) (2 ^ 64 - 1))
 
         may : (course : Course) → course.plan ≡ old.plan → IsCourse o old.options (old.tale ++ logged_at (seen story written (record old { store = store; begun = begun; fault = old.fault })) seat (events.Restored t) ∷ []) course → MayCome course old.tale (logged_at (seen story written (record old { store = store; begun = begun; fault = old.fault })) seat (events.Restored t))
-        may = may_restored o (seen story written old) run sound none orderly k is_known now t seat free answer object (story store.disk) begun each (min (moment (story store.disk)) (2 ^ 64 - 1)) (run_by old.fault)
+        may = may_restored o (seen story written old) run sound none orderly k is_known now t seat free answer object (story store.disk) begun each (min (moment (story store.disk)) (2 ^ 64 - 1))
 
 -- ---- what is told
 

@@ -30,12 +30,12 @@ use Rattle.store_model.specs.Spelling.{name_of}
 use Rattle.run_queue.specs.Opening.{Opening}
 use Rattle.run_queue.specs.Books.{book_after, book_by, rows_after, signed_after}
 use Rattle.run_queue.specs.Courses.{IsCourse, IsReal}
-use Rattle.run_queue.specs.Keeps.{IsRun, WasThere}
+use Rattle.run_queue.specs.Keeps.{IsRun, IsRunBut, WasThere}
 use Rattle.run_queue.specs.declared.fault.RunFault.{RunFault}
 use Rattle.run_queue.specs.Seen.{Known, RunView, Seen, seen}
-use Rattle.run_queue.specs.Stands.{AllStand, HasEnded, HasObjects, HasOwnRow, IsSettledIn, IsStanding}
+use Rattle.run_queue.specs.Stands.{AllStand, HasEnded, HasObjects, HasOwnRow, IsSettledIn, IsStanding, IsTakenUp}
 use Rattle.run_queue.specs.Turns.{MarksAt, Notes}
-use Rattle.run_queue.proofs.Touched.{started_on, tried_as}
+use Rattle.run_queue.proofs.Touched.{aside_on, none_on, started_on, told_on, tried_as}
 use Rattle.run_queue.proofs.Growing.{book_grows, legal_grows}
 use Rattle.run_queue.proofs.Notes.{set_other, set_same}
 use Rattle.run_queue.proofs.Unsettled.{behind, if_some_on, logged_at, was_none}
@@ -126,12 +126,14 @@ take_front k xs y lt = take-append-le (k + 1) xs (y ∷ []) (omega arith)
 entry_moment : (m n : ℕ) → min m n < n → min m n ≡ m
 entry_moment m n lt = omega (arith, lt)
 
-pub settled_run : (o : Opening) (s : Seen) (seat : ℕ) (event : Event) (failed : Bool) (fault : Option RunFault) (written : List ℕ) → SettlesOne o s (logged_at s seat event) → IsRun o s
+-- A task that is settled may be told of only now.
+pub settled_run : (o : Opening) (s : Seen) (but : ℕ → Type 0) (seat : ℕ) (event : Event) (failed : Bool) (fault : Option RunFault) (written : List ℕ) → SettlesOne o s (logged_at s seat event) → IsRunBut o s but
+    → ((u : ℕ) → but u → IsTakenUp (s.tale ++ logged_at s seat event ∷ []) u)
     → (fault ≡ None → s.fault ≡ None)
     → ((course : Course) → course.plan ≡ s.plan → IsCourse o s.options (s.tale ++ logged_at s seat event ∷ []) course → MayCome course s.tale (logged_at s seat event))
     → IsReal o.gives s.plan.tasks event
     → IsRun o (behind s seat event failed fault written)
-settled_run o s seat event failed fault written settles run faultless may real =
+settled_run o s but seat event failed fault written settles run own faultless may real =
     let at : ℕ = min (moment s.story) (2 ^ 64 - 1) in
     let e : Logged = logged_at s seat event in
     let later : Seen = behind s seat event failed fault written in
@@ -175,7 +177,9 @@ settled_run o s seat event failed fault written settles run faultless may real =
             (m.0, m.1, m.2)
       ];
       tried = tried_as o s later s.begun (λ u. started_on s.tale e u) (λ u was x here. was x here) run.tried;
-      images = λ t image le since. elim (run.images t image le since) [ inl before ↦ inl before | inr l ↦ inr (record { count = l.count; valid = l.valid; honest = l.honest; others = l.others; folders = l.folders }) ];
+      halted = run.halted;
+      told = told_on s.begun s.tale e s.fault fault run.halted but faultless own run.told;
+      images = λ t image le since. elim (run.images t image le since) [ inl before ↦ inl before | inr l ↦ inr (record { count = l.count; valid = l.valid; honest = l.honest; others = l.others; paths = λ q aside. l.paths q (aside_on s.plan s.begun s.tale e q aside); objects = λ line has none. l.objects line has (none_on s.plan s.tale e line.sig.pn line.sig.task none); folders = l.folders }) ];
       stands = λ image is. stands_on o s e settles image is (run.stands image is);
       settled = λ k x here lt image since. elim (front_at o s e settles k x here) [
         | inl f ↦ subst (λ (l : List Logged). AllStand o s.plan l image) (sym (take_front k s.tale e (slice_get_within s.tale k x f))) (run.settled k x f lt image since)
@@ -190,12 +194,13 @@ settled_run o s seat event failed fault written settles run faultless may real =
     }
 
 -- the same of views of a state
-pub settled_view : {D W : Type 0} (story : D → Story) (written : W → List ℕ) (o : Opening) (old new : RunView D W) (seat : ℕ) (event : Event) → Notes seat event old new → MarksAt (story old.store.disk) seat event old.tale new.tale → (IsSome old.fault → new.fault ≡ old.fault)
-    → SettlesOne o (seen story written old) (logged_at (seen story written old) seat event) → IsRun o (seen story written old)
+pub settled_view : {D W : Type 0} (story : D → Story) (written : W → List ℕ) (o : Opening) (old new : RunView D W) (but : ℕ → Type 0) (seat : ℕ) (event : Event) → Notes seat event old new → MarksAt (story old.store.disk) seat event old.tale new.tale → (IsSome old.fault → new.fault ≡ old.fault)
+    → SettlesOne o (seen story written old) (logged_at (seen story written old) seat event) → IsRunBut o (seen story written old) but
+    → ((u : ℕ) → but u → IsTakenUp (old.tale ++ logged_at (seen story written old) seat event ∷ []) u)
     → ((course : Course) → course.plan ≡ old.plan → IsCourse o old.options (old.tale ++ logged_at (seen story written old) seat event ∷ []) course → MayCome course old.tale (logged_at (seen story written old) seat event))
     → IsReal o.gives old.plan.tasks event
     → IsRun o (seen story written new)
-settled_view story written o old new seat event n m stays settles run may real =
+settled_view story written o old new but seat event n m stays settles run own may real =
     let made : Seen = behind (seen story written old) seat event new.sink_failed new.fault (written new.sink) in
     let same : made ≡ seen story written new = λ i. record {
       plan = sym n.plan i;
@@ -210,4 +215,4 @@ settled_view story written o old new seat event n m stays settles run may real =
       story = story (sym n.store i).disk;
       written = written new.sink;
     } in
-    subst (IsRun o) same (settled_run o (seen story written old) seat event new.sink_failed new.fault (written new.sink) settles run (was_none old.fault new.fault stays) may real)
+    subst (IsRun o) same (settled_run o (seen story written old) but seat event new.sink_failed new.fault (written new.sink) settles run own (was_none old.fault new.fault stays) may real)

@@ -46,7 +46,7 @@ use Rattle.run_queue.specs.Opening.{Opening}
 use Rattle.run_queue.specs.Courses.{IsCourse, clean_says, said}
 use Rattle.run_queue.specs.declared.fault.RunFault.{RunFault}
 use Rattle.run_queue.specs.Asking.{earlier_in, kept_or_meant}
-use Rattle.run_queue.specs.Keeps.{IsRun, IsUpToDate, WasThere}
+use Rattle.run_queue.specs.Keeps.{IsRun, IsUpToDate, WasThere, nobody}
 use Rattle.run_queue.specs.Puts.{HasPut, IsCleanOutput, IsSignedAt, Puts}
 use Rattle.setscene_plan.specs.declared.replan.Replan.{Replan}
 use Rattle.setscene_plan.specs.Replans.{IsCurrent}
@@ -63,7 +63,7 @@ use Rattle.run_queue.proofs.OwnSignature.{signed_here}
 use Rattle.run_queue.proofs.Passed.{same_now}
 use Rattle.run_queue.proofs.Putting.{Begins, book_now, durable_now, may_now, more_begun, readable_more}
 use Rattle.run_queue.proofs.Recorded.{IsPut, put_line}
-use Rattle.run_queue.proofs.Touched.{running_started, tried_besides}
+use Rattle.run_queue.proofs.Touched.{Told, running_started, told_started, tried_besides}
 use Rattle.run_queue.proofs.Unsettled.{logged_at, noted_run}
 
 -- ---- what is there before a publication
@@ -150,6 +150,10 @@ module _ {D W : Type 0} (story : D → Story) (written : W → List ℕ) (o : Op
 
   -- ---- a fault
 
+  -- the task was started, so it is told
+  told_fault : (f : RunFault) → Told begun old.tale (Some f) run.halted nobody
+  told_fault f = told_started old.begun begun t old.tale old.fault (Some f) run.halted begins.others (running_started (length old.plan.tasks) old.tale t seat runs) (λ e. faultless) run.told
+
   fault_known : (f : RunFault) (k : Known) → IsUpToDate old.plan old.store.rows k → store.rows ≡ old.store.rows
       → ((x : Signed) → IsSignedAt old.store.rows old.plan.tasks t x → Puts (Unit {0}) (story old.store.disk) (story store.disk) (publication old.store.rows x tree))
       → ((x : Signed) → IsSignedAt old.store.rows old.plan.tasks t x → IsReadable (line_for old.store.rows x tree) ⊎ (store.disk ≡ old.store.disk))
@@ -166,7 +170,7 @@ module _ {D W : Type 0} (story : D → Story) (written : W → List ℕ) (o : Op
           (readable_more o (seen story written old) run faultless orderly r.may t r.sg r.at r.is_sg tree r.put (ap is_settled runs) (story store.disk) sound (p.images tt) (p.others tt) (subst (λ (rows : List EquivRow). IsReadable (line_for rows r.sg tree)) run.rows is))
       by r p (inr disk) =
           subst (λ (d : D). IsRun o (record (seen story written old) { story = story d; begun = begun; kept = store.kept; fault = Some f })) (sym disk)
-          (fault_run o (seen story written old) begun store.kept f (more_begun (seen story written old) begun t begins) (tried_besides o (seen story written old) begun t begins.others run.tried (inl (running_started (length old.plan.tasks) old.tale t seat runs))) run)
+          (fault_run o (seen story written old) begun store.kept f (more_begun (seen story written old) begun t begins) (tried_besides o (seen story written old) begun t begins.others run.tried (inl (running_started (length old.plan.tasks) old.tale t seat runs))) run (told_fault f))
 
   -- A fault that was met leaves what a run keeps, with that fault.
   pub fault_seen : (f : RunFault) → IfSome old.known (IsUpToDate old.plan old.store.rows) → store.rows ≡ old.store.rows → (old.known ≡ None → store ≡ old.store)
@@ -194,7 +198,7 @@ module _ {D W : Type 0} (story : D → Story) (written : W → List ℕ) (o : Op
       by (Some k) is now = fault_known f k now same puts readable
       by None is now =
           subst (λ (v : View D). IsRun o (record (seen story written old) { story = story v.disk; begun = begun; kept = store.kept; fault = Some f })) (sym (unlooked is))
-          (fault_run o (seen story written old) begun store.kept f (more_begun (seen story written old) begun t begins) (tried_besides o (seen story written old) begun t begins.others run.tried (inl (running_started (length old.plan.tasks) old.tale t seat runs))) run)
+          (fault_run o (seen story written old) begun store.kept f (more_begun (seen story written old) begun t begins) (tried_besides o (seen story written old) begun t begins.others run.tried (inl (running_started (length old.plan.tasks) old.tale t seat runs))) run (told_fault f))
 
   -- ---- the task has ended
 

@@ -29,13 +29,13 @@ use Rattle.store_model.specs.Spelling.{name_of}
 use Rattle.run_queue.specs.Opening.{Opening}
 use Rattle.run_queue.specs.Books.{book_after, book_by, rows_after, signed_after}
 use Rattle.run_queue.specs.Courses.{IsCourse, IsReal}
-use Rattle.run_queue.specs.Keeps.{IsRun, Prints, WasThere}
+use Rattle.run_queue.specs.Keeps.{IsRun, Prints, WasThere, nobody}
 use Rattle.run_queue.specs.declared.fault.RunFault.{RunFault}
 use Rattle.run_queue.specs.Seen.{Known, RunView, Seen, seen}
 use Rattle.run_queue.specs.Stands.{AllStand, HasEnded, HasObjects, HasOwnRow, IsSettledIn}
 use Rattle.run_queue.specs.Turns.{Marks, MarksAt, Notes}
 use Rattle.bb_report.specs.Runs.{event_line, tale_text}
-use Rattle.run_queue.proofs.Touched.{started_on, tried_as}
+use Rattle.run_queue.proofs.Touched.{aside_on, none_on, started_on, told_on, tried_as}
 use Rattle.run_queue.proofs.Growing.{book_grows, legal_grows}
 use Rattle.run_queue.proofs.Notes.{set_other, set_same}
 
@@ -188,7 +188,9 @@ unsettled_run o s seat event failed fault written settles run faultless may real
           let m = run.met u (settled_back o s.plan s.tale e settles u settled) (λ ended. not_yet (ended_on o s.plan s.tale e settles u ended)) in
           (m.0, m.1, m.2);
       tried = tried_as o s later s.begun (λ u. started_on s.tale e u) (λ u was x here. was x here) run.tried;
-      images = λ t image le since. elim (run.images t image le since) [ inl before ↦ inl before | inr l ↦ inr (record { count = l.count; valid = l.valid; honest = l.honest; others = l.others; folders = l.folders }) ];
+      halted = run.halted;
+      told = told_on s.begun s.tale e s.fault fault run.halted nobody faultless (λ u never. absurd never) run.told;
+      images = λ t image le since. elim (run.images t image le since) [ inl before ↦ inl before | inr l ↦ inr (record { count = l.count; valid = l.valid; honest = l.honest; others = l.others; paths = λ q aside. l.paths q (aside_on s.plan s.begun s.tale e q aside); objects = λ line has none. l.objects line has (none_on s.plan s.tale e line.sig.pn line.sig.task none); folders = l.folders }) ];
       stands = λ image is. stands_on o s.plan s.tale e settles image (run.stands image is);
       settled = λ k x here lt image since. elim (front_at o s.plan s.tale e settles k x here) [
         | inl f ↦ subst (λ (l : List Logged). AllStand o s.plan l image) (sym (take_front k s.tale e (slice_get_within s.tale k x f))) (run.settled k x f lt image since)

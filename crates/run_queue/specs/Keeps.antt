@@ -1,5 +1,5 @@
 -- What the state of a run keeps.
-use Rattle.std.specs.Prelude.{◌≡◌, ◌≢◌, ◌⊎◌, ◌<◌, ◌≤◌, ◌+◌, ◌++◌, ℕ, Bool, true, false, List, length, Option, Some, None, IfSome, []}
+use Rattle.std.specs.Prelude.{◌≡◌, ◌≢◌, ◌⊎◌, ◌<◌, ◌≤◌, ◌+◌, ◌++◌, ℕ, Bool, true, false, List, length, Option, Some, None, IfSome, IsSome, []}
 use Rattle.std.specs.Bool.{OnTrue, OnFalse}
 use Rattle.std.specs.List.{AllByRecursion, slice_get}
 use Rattle.sha2.specs.Sha256.{sha256}
@@ -41,7 +41,7 @@ use Rattle.run_queue.specs.Opening.{MayRun, Opening}
 use Rattle.run_queue.specs.Books.{book_after, rows_after}
 use Rattle.run_queue.specs.Courses.{IsLegalTale, IsReal}
 use Rattle.run_queue.specs.Seen.{IsBegun, Known, RunView, Seen}
-use Rattle.run_queue.specs.Stands.{AllStand, HasEnded, HasStarted, KeepObjects, IsLeft, IsSettledIn, StandSince}
+use Rattle.run_queue.specs.Stands.{AllStand, HasEnded, HasStarted, IsTakenUp, KeepObjects, IsLeft, IsSettledIn, StandSince}
 
 -- ---- in every state
 
@@ -113,8 +113,8 @@ pub record IsFront (front text : List ℕ) : Type 0 where
   pub rest : List ℕ
   pub is : text ≡ front ++ rest
 
--- What a run keeps besides over an opening whose premises hold.
-pub record IsRun (o : Opening) (s : Seen) : Type 0 where
+-- What a run keeps besides over an opening whose premises hold. Tasks that `but` tells of may have been begun without being told of yet.
+pub record IsRunBut (o : Opening) (s : Seen) (but : ℕ → Type 0) : Type 0 where
   pub may : MayRun o s.plan
   -- the book grows by the lines of what ended, and the rows are its rows
   pub rows : s.rows ≡ rows_after o s.plan s.tale
@@ -148,12 +148,23 @@ pub record IsRun (o : Opening) (s : Seen) : Type 0 where
   pub met : (t : ℕ) → IsSettledIn s.plan s.tale t → (HasEnded s.plan s.tale t → ⊥) → (a : Avail) × WasThere o s t a × (a ≢ Missing)
   -- each task that was begun was started, or was there as an object when the run began
   pub tried : (t : ℕ) → IsBegun s t → HasStarted s.tale t ⊎ WasThere o s t Object
+  -- and it is started or restored in the tale; but for one at most, where a fault is kept: that one's restoring met it
+  pub halted : ℕ
+  pub told : (t : ℕ) → IsBegun s t → IsTakenUp s.tale t ⊎ ((IsSome s.fault × (t ≡ halted)) ⊎ but t)
   -- whatever a crash left was left before the run began, or it is valid, has no stamp that lies, and has the tasks that weren't begun as
   -- they were
   pub images : (t : ℕ) (image : Store) → t ≤ moment o.story → IsImageSince s.story t image → IsImageSince o.story t image ⊎ IsLeft o s (lines ++ last) image
   -- settled tasks stand, now and since the moment of their events
   pub stands : EachNow s.story (AllStand o s.plan s.tale)
   pub settled : StandSince o s
+
+-- no task
+abbrev pub nobody : ℕ → Type 0
+nobody t = ⊥
+
+-- What a run keeps whenever a turn has been taken.
+abbrev pub IsRun : Opening → Seen → Type 0
+IsRun o s = IsRunBut o s nobody
 
 -- ---- how a run begins
 

@@ -3,6 +3,7 @@ pub mod Books
 pub mod Courses
 pub mod Seen
 pub mod Outputs
+pub mod Own
 pub mod Stands
 pub mod Keeps
 pub mod Turns

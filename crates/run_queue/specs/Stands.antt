@@ -24,6 +24,7 @@ use Rattle.build_store.specs.Paths.{record_path}
 use Rattle.build_store.specs.Publication.{Publication, stamp_at, stamp_file, work_at}
 use Rattle.run_queue.specs.Opening.{HasFolders, Opening}
 use Rattle.run_queue.specs.Books.{book_after, rows_after, signed_after}
+use Rattle.run_queue.specs.Own.{IsAside, IsOfNone}
 use Rattle.run_queue.specs.Seen.{IsBegun, Seen}
 
 -- What the stamp tells of is there: it names the stored record, and the work folder holds exactly the tree.
@@ -48,15 +49,6 @@ pub record IsAsBegun (book : Book) (held image : Store) (of : PlanTask) : Type 0
   pub work : (q : List ℕ) → IsAtOrBelow (work_folder of) q → image q ≡ held q
   pub objects : (line : Line) → HasLine book line → line.sig.pn ≡ of.id.pn → line.sig.task ≡ of.id.task → (q : List ℕ) → IsAtOrBelow (object_folder line.unihash) q → image q ≡ held q
 
--- What holds of each store that a crash left since the run began: it is valid with the book and the first of the lines that were
--- recorded; no stamp of a task of the plan lies; of a task that wasn't begun nothing changed; and folders stand where they did.
-pub record IsLeft (o : Opening) (s : Seen) (lines : Book) (image : Store) : Type 0 where
-  pub count : ℕ
-  pub valid : IsValid o.gives o.reading image (o.book ++ take count lines)
-  pub honest : (t : ℕ) (task : PlanTask) → slice_get s.plan.tasks t ≡ Some task → IsHonest o.story.held image task
-  pub others : (t : ℕ) (task : PlanTask) → slice_get s.plan.tasks t ≡ Some task → (IsBegun s t → ⊥) → IsAsBegun o.book o.story.held image task
-  pub folders : HasFolders image
-
 -- the tale starts the task
 pub record HasStarted (tale : List Logged) (t : ℕ) : Type 0 where
   pub place : ℕ
@@ -64,6 +56,29 @@ pub record HasStarted (tale : List Logged) (t : ℕ) : Type 0 where
   pub is_entry : slice_get tale place ≡ Some entry
   pub seat : ℕ
   pub starts : entry.event ≡ events.Started t seat
+
+-- the tale restores the task
+pub record HasRestored (tale : List Logged) (t : ℕ) : Type 0 where
+  pub place : ℕ
+  pub entry : Logged
+  pub is_entry : slice_get tale place ≡ Some entry
+  pub restores : entry.event ≡ events.Restored t
+
+-- the tale starts or restores the task
+abbrev pub IsTakenUp : List Logged → ℕ → Type 0
+IsTakenUp tale t = HasStarted tale t ⊎ HasRestored tale t
+
+-- What holds of each store that a crash left since the run began: it is valid with the book and the first of the lines that were
+-- recorded; no stamp of a task of the plan lies; of a task that wasn't begun nothing changed, nor at a path that is no own one of tasks that
+-- were begun, nor in the object of a line of which no task was started; and folders stand where they did.
+pub record IsLeft (o : Opening) (s : Seen) (lines : Book) (image : Store) : Type 0 where
+  pub count : ℕ
+  pub valid : IsValid o.gives o.reading image (o.book ++ take count lines)
+  pub honest : (t : ℕ) (task : PlanTask) → slice_get s.plan.tasks t ≡ Some task → IsHonest o.story.held image task
+  pub others : (t : ℕ) (task : PlanTask) → slice_get s.plan.tasks t ≡ Some task → (IsBegun s t → ⊥) → IsAsBegun o.book o.story.held image task
+  pub paths : (q : List ℕ) → IsAside s.plan (IsBegun s) (HasStarted s.tale) q → image q ≡ o.story.held q
+  pub objects : (line : Line) → HasLine o.book line → IsOfNone s.plan (HasStarted s.tale) line.sig.pn line.sig.task → (q : List ℕ) → IsAtOrBelow (object_folder line.unihash) q → image q ≡ o.story.held q
+  pub folders : HasFolders image
 
 -- a task ended in a tale
 abbrev pub HasEnded : Plan → List Logged → ℕ → Type 0

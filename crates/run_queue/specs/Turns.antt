@@ -174,12 +174,11 @@ pub record MayDo {D W : Type 0} (s : RunView D W) (answer : Next) : Type 0 where
   pub may : MayAnswer s.options s.plan.tasks known.need known.avail (fates_of s) answer
 
 -- What a restoring does, by its answer: the task was marked as restored; or it has no object, which is kept, and nothing is known of the
--- plan's tasks any more; or a fault is kept. Want of memory marks nothing, keeps no fault, and leaves what is known.
-abbrev pub RestoresTo : {D W : Type 0} → ℕ → ℕ → RunView D W → RunView D W → Result Restoring Mem → Type 0
-RestoresTo seat t old new (Ok restoring.Done) = Marks seat (events.Restored t) old.tale new.tale
-RestoresTo seat t old new (Ok restoring.Gone) = IsAnew old new × (new.known ≡ None) × (new.begun ≡ set old.begun t (Some Missing))
-RestoresTo seat t old new (Ok restoring.Fault) = (new.tale ≡ old.tale) × IsSome new.fault
-RestoresTo seat t old new (Err e) = IsAnew old new × (new.known ≡ old.known)
+-- plan's tasks any more; or a fault is kept. So is want of memory, since the task's folder may have been touched.
+abbrev pub RestoresTo : {D W : Type 0} → ℕ → ℕ → RunView D W → RunView D W → Restoring → Type 0
+RestoresTo seat t old new restoring.Done = Marks seat (events.Restored t) old.tale new.tale
+RestoresTo seat t old new restoring.Gone = IsAnew old new × (new.known ≡ None) × (new.begun ≡ set old.begun t (Some Missing))
+RestoresTo seat t old new restoring.Fault = (new.tale ≡ old.tale) × IsSome new.fault
 
 -- nothing but what is known of the plan's tasks, the disk, and the fault may have changed
 pub record Looks {D W : Type 0} (old new : RunView D W) : Type 0 where

@@ -73,7 +73,7 @@ impl<D: Disk, W: Sink> RunState<D, W> {
             self.find(number, task)?;
             return Ok(Some(Claim::Settled(task)));
         }
-        match self.restore(alloc, number, task)? {
+        match self.restore(alloc, number, task) {
             Restoring::Done => Ok(Some(Claim::Settled(task))),
             Restoring::Gone => Ok(None),
             Restoring::Fault => Ok(Some(Claim::Stopped)),
@@ -133,8 +133,8 @@ impl<D: Disk, W: Sink> RunState<D, W> {
     /// failed since its layout is too large, or that it was started, for which the job is handed out; or nothing. Where a task turns out to
     /// have no object, what is next is asked anew.
     ///
-    /// Where the sink fails at the event's line the event is marked all the same. Want of memory changes nothing but what a restoring that
-    /// was begun may have changed of its own task.
+    /// Where the sink fails at the event's line the event is marked all the same. Want of memory changes nothing; in a restoring, which may
+    /// have touched its task's folder, it is kept as a fault, and nothing new may begin.
     pub fn claim(&mut self, alloc: Global, number: u32) -> Result<Claim, Mem>
         requires reach { 3600 ≤ D.reach }
         requires free { IsFree (fates_of self.old) number }

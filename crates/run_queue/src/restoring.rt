@@ -1,5 +1,5 @@
 // Tasks whose outputs are there as shared state objects.
-ghost use Rattle.std.specs.Prelude.{◌≡◌, ◌<◌, ◌≤◌, ℕ, List, Err, IfErr, IfOk, IfSome, None, OnOk, Some, length};
+ghost use Rattle.std.specs.Prelude.{◌≡◌, ◌<◌, ◌≤◌, ℕ, List, IfErr, IfOk, IfSome, None, OnOk, Some, length};
 ghost use Rattle.std.specs.List.{slice_get};
 ghost use Rattle.outside_traits.specs.Fault.{Counts};
 ghost use Rattle.meta_model.specs.declared.event.Avail.TheVariants as avails;
@@ -33,7 +33,7 @@ pub(crate) enum Restoring {
     Done,
     /// It has no object. That is kept, and what was known of the plan's tasks isn't.
     Gone,
-    /// A fault was met, which is kept.
+    /// A fault was met, or memory was wanting, which is kept.
     Fault,
 }
 
@@ -54,7 +54,6 @@ fn restore_in<D: Disk>(
     ensures cause { IfErr result (IsStoreCause (D.faults store.new.disk)) }
     ensures steady { IfErr result IsSteadyAnswer }
     ensures unharmed { OnOk result (D.faults store.new.disk ≡ 0) }
-    ensures wanting { result ≡ Err StoreFault.Memory → D.faults store.new.disk ≡ 0 }
 
     // Whatever it answers.
     ensures books { SameBooks store.old store.new }
@@ -66,13 +65,9 @@ fn restore_in<D: Disk>(
 
 impl<D: Disk, W: Sink> RunState<D, W> {
     /// A task whose output is there as a shared state object is restored from it, and marked so. Where it has none that is kept, and what
-    /// was known of the plan's tasks isn't. Want of memory marks nothing.
-    pub(crate) fn restore(
-        &mut self,
-        alloc: Global,
-        number: u32,
-        task: u32,
-    ) -> Result<Restoring, Mem>
+    /// was known of the plan's tasks isn't. Want of memory is kept as a fault, since the task's folder may have been touched, and no event
+    /// tells of it: the run ends by it.
+    pub(crate) fn restore(&mut self, alloc: Global, number: u32, task: u32) -> Restoring
         requires reach { 3600 ≤ D.reach }
         requires faultless { self.old.fault ≡ None }
         requires free { IsFree (fates_of self.old) number }
@@ -90,19 +85,21 @@ impl<D: Disk, W: Sink> RunState<D, W> {
     {
         self.begun[task as usize] = Some(Avail::Object);
         match restore_in(alloc, &mut self.store, &self.plan, &self.replan, task) {
-            Ok(true) => {
-                self.note_waiting(number, Event::Restored { task })?;
-                Ok(Restoring::Done)
-            }
+            Ok(true) => match self.note_waiting(number, Event::Restored { task }) {
+                Ok(()) => Restoring::Done,
+                Err(Mem) => {
+                    keep(&mut self.fault, StoreFault::Memory);
+                    Restoring::Fault
+                }
+            },
             Ok(false) => {
                 self.begun[task as usize] = Some(Avail::Missing);
                 self.replan = None;
-                Ok(Restoring::Gone)
+                Restoring::Gone
             }
-            Err(StoreFault::Memory) => Err(Mem),
             Err(fault) => {
                 keep(&mut self.fault, fault);
-                Ok(Restoring::Fault)
+                Restoring::Fault
             }
         }
     }

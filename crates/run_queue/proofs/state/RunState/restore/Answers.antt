@@ -1,4 +1,4 @@
-use Rattle.std.proofs.Common.{◌≡◌, sym, ap, subst, refl, arith, Bool, length, Some, None}
+use Rattle.std.proofs.Common.{◌≡◌, ◌∙◌, sym, ap, subst, refl, arith, Bool, length, Some, None}
 use Rattle.std.specs.Prelude.{IfSome, IsSome, slice_set}
 use Rattle.std.specs.List.{slice_get}
 use Rattle.std.specs.Option.{option_map}
@@ -41,8 +41,8 @@ index_mut-requires-in-Ok-false g c =
     let long = c.self.invariant.3.long in
     omega (arith, lt, long, i.begun.ok)
 
-pub returns-in_err-note_waiting-in-Ok-true-clause-run : goal.returns-in_err-note_waiting-in-Ok-true-clause-run
-returns-in_err-note_waiting-in-Ok-true-clause-run g c tells o run =
+pub returns-in-Err-note_waiting-clause-run : goal.returns-in-Err-note_waiting-clause-run
+returns-in-Err-note_waiting-clause-run g c tells o run =
     let V : Type 0 = RunView g.row.D.Denot g.row.W.Denot in
     let i = c.self.inside in
     let old : V = record { plan = i.plan; options = i.options; store = i.store; sink = i.sink; sink_failed = i.sink_failed; fault = i.fault; tale = i.tale.items; begun = i.begun.items; known = option_map known_in i.replan } in
@@ -59,12 +59,14 @@ returns-in_err-note_waiting-in-Ok-true-clause-run g c tells o run =
     let begun = slice_set i.begun.items c.args.task (Some avails.Object) in
     let begins = begins_at i.begun.items begun c.args.task avails.Object (omega (arith, lt, long)) refl in
     let puts = λ (x : Signed) (is : IsSignedAt i.store.rows i.plan.tasks c.args.task x). told_object g.D.Disk.tells (g.D.Disk.story i.store.disk) (g.D.Disk.story store.disk) i.store.rows x tells (c.in-Ok-true.ensures.puts x is) in
-    subst (λ (v : V). IsRun o (seen g.D.Disk.story g.W.Sink.written v)) (sym c.in_err-note_waiting-in-Ok-true.ensures.wanting)
+    let kept = c.keep.new.kept in
+    let faultless = ap (λ (v : V). v.fault) (c.self-in-Ok-true.view_is ∙ c.in-Err-note_waiting.ensures.wanting) ∙ none in
+    subst (λ (v : V). IsRun o (seen g.D.Disk.story g.W.Sink.written (record v { fault = kept }))) (sym (c.self-in-Ok-true.view_is ∙ c.in-Err-note_waiting.ensures.wanting))
     (restoring_view g.D.Disk.story g.W.Sink.written o old run' none c.self.invariant.3.orderly answer.known answer.is_known now c.args.task answer.may object
-    (g.met.D.Disk.sound i.store.disk tells) store (g.met.D.Disk.sound store.disk tells) c.in-Ok-true.ensures.books begun begins (set_here i.begun.items c.args.task (Some avails.Object) (omega (arith, lt, long))) puts i.fault)
+    (g.met.D.Disk.sound i.store.disk tells) store (g.met.D.Disk.sound store.disk tells) c.in-Ok-true.ensures.books begun begins (set_here i.begun.items c.args.task (Some avails.Object) (omega (arith, lt, long))) puts kept (subst (λ f. IsSome f) (sym (c.keep.ensures.first faultless)) refl))
 
-pub returns-in_ok-note_waiting-in-Ok-true-clause-run : goal.returns-in_ok-note_waiting-in-Ok-true-clause-run
-returns-in_ok-note_waiting-in-Ok-true-clause-run g c tells o run =
+pub returns-in-Ok-clause-run : goal.returns-in-Ok-clause-run
+returns-in-Ok-clause-run g c tells o run =
     let V : Type 0 = RunView g.row.D.Denot g.row.W.Denot in
     let i = c.self.inside in
     let old : V = record { plan = i.plan; options = i.options; store = i.store; sink = i.sink; sink_failed = i.sink_failed; fault = i.fault; tale = i.tale.items; begun = i.begun.items; known = option_map known_in i.replan } in
@@ -82,7 +84,7 @@ returns-in_ok-note_waiting-in-Ok-true-clause-run g c tells o run =
     let begins = begins_at i.begun.items begun c.args.task avails.Object (omega (arith, lt, long)) refl in
     let puts = λ (x : Signed) (is : IsSignedAt i.store.rows i.plan.tasks c.args.task x). told_object g.D.Disk.tells (g.D.Disk.story i.store.disk) (g.D.Disk.story store.disk) i.store.rows x tells (c.in-Ok-true.ensures.puts x is) in
     let free = subst (λ (v : V). IsFree (fates_of v) c.args.number) at c.requires.free in
-    let n = c.in_ok-note_waiting-in-Ok-true.ensures in
+    let n = c.in-Ok.ensures in
     restored_view g.D.Disk.story g.W.Sink.written o old run' none c.self.invariant.3.orderly answer.known answer.is_known now c.args.task answer.may object
     (g.met.D.Disk.sound i.store.disk tells) store (g.met.D.Disk.sound store.disk tells) c.in-Ok-true.ensures.books begun begins (set_here i.begun.items c.args.task (Some avails.Object) (omega (arith, lt, long))) puts
     c.note_waiting.new.self c.args.number free
@@ -122,38 +124,17 @@ returns-in-Ok-false-clause-run g c tells o run =
     (g.met.D.Disk.sound i.store.disk tells) store (g.met.D.Disk.sound store.disk tells) c.in-Ok-false.ensures.books
     _ (λ x is u. subst (λ (f : Bool). HasPutObject g.D.Disk.tells (g.D.Disk.story i.store.disk) (g.D.Disk.story store.disk) i.store.rows x f) c.in-Ok-false.field-0-test (c.in-Ok-false.ensures.restored x is) tells)
 
-pub returns-in-Err-Memory-clause-run : goal.returns-in-Err-Memory-clause-run
-returns-in-Err-Memory-clause-run g c tells o run =
-    let V : Type 0 = RunView g.row.D.Denot g.row.W.Denot in
-    let i = c.self.inside in
-    let old : V = record { plan = i.plan; options = i.options; store = i.store; sink = i.sink; sink_failed = i.sink_failed; fault = i.fault; tale = i.tale.items; begun = i.begun.items; known = option_map known_in i.replan } in
-    let at = sym c.self.view_is in
-    let answer = subst (λ (v : V). MayDo v (next.Settle c.args.task)) at c.requires.answer in
-    let now = some_known (IsUpToDate i.plan i.store.rows) (option_map known_in i.replan) answer.known answer.is_known c.self.invariant.3.current in
-    let lt = needed_within (length i.plan.tasks) answer.known.need c.args.task now.need.long answer.may.0.needed in
-    let long = c.self.invariant.3.long in
-    let there = subst (λ (v : V). IfSome v.known (λ k. slice_get k.avail c.args.task ≡ Some avails.Object)) at c.requires.there in
-    let object = some_known (λ (k : Known). slice_get k.avail c.args.task ≡ Some avails.Object) (option_map known_in i.replan) answer.known answer.is_known there in
-    let run' = subst (λ (v : V). IsRun o (seen g.D.Disk.story g.W.Sink.written v)) at run in
-    let none = subst (λ (v : V). v.fault ≡ None) at c.requires.faultless in
-    let store = c.restore_in.new.store in
-    let begun = slice_set i.begun.items c.args.task (Some avails.Object) in
-    let begins = begins_at i.begun.items begun c.args.task avails.Object (omega (arith, lt, long)) refl in
-    let puts = λ (x : Signed) (is : IsSignedAt i.store.rows i.plan.tasks c.args.task x). told_object g.D.Disk.tells (g.D.Disk.story i.store.disk) (g.D.Disk.story store.disk) i.store.rows x tells (c.in-Err-Memory.ensures.puts x is) in
-    restoring_view g.D.Disk.story g.W.Sink.written o old run' none c.self.invariant.3.orderly answer.known answer.is_known now c.args.task answer.may object
-    (g.met.D.Disk.sound i.store.disk tells) store (g.met.D.Disk.sound store.disk tells) c.in-Err-Memory.ensures.books begun begins (set_here i.begun.items c.args.task (Some avails.Object) (omega (arith, lt, long))) puts i.fault
-
 pub returns-in-Err : goal.returns-in-Err
 returns-in-Err g c =
     let V : Type 0 = RunView g.row.D.Denot g.row.W.Denot in
     let faultless : c.self.inside.fault ≡ None = subst (λ (v : V). v.fault ≡ None) (sym c.self.view_is) c.requires.faultless in
     record {
-      restores = (ap (λ (v : V). v.tale) c.self.view_is, subst (λ f. IsSome f) (sym (c.keep.ensures.first faultless)) refl);
+      restores = (ap (λ (v : V). v.tale) c.self.view_is, subst (λ f. IsSome f) (sym (c.keep-in-Err.ensures.first faultless)) refl);
       same = record { plan = ap (λ (v : V). v.plan) c.self.view_is; options = ap (λ (v : V). v.options) c.self.view_is };
       sink = λ before counts. subst (λ (v : V). Counts before (g.W.Sink.faults v.sink) v.sink_failed) (sym c.self.view_is) counts;
       text = λ told base prints. subst (λ (v : V). Prints base (g.W.Sink.written v.sink) (tale_text c.args.self.now.plan.tasks v.tale) v.sink_failed) (sym c.self.view_is) prints;
       stays = λ told front is. subst (λ (v : V). IsFront front (g.W.Sink.written v.sink)) (sym c.self.view_is) is;
-      steady = λ held. c.keep.ensures.steady c.in-Err.ensures.steady (steady_none c.self.inside.fault faultless);
+      steady = λ held. c.keep-in-Err.ensures.steady c.in-Err.ensures.steady (steady_none c.self.inside.fault faultless);
       run = λ tells o run.
           let V : Type 0 = RunView g.row.D.Denot g.row.W.Denot in
           let i = c.self.inside in
@@ -172,5 +153,5 @@ returns-in-Err g c =
           let begins = begins_at i.begun.items begun c.args.task avails.Object (omega (arith, lt, long)) refl in
           let puts = λ (x : Signed) (is : IsSignedAt i.store.rows i.plan.tasks c.args.task x). told_object g.D.Disk.tells (g.D.Disk.story i.store.disk) (g.D.Disk.story store.disk) i.store.rows x tells (c.in-Err.ensures.puts x is) in
           restoring_view g.D.Disk.story g.W.Sink.written o old run' none c.self.invariant.3.orderly answer.known answer.is_known now c.args.task answer.may object
-          (g.met.D.Disk.sound i.store.disk tells) store (g.met.D.Disk.sound store.disk tells) c.in-Err.ensures.books begun begins (set_here i.begun.items c.args.task (Some avails.Object) (omega (arith, lt, long))) puts c.keep.new.kept;
+          (g.met.D.Disk.sound i.store.disk tells) store (g.met.D.Disk.sound store.disk tells) c.in-Err.ensures.books begun begins (set_here i.begun.items c.args.task (Some avails.Object) (omega (arith, lt, long))) puts c.keep-in-Err.new.kept (subst (λ f. IsSome f) (sym (c.keep-in-Err.ensures.first faultless)) refl);
     }
