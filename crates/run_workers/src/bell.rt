@@ -1,7 +1,8 @@
 // A count beside the lock, of which no clause speaks: workers sleep until it changes.
 use std::sync::{Condvar, Mutex, Wait};
 
-/// Who sleeps here wakes once it was rung after the number that it had heard.
+/// Who sleeps here wakes once it was rung after the number that it had heard, if a ring is meant for it: who gets a job rings for one more,
+/// who may find another; so a worker that has nothing to do costs a chain of tasks one wake a task, and not one for each worker.
 #[derive(Drop)]
 pub(crate) struct Bell {
     rings: Mutex<u64>,
@@ -22,11 +23,21 @@ impl Bell {
         *self.rings.lock(rt)
     }
 
-    /// Wakes all that sleep.
+    /// Wakes one that sleeps, and keeps from sleep all that haven't heard this ring.
     pub(crate) fn ring<R: Wait>(&self, rt: &R) {
+        self.count(rt);
+        self.rung.notify_one();
+    }
+
+    /// Wakes all that sleep.
+    pub(crate) fn ring_for_all<R: Wait>(&self, rt: &R) {
+        self.count(rt);
+        self.rung.notify_all();
+    }
+
+    fn count<R: Wait>(&self, rt: &R) {
         let mut rings = self.rings.lock(rt);
         *rings = rings.wrapping_add(1);
-        self.rung.notify_all();
     }
 
     /// Sleeps until it was rung after that number.

@@ -2,7 +2,7 @@
 //!
 //! `run_workers` takes a state that has begun and some benches, and gives both back once nothing more may be done by them, with no task that
 //! runs. A turn covers no script: a seat claims a job in one turn, does it outside, and says in another one how it came to an end. Who finds
-//! nothing to do while others work sleeps on the bell until the state has changed.
+//! nothing to do while others work sleeps on the bell until another one got a job, or went.
 //!
 //! Contracts see what the state was as it began by a type parameter (`Began`), so that what lies under the lock keeps, in every turn, that
 //! whatever held of that state holds on (`specs/Since`), for every opening. What a seat knows of the run is its own record of the tale,

@@ -80,8 +80,9 @@ fn do_claimed<K: Began, D: Disk, B: Bench, W: Sink, R: Wait>(
     }
 }
 
-/// One turn of a worker, and the job that it was handed, if it was. `None`: there may be more to do. It rings after each event by which others
-/// may have more to do, and where there is nothing to do yet it sleeps until another one has rung.
+/// One turn of a worker, and the job that it was handed, if it was. `None`: there may be more to do. Where there is nothing to do yet it sleeps
+/// until another one has rung. Whoever gets a job rings, since there may be more; who brings one to its end claims again itself, so it
+/// need not ring.
 fn turn<K: Began, D: Disk, B: Bench, W: Sink, R: Wait>(
     rt: &R,
     alloc: Global,
@@ -105,14 +106,10 @@ fn turn<K: Began, D: Disk, B: Bench, W: Sink, R: Wait>(
     match claim(rt, alloc, queue, seat) {
         Ok(Claimed { claim, printed }) => match claim {
             Claim::Run(job) => {
-                let halt = do_claimed(rt, alloc, queue, seat, bench, job, printed);
                 bell.ring(rt);
-                halt
+                do_claimed(rt, alloc, queue, seat, bench, job, printed)
             }
-            Claim::Settled(_) => {
-                bell.ring(rt);
-                None
-            }
+            Claim::Settled(_) => None,
             Claim::Wait => {
                 bell.sleep(rt, heard);
                 None
@@ -124,7 +121,7 @@ fn turn<K: Began, D: Disk, B: Bench, W: Sink, R: Wait>(
     }
 }
 
-/// Takes turns until there is nothing more to do for this worker.
+/// Takes turns until there is nothing more to do for this worker, and then wakes all others: what ends it may end them.
 pub(crate) fn work<K: Began, D: Disk, B: Bench, W: Sink, R: Wait>(
     rt: &R,
     alloc: Global,
@@ -145,6 +142,7 @@ pub(crate) fn work<K: Began, D: Disk, B: Bench, W: Sink, R: Wait>(
 {
     for _ in rt.forever() {
         if turn(rt, alloc, queue, bell, &mut seat, &mut bench).is_some() {
+            bell.ring_for_all(rt);
             return (seat, bench);
         }
     }

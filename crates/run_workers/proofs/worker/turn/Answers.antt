@@ -9,22 +9,22 @@ use Rattle.run_workers.specs.Worked.{Closes, Worked}
 use Rattle.run_workers.proofs.Working.{quiet_settled, worked_job, worked_on}
 use Rattle.run_workers.proofs.worker.turn.Goals as goal
 
-pub do_claimed-halt-requires-clause-clean : goal.do_claimed-halt-requires-clause-clean
-do_claimed-halt-requires-clause-clean g c t u o is run = subst (λ (x : Claim). IsCleanClaim o g.K.Began.first x) c.in-Run.is (c.in-Ok.ensures.clean t u o is run)
+pub do_claimed-requires-clause-clean : goal.do_claimed-requires-clause-clean
+do_claimed-requires-clause-clean g c t u o is run = subst (λ (x : Claim). IsCleanClaim o g.K.Began.first x) c.in-Run.is (c.in-Ok.ensures.clean t u o is run)
 
 pub returns-in-Run-clause-worked : goal.returns-in-Run-clause-worked
 returns-in-Run-clause-worked g c old w =
     let v = view_of c.args.seat.now in
     let mid = view_of c.claim.new.seat in
-    let new = view_of c.do_claimed-halt.new.seat in
+    let new = view_of c.do_claimed.new.seat in
     let job = c.in-Run.job in
     let printed = c.in-Ok.field-0.printed in
-    let e = c.do_claimed-halt.ensures in
+    let e = c.do_claimed.ensures in
     let claims = c.in-Ok.ensures.claims in
     let entry : Entry v.number c.in-Ok.field-0.printed (events.Started job.task v.number) claims.0 = subst (λ (x : Claim). AddsBy v.number c.in-Ok.field-0.printed x claims.0) c.in-Run.is claims.1 in
     let begins = claims.2.mine ∙ ap (λ l. v.own ++ l) entry.is in
-    worked_job g.D.Disk.tells g.B.Bench.tells g.K.Began.alike g.B.Bench.place g.B.Bench.gives g.B.Bench.faults g.K.Began.first g.K.Began.gives v.number v.own old c.args.bench.now w c.do_claimed-halt.result job printed entry.moment mid.own new.own c.do_claimed-halt.new.bench begins
-    (subst (λ n. Closes n c.do_claimed-halt.result mid.own new.own) claims.2.number e.closes) e.gives e.cause e.ran (λ u. (c.requires.gives u).0)
+    worked_job g.D.Disk.tells g.B.Bench.tells g.K.Began.alike g.B.Bench.place g.B.Bench.gives g.B.Bench.faults g.K.Began.first g.K.Began.gives v.number v.own old c.args.bench.now w c.do_claimed.result job printed entry.moment mid.own new.own c.do_claimed.new.bench begins
+    (subst (λ n. Closes n c.do_claimed.result mid.own new.own) claims.2.number e.closes) e.gives e.cause e.ran (λ u. (c.requires.gives u).0)
     (subst (λ (x : Claim). IsScripted g.K.Began.first.plan x) c.in-Run.is c.in-Ok.ensures.script) (λ t u o is run. subst (λ (x : Claim). IsCleanClaim o g.K.Began.first x) c.in-Run.is (c.in-Ok.ensures.clean t u o is run))
 
 pub returns-in-Settled-clause-worked : goal.returns-in-Settled-clause-worked
