@@ -1,8 +1,8 @@
 -- What a run leaves alone.
-use Rattle.std.proofs.Common.{◌≡◌, ◌∙◌, sym, ap, subst, refl, ℕ, arith, List, ◌∷◌, Some, inl, inr}
-use Rattle.std.specs.Prelude.{◌≢◌}
+use Rattle.std.proofs.Common.{◌≡◌, ◌∙◌, sym, ap, subst, refl, ℕ, arith, false, List, ◌∷◌, Some, None, inl, inr}
+use Rattle.std.specs.Prelude.{◌≢◌, IsSome, Option}
 use Rattle.std.specs.List.{slice_get}
-use Rattle.std.proofs.lemmas.Option.{slice_get_within}
+use Rattle.std.proofs.lemmas.Bool.{false≢true}
 use Rattle.tree_model.specs.declared.hash.Hash.{Hash}
 use Rattle.tree_model.specs.Path.{IsAtOrBelow}
 use Rattle.outside_traits.specs.Passes.{Passes}
@@ -11,10 +11,12 @@ use Rattle.outside_traits.specs.Story.{IsFresh, IsImageSince, Story}
 use Rattle.outside_traits.proofs.Images.{now-since}
 use Rattle.meta_model.specs.declared.event.Avail.TheVariants.{Object}
 use Rattle.meta_model.specs.declared.event.Logged.{Logged}
+use Rattle.meta_model.specs.declared.event.Status.{Status}
 use Rattle.meta_model.specs.declared.plan.Options.{Options}
 use Rattle.meta_model.specs.declared.plan.Plan.{Plan}
 use Rattle.meta_model.specs.declared.plan.PlanTask.{PlanTask}
 use Rattle.meta_model.specs.CleanBuild.{Gives}
+use Rattle.meta_model.proofs.Bools.{either_way}
 use Rattle.store_model.specs.declared.signature.EquivRow.{EquivRow}
 use Rattle.store_model.specs.Available.{IsAvailable, object_folder, stamp_path, work_folder}
 use Rattle.store_model.specs.Origins.{Book, rows_of}
@@ -24,11 +26,16 @@ use Rattle.build_store.specs.Reopened.{HaveSameLines}
 use Rattle.build_store.proofs.Areas.{differ, heads_differ}
 use Rattle.build_store.proofs.StillThere.{opened_stays}
 use Rattle.run_queue.specs.Books.{book_after}
+use Rattle.run_queue.specs.declared.fault.RunFault.{RunFault}
+use Rattle.run_queue.specs.Keeps.{WasThere}
 use Rattle.run_queue.specs.Opening.{Opening}
+use Rattle.run_queue.specs.Own.{IsAside}
+use Rattle.run_queue.specs.Seen.{IsBegun}
 use Rattle.run_queue.specs.Stands.{HasStarted, IsAsBegun}
-use Rattle.run_queue.proofs.OwnSignature.{signed_here}
+use Rattle.run_queue.proofs.Enduring.{signed_task}
 use Rattle.run_queue.proofs.Placing.{has_place}
-use Rattle.build_resume.specs.Build.{IsLeftAlone, LeavesOthers}
+use Rattle.build_resume.specs.Build.{IsLeftAlone, LeavesOthers, MayTouch}
+use Rattle.build_resume.specs.Ends.{is_faultless}
 use Rattle.build_resume.specs.Outcome.{KeptTo}
 use Rattle.build_resume.proofs.Outcomes.{fresh_image}
 
@@ -61,45 +68,62 @@ cleared_alone book held image of clears = record {
   stamp = λ left. clears.left (stamp_path of) left;
 }
 
-same_alone : (book : Book) (held image : Store) (of : PlanTask) → image ≡ held → IsLeftAlone book held image of
-same_alone book held image of same = record {
-  work = λ q below. ap (λ (i : Store). i q) same;
-  objects = λ line has pn name q below. ap (λ (i : Store). i q) same;
-  stamp = λ left. ap (λ (i : Store). i (stamp_path of)) same;
-}
-
-opening_alone : (book : Book) (before after : Story) (image : Store) (of : PlanTask) → IsFresh before → Passes before after (Clears before.held) → IsImageSince after 0 image → IsLeftAlone book before.held image of
-opening_alone book before after image of fresh p since = elim (p.since 0 image (omega arith) since) [
-  | inl early ↦ same_alone book before.held image of (fresh_image before image fresh early)
-  | inr e ↦
-      cleared_alone book before.held image of (subst (λ (i : Store). Clears before.held i image) (fresh_image before e.0 fresh (now-since before 0 e.0 (omega arith) e.1)) e.2)
+-- what opening a store leaves alone is as it was in whatever a crash left meanwhile
+pub opening_clears : (before after : Story) (image : Store) → IsFresh before → Passes before after (Clears before.held) → IsImageSince after 0 image → Clears before.held before.held image
+opening_clears before after image fresh p since = elim (p.since 0 image (omega arith) since) [
+  | inl early ↦ record { left = λ q left. ap (λ (i : Store). i q) (fresh_image before image fresh early) }
+  | inr e ↦ subst (λ (i : Store). Clears before.held i image) (fresh_image before e.0 fresh (now-since before 0 e.0 (omega arith) e.1)) e.2
 ]
 
-pub opened_alone : (gives : Gives) (book : Book) (before after : Story) (plan : Plan) (options : Options) (tale : List Logged) (image : Store) → IsFresh before → Passes before after (Clears before.held) → IsImageSince after 0 image → LeavesOthers gives book before.held plan options tale image
-opened_alone gives book before after plan options tale image fresh p since = record {
+pub opened_alone : (gives : Gives) (book : Book) (before after : Story) (plan : Plan) (options : Options) (tale : List Logged) (s : Status) → IsFresh before → Passes before after (Clears before.held) → LeavesOthers gives book before.held plan options tale s after
+opened_alone gives book before after plan options tale s fresh p = record {
   again = book;
   same = same_lines book;
-  others = λ t task at not_started no_object. opening_alone book before after image task fresh p since;
+  halted = 0;
+  others = λ image since t task at untouched. cleared_alone book before.held image task (opening_clears before after image fresh p since);
+  objects = λ image since line has none q below. (opening_clears before after image fresh p since).left q (inl (object_elsewhere line.unihash q below));
+  paths = λ image since q left aside. (opening_clears before after image fresh p since).left q left;
 }
 
 -- ---- while the run goes on
 
-module _ (o : Opening) (book : Book) (before : Store) (rows : List EquivRow) (opened : IsOpened before o.story.held rows) (same : HaveSameLines book o.book) (plan : Plan) (options : Options) (tale : List Logged) (story : Story) (k : KeptTo o plan options tale story) where
-  -- what was begun was started, or had an object
-  not_begun : (t : ℕ) (task : PlanTask) → slice_get k.last.plan.tasks t ≡ Some task → (HasStarted k.last.tale t → ⊥)
-      → ((sg : Signed) → slice_get (signatures (rows_of (book_after o.gives k.last.plan o.book k.last.tale)) k.last.plan.tasks) t ≡ Some sg → IsAvailable before (rows_of (book_after o.gives k.last.plan o.book k.last.tale)) k.last.options.setscene sg Object → ⊥)
-      → Rattle.run_queue.specs.Seen.IsBegun k.last t → ⊥
-  not_begun t task at not_started no_object b = elim (k.run.tried t b) [
-    | inl started ↦ not_started started
-    | inr was ↦
-        let Rows : List EquivRow = rows_of (book_after o.gives k.last.plan o.book k.last.tale) in
-        let lt = slice_get_within k.last.plan.tasks t task at in
-        let x = signed_here k.last.rows k.last.plan.tasks t lt in
-        let is = subst (λ (r : List EquivRow). slice_get (signatures r k.last.plan.tasks) t ≡ Some x.0) k.run.rows x.1 in
-        let object = subst (λ (r : List EquivRow). IsAvailable o.story.held r k.last.options.setscene x.0 Object) k.run.rows (was x.0 x.1) in
-        let here = Rattle.run_queue.proofs.Enduring.signed_task k.last.rows k.last.plan.tasks t x.0 task x.1 at in
-        let place = has_place k.last.plan t x.0.task k.run.may.sound (at ∙ ap (λ (y : PlanTask). Some y) (sym here)) in
-        no_object x.0 is ((opened_stays before o.story.held rows opened Rows k.last.options.setscene x.0 Object place).1 object)
+module _ (o : Opening) (book : Book) (before : Store) (rows : List EquivRow) (opened : IsOpened before o.story.held rows) (same : HaveSameLines book o.book) (plan : Plan) (options : Options) (tale : List Logged) (s : Status) (story : Story) (k : KeptTo o plan options tale s story) where
+  abbrev Touched : ℕ → Type 0
+  Touched = MayTouch o.gives o.book before k.last.plan k.last.options k.last.tale s k.run.halted
+
+  -- a fault is kept only under the status of one
+  faulty : IsSome k.last.fault → is_faultless s ≡ false
+  faulty some = elim (either_way (is_faultless s)) [
+    | inl t ↦ absurd (none_some k.last.fault (k.faultless t) some)
+    | inr f ↦ f
+  ]
+    where
+      none_some : (f : Option RunFault) → f ≡ None → IsSome f → ⊥
+      none_some None e is = false≢true is
+      none_some (Some f) e is = let n : Some f ≡ None = e in cc
+
+  -- what was there as an object in the opened store was so before
+  had_object : (t : ℕ) (task : PlanTask) → slice_get k.last.plan.tasks t ≡ Some task → WasThere o k.last t Object → (sg : Signed) → slice_get (signatures (rows_of (book_after o.gives k.last.plan o.book k.last.tale)) k.last.plan.tasks) t ≡ Some sg
+      → IsAvailable before (rows_of (book_after o.gives k.last.plan o.book k.last.tale)) k.last.options.setscene sg Object
+  had_object t task at was sg is =
+      let Rows : List EquivRow = rows_of (book_after o.gives k.last.plan o.book k.last.tale) in
+      let here = subst (λ (r : List EquivRow). slice_get (signatures r k.last.plan.tasks) t ≡ Some sg) (sym k.run.rows) is in
+      let object = subst (λ (r : List EquivRow). IsAvailable o.story.held r k.last.options.setscene sg Object) k.run.rows (was sg here) in
+      let own = signed_task (rows_of (book_after o.gives k.last.plan o.book k.last.tale)) k.last.plan.tasks t sg task is at in
+      let place = has_place k.last.plan t sg.task k.run.may.sound (at ∙ ap (λ (y : PlanTask). Some y) (sym own)) in
+      (opened_stays before o.story.held rows opened Rows k.last.options.setscene sg Object place).1 object
+
+  -- the run may have touched what was begun
+  touched : (t : ℕ) (task : PlanTask) → slice_get k.last.plan.tasks t ≡ Some task → IsBegun k.last t → Touched t
+  touched t task at b = elim (k.run.told t b) [
+    | inl up ↦ inl up
+    | inr rest ↦ elim rest [
+      | inl it ↦ elim (k.run.tried t b) [
+        | inl started ↦ inl (inl started)
+        | inr was ↦ inr (it.1, record { faulty = faulty it.0; object = had_object t task at was })
+      ]
+      | inr never ↦ absurd never
+    ]
   ]
 
   begun_alone : (image : Store) (of : PlanTask) → IsAsBegun o.book o.story.held image of → IsLeftAlone book before image of
@@ -109,22 +133,33 @@ module _ (o : Opening) (book : Book) (before : Store) (rows : List EquivRow) (op
     stamp = λ left. was.stamp ∙ opened.left (stamp_path of) left;
   }
 
-  last_others : (image : Store) → ((of : PlanTask) → IsImageSince o.story 0 image → IsLeftAlone book before image of) → IsImageSince k.last.story 0 image → LeavesOthers o.gives book before k.last.plan k.last.options k.last.tale image
-  last_others image early since = record {
+  -- what is aside of what may have been touched is aside of what was begun
+  begun_aside : (q : List ℕ) → IsAside k.last.plan Touched (HasStarted k.last.tale) q → IsAside k.last.plan (IsBegun k.last) (HasStarted k.last.tale) q
+  begun_aside q is = record { temporary = is.temporary; folder = λ t task at b own. is.folder t task at (touched t task at b) own; output = is.output }
+
+  last_others : ((image : Store) → IsImageSince o.story 0 image → Clears before before image) → LeavesOthers o.gives book before k.last.plan k.last.options k.last.tale s k.last.story
+  last_others early = record {
     again = o.book;
     same = same;
-    others = λ t task at not_started no_object. elim (k.run.images 0 image (omega arith) since) [
-      | inl was ↦ early task was
-      | inr left ↦ begun_alone image task (left.others t task at (not_begun t task at not_started no_object))
+    halted = k.run.halted;
+    others = λ image since t task at untouched. elim (k.run.images 0 image (omega arith) since) [
+      | inl was ↦ cleared_alone book before image task (early image was)
+      | inr left ↦ begun_alone image task (left.others t task at (λ b. untouched (touched t task at b)))
+    ];
+    objects = λ image since line has none q below. elim (k.run.images 0 image (omega arith) since) [
+      | inl was ↦ (early image was).left q (inl (object_elsewhere line.unihash q below))
+      | inr left ↦ left.objects line (same.whole has.0 line has.1) none q below ∙ opened.left q (inl (object_elsewhere line.unihash q below))
+    ];
+    paths = λ image since q left_alone aside. elim (k.run.images 0 image (omega arith) since) [
+      | inl was ↦ (early image was).left q left_alone
+      | inr left ↦ left.paths q (begun_aside q aside) ∙ opened.left q left_alone
     ];
   }
 
-  pub kept_others : (image : Store) → ((of : PlanTask) → IsImageSince o.story 0 image → IsLeftAlone book before image of) → IsImageSince story 0 image → LeavesOthers o.gives book before plan options tale image
-  kept_others image early since =
-      subst (λ (l : List Logged). LeavesOthers o.gives book before plan options l image) k.tale_is
-      (subst (λ (x : Options). LeavesOthers o.gives book before plan x k.last.tale image) k.options_are
-      (subst (λ (p : Plan). LeavesOthers o.gives book before p k.last.options k.last.tale image) k.plan_is
-      (last_others image early (subst (λ (x : Story). IsImageSince x 0 image) (sym k.story_is) since))))
-
-pub early_alone : (book : Book) (before after : Story) (image : Store) → IsFresh before → Passes before after (Clears before.held) → (of : PlanTask) → IsImageSince after 0 image → IsLeftAlone book before.held image of
-early_alone book before after image fresh p of since = opening_alone book before after image of fresh p since
+  pub kept_others : ((image : Store) → IsImageSince o.story 0 image → Clears before before image) → LeavesOthers o.gives book before plan options tale s story
+  kept_others early =
+      subst (λ (x : Story). LeavesOthers o.gives book before plan options tale s x) k.story_is
+      (subst (λ (l : List Logged). LeavesOthers o.gives book before plan options l s k.last.story) k.tale_is
+      (subst (λ (x : Options). LeavesOthers o.gives book before plan x k.last.tale s k.last.story) k.options_are
+      (subst (λ (p : Plan). LeavesOthers o.gives book before p k.last.options k.last.tale s k.last.story) k.plan_is
+      (last_others early))))

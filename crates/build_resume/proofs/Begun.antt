@@ -23,7 +23,7 @@ use Rattle.run_workers.specs.Runs.{RanScripts, RanThese, Runs, by_bench}
 use Rattle.build_resume.specs.Benches.{started_by}
 use Rattle.build_resume.specs.Build.{RanJust, RanStarted}
 use Rattle.build_resume.specs.Drive.{Drove, Grows, IsHalted, RanOn, WentOn}
-use Rattle.build_resume.specs.Ends.{EndsBy, halt_by, status_by, status_of}
+use Rattle.build_resume.specs.Ends.{EndsBy, bench_broke, halt_by, is_faultless, is_plain, memory_broke, status_by, status_of}
 use Rattle.build_resume.specs.Outcome.{EndsAs, KeptTo}
 use Rattle.run_workers.specs.declared.worker.Halt.{Halt}
 use Rattle.run_workers.specs.declared.worker.Halt.TheVariants as halt
@@ -78,13 +78,38 @@ told_failed sink f h failed s (inl is) e = sym is ∙ e
 told_failed sink f h failed s (inr (inl is)) e = absurd (let n : status.OutOfMemory ≡ status.TaskFailed = sym is ∙ e in cc)
 told_failed sink f h failed s (inr (inr is)) e = absurd (let n : status.WriteFault ≡ status.TaskFailed = sym is.0 ∙ e in cc)
 
+store_not_plain : (f : StoreFault) → is_plain (status_of f) ≡ true → ⊥
+store_not_plain fault.Disk e = false≢true e
+store_not_plain (fault.Collision name held given) e = false≢true e
+store_not_plain (fault.Unsteady pn task held given) e = false≢true e
+store_not_plain fault.Memory e = false≢true e
+
+-- nothing failed outside only where the run halted since nothing was left, or nothing may begin
+plain_by : (f : Option RunFault) (h : Halt) (failed : Bool) → is_plain (status_by f h failed) ≡ true → (h ≡ halt.Finished) ⊎ (h ≡ halt.Stopped)
+plain_by (Some (kept.Store f)) h failed e = absurd (store_not_plain f e)
+plain_by (Some kept.Write) h failed e = absurd (false≢true e)
+plain_by None halt.Finished failed e = inl refl
+plain_by None halt.Stopped failed e = inr refl
+plain_by None halt.Memory failed e = absurd (false≢true e)
+plain_by None halt.Bench failed e = absurd (false≢true e)
+
+told_plain : (sink : Type 0) (f : Option RunFault) (h : Halt) (failed : Bool) (s : Status) → EndsSo sink f h failed s → is_plain s ≡ true → is_plain (status_by f h failed) ≡ true
+told_plain sink f h failed s (inl is) e = ap is_plain (sym is) ∙ e
+told_plain sink f h failed s (inr (inl is)) e = absurd (false≢true (ap is_plain (sym is) ∙ e))
+told_plain sink f h failed s (inr (inr is)) e = is.1
+
+-- no task broke off, by why the run halted
+abbrev pub Unbroken : Halt → List Logged → Type 0
+Unbroken h tale = (h ≡ halt.Finished) ⊎ (h ≡ halt.Stopped) → (bench_broke tale ≡ false) × (memory_broke tale ≡ false)
+
 -- how a run ended by its last state
-pub ends_as : {D W : Type 0} (sink : Type 0) (old last : RunView D W) (h : Halt) (tale : List Logged) (s : Status) → SameRun old last → tale ≡ last.tale → IsHalted last h → EndsSo sink last.fault h (has_failure last.tale) s → EndsAs old.plan old.options tale s
-ends_as sink old last h tale s same tale_is halted told = record {
+pub ends_as : {D W : Type 0} (sink : Type 0) (old last : RunView D W) (h : Halt) (tale : List Logged) (s : Status) → SameRun old last → tale ≡ last.tale → IsHalted last h → Unbroken h tale → EndsSo sink last.fault h (has_failure last.tale) s → EndsAs old.plan old.options tale s
+ends_as sink old last h tale s same tale_is halted unbroken told = record {
   ok = λ e.
       let by = ok_by last.fault h (has_failure last.tale) (told_ok sink last.fault h (has_failure last.tale) s told e) in
       (subst (λ (l : List Logged). IsAtEnd old.plan old.options l) (sym tale_is) (finished by.0 by.1 by.2), ap has_failure tale_is ∙ by.1);
   failed = λ e. ap has_failure tale_is ∙ failed_by_status last.fault h (has_failure last.tale) (told_failed sink last.fault h (has_failure last.tale) s told e);
+  unbroken = λ e. unbroken (plain_by last.fault h (has_failure last.tale) (told_plain sink last.fault h (has_failure last.tale) s told e));
 }
   where
     at_end : IsHalted last halt.Finished → IsAtEnd old.plan old.options last.tale
@@ -107,20 +132,50 @@ halted_by last h true memory halted = tt
 halted_by last h false true halted = tt
 halted_by last h false false halted = halted
 
-pub ends_by : {D W : Type 0} (sink : Type 0) (old last : RunView D W) (h by : Halt) (bench memory : Bool) (tale : List Logged) (s : Status) → by ≡ halt_by h bench memory → SameRun old last → tale ≡ last.tale → IsHalted last h → EndsSo sink last.fault by (has_failure last.tale) s → EndsAs old.plan old.options tale s
-ends_by sink old last h by bench memory tale s is same tale_is halted told =
-    ends_as sink old last by tale s same tale_is (subst (IsHalted last) (sym is) (halted_by last h bench memory halted)) told
+-- where a run halted with nothing left, or since nothing may begin, nothing broke a task
+calm_by : (h : Halt) (bench memory : Bool) → (halt_by h bench memory ≡ halt.Finished) ⊎ (halt_by h bench memory ≡ halt.Stopped) → (bench ≡ false) × (memory ≡ false)
+calm_by h true memory (inl e) = absurd (let n : halt.Bench ≡ halt.Finished = e in cc)
+calm_by h true memory (inr e) = absurd (let n : halt.Bench ≡ halt.Stopped = e in cc)
+calm_by h false true (inl e) = absurd (let n : halt.Memory ≡ halt.Finished = e in cc)
+calm_by h false true (inr e) = absurd (let n : halt.Memory ≡ halt.Stopped = e in cc)
+calm_by h false false e = (refl, refl)
+
+-- the same, where what broke tasks is read off the tale
+unbroken_by : (h by : Halt) (read tale : List Logged) → by ≡ halt_by h (bench_broke read) (memory_broke read) → read ≡ tale → Unbroken by tale
+unbroken_by h by read tale is same e =
+    let calm = calm_by h (bench_broke read) (memory_broke read) (subst (λ x. (x ≡ halt.Finished) ⊎ (x ≡ halt.Stopped)) is e) in
+    (ap bench_broke (sym same) ∙ calm.0, ap memory_broke (sym same) ∙ calm.1)
+
+-- how a run ended whose halt is read off the tale
+pub ends_by : {D W : Type 0} (sink : Type 0) (old last : RunView D W) (h by : Halt) (read tale : List Logged) (s : Status) → by ≡ halt_by h (bench_broke read) (memory_broke read) → read ≡ tale → SameRun old last → tale ≡ last.tale → IsHalted last h → EndsSo sink last.fault by (has_failure last.tale) s → EndsAs old.plan old.options tale s
+ends_by sink old last h by read tale s is same_tale same tale_is halted told =
+    ends_as sink old last by tale s same tale_is (subst (IsHalted last) (sym is) (halted_by last h (bench_broke read) (memory_broke read) halted)) (unbroken_by h by read tale is same_tale) told
 
 -- ---- what was kept
 
-pub kept_to : {D W : Type 0} (story : D → Story) (written : W → List ℕ) (o : Opening) (old last : RunView D W) (disk : D) (tale : List Logged) → SameRun old last → disk ≡ last.store.disk → tale ≡ last.tale → IsRun o (seen story written last) → KeptTo o old.plan old.options tale (story disk)
-kept_to story written o old last disk tale same disk_is tale_is run = record {
+faulty_store : (f : StoreFault) → is_faultless (status_of f) ≡ false
+faulty_store fault.Disk = refl
+faulty_store (fault.Collision name held given) = refl
+faulty_store (fault.Unsteady pn task held given) = refl
+faulty_store fault.Memory = refl
+
+-- some statuses come only where no fault was kept
+pub none_kept : (sink : Type 0) (f : Option RunFault) (h : Halt) (failed : Bool) (s : Status) → EndsSo sink f h failed s → is_faultless s ≡ true → f ≡ None
+none_kept sink None h failed s told e = refl
+none_kept sink (Some (kept.Store f)) h failed s (inl is) e = absurd (false≢true (sym (ap is_faultless is ∙ faulty_store f) ∙ e))
+none_kept sink (Some kept.Write) h failed s (inl is) e = absurd (false≢true (sym (ap is_faultless is) ∙ e))
+none_kept sink (Some f) h failed s (inr (inl is)) e = absurd (false≢true (sym (ap is_faultless is) ∙ e))
+none_kept sink (Some f) h failed s (inr (inr is)) e = absurd (false≢true (sym (ap is_faultless is.0) ∙ e))
+
+pub kept_to : {D W : Type 0} (story : D → Story) (written : W → List ℕ) (o : Opening) (old last : RunView D W) (disk : D) (tale : List Logged) (s : Status) → SameRun old last → disk ≡ last.store.disk → tale ≡ last.tale → (is_faultless s ≡ true → last.fault ≡ None) → IsRun o (seen story written last) → KeptTo o old.plan old.options tale s (story disk)
+kept_to story written o old last disk tale s same disk_is tale_is faultless run = record {
   last = seen story written last;
   run = run;
   plan_is = same.plan;
   options_are = same.options;
   tale_is = sym tale_is;
   story_is = ap story (sym disk_is);
+  faultless = faultless;
 }
 
 -- what the bench ran for the tale that went on
@@ -155,5 +210,5 @@ went_on h old new tale before now tale_is grows counts = record {
 pub ends_still : {D W : Type 0} (old mid : RunView D W) (tale : List Logged) (s : Status) → SameRun old mid → EndsAs mid.plan mid.options tale s → EndsAs old.plan old.options tale s
 ends_still old mid tale s same e = subst (λ (p : Plan). EndsAs p old.options tale s) same.plan (subst (λ (x : Options). EndsAs mid.plan x tale s) same.options e)
 
-pub kept_still : {D W : Type 0} (o : Opening) (old mid : RunView D W) (tale : List Logged) (story : Story) → SameRun old mid → KeptTo o mid.plan mid.options tale story → KeptTo o old.plan old.options tale story
-kept_still o old mid tale story same k = subst (λ (p : Plan). KeptTo o p old.options tale story) same.plan (subst (λ (x : Options). KeptTo o mid.plan x tale story) same.options k)
+pub kept_still : {D W : Type 0} (o : Opening) (old mid : RunView D W) (tale : List Logged) (s : Status) (story : Story) → SameRun old mid → KeptTo o mid.plan mid.options tale s story → KeptTo o old.plan old.options tale s story
+kept_still o old mid tale s story same k = subst (λ (p : Plan). KeptTo o p old.options tale s story) same.plan (subst (λ (x : Options). KeptTo o mid.plan x tale s story) same.options k)

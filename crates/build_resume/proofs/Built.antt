@@ -1,5 +1,5 @@
 -- What a run leaves of a disk on which it began, over a book.
-use Rattle.std.proofs.Common.{◌≡◌, subst, refl, ℕ, false, List, [], arith, inl, inr}
+use Rattle.std.proofs.Common.{◌≡◌, sym, subst, refl, ℕ, false, List, [], arith, inl, inr}
 use Rattle.std.specs.Prelude.{◌≢◌, Contains}
 use Rattle.outside_traits.specs.Passes.{EachNow, Passes}
 use Rattle.outside_traits.specs.Store.{Store}
@@ -23,7 +23,7 @@ use Rattle.run_workers.specs.Runs.{Runs}
 use Rattle.build_resume.specs.Benches.{AtSeats}
 use Rattle.build_resume.specs.Build.{AllClean, FailsClean, HasRun, HasTargets, IsCrash, IsEntry, Leaves, LeavesOthers, RanStarted, failed_in, is_unsteady}
 use Rattle.build_resume.specs.Outcome.{EndsAs, KeptTo}
-use Rattle.build_resume.proofs.Alone.{early_alone, kept_others, opened_alone}
+use Rattle.build_resume.proofs.Alone.{kept_others, opened_alone, opening_clears}
 use Rattle.build_resume.proofs.Outcomes.{kept_all, kept_clean, kept_crash, kept_exact, kept_real, opened_crash, opened_may_run, opening_of}
 
 -- A store was opened on a disk that was fresh: what is held is what opening leaves, and durable; and at each moment nothing went that it
@@ -47,17 +47,17 @@ module _ (gives : Gives) (reading : Reading) (book : Book) (plan : Plan) (option
   pub is_opening : IsOpening opening after rows
   is_opening = record { story_is = refl; rows_are = again.rows_are }
 
-  module _ (tale : List Logged) (s : Status) (story : Story) (k : KeptTo opening plan options tale story) (ends : EndsAs plan options tale s) where
+  module _ (tale : List Logged) (s : Status) (story : Story) (k : KeptTo opening plan options tale s story) (ends : EndsAs plan options tale s) where
     pub built_exact : s ≡ status.Ok → EachNow story (HasTargets gives plan)
-    built_exact ok = kept_exact opening plan options tale story k (ends.ok ok).0 (ends.ok ok).1
+    built_exact ok = kept_exact opening plan options tale s story k (ends.ok ok).0 (ends.ok ok).1
 
     pub built_crashes : (image : Store) → IsImageSince story 0 image → IsCrash gives reading book image
-    built_crashes = kept_crash opening plan options tale story k gives reading book refl refl again.same (λ image since. opened_crash gives reading book plan before after image was.fresh entry was.clears since)
+    built_crashes = kept_crash opening plan options tale s story k gives reading book refl refl again.same (λ image since. opened_crash gives reading book plan before after image was.fresh entry was.clears since)
 
     pub built_complete : IsStorySound story → AreWanted plan → (s ≡ status.Ok → AllClean gives plan) × (AllClean gives plan → s ≢ status.TaskFailed)
     built_complete lawful wanted = (
-      λ ok. kept_all opening plan options tale story k lawful entry.sound wanted (ends.ok ok).0 (ends.ok ok).1,
-      λ clean failed. kept_clean opening plan options tale story k clean (ends.failed failed),
+      λ ok. kept_all opening plan options tale s story k lawful entry.sound wanted (ends.ok ok).0 (ends.ok ok).1,
+      λ clean failed. kept_clean opening plan options tale s story k clean (ends.failed failed),
     )
 
     pub built_legal : HasRun gives reading book before.held plan options tale story
@@ -73,11 +73,11 @@ module _ (gives : Gives) (reading : Reading) (book : Book) (plan : Plan) (option
           (subst (λ (l : List Logged). EachNow k.last.story (AllStand opening plan l)) k.tale_is (subst (λ (p : Plan). EachNow k.last.story (AllStand opening p k.last.tale)) k.plan_is k.run.stands));
     }
 
-    pub built_others : (image : Store) → IsImageSince story 0 image → LeavesOthers gives book before.held plan options tale image
-    built_others image since = kept_others opening book before.held rows was.opened again.same plan options tale story k image (early_alone book before after image was.fresh was.clears) since
+    pub built_others : LeavesOthers gives book before.held plan options tale s story
+    built_others = kept_others opening book before.held rows was.opened again.same plan options tale s story k (λ image since. opening_clears before after image was.fresh was.clears since)
 
     pub built_real : (t : ℕ) → Contains (failed_in tale) t → FailsClean gives plan t
-    built_real = kept_real opening plan options tale story k
+    built_real = kept_real opening plan options tale s story k
 
     -- all together
     pub built_leaves : IsStorySound story → is_unsteady s ≡ false → (runs now : List Runs) → AtSeats (RanStarted gives plan tale) runs now → Leaves gives reading book before.held plan options tale s story runs now
@@ -93,9 +93,9 @@ module _ (gives : Gives) (reading : Reading) (book : Book) (plan : Plan) (option
     }
 
 -- The plan and the options of a run are those that it was begun with.
-pub as_begun : (o : Opening) (p plan : Plan) (x options : Options) (tale : List Logged) (story : Story) (s : Status) → p ≡ plan → x ≡ options → KeptTo o p x tale story → EndsAs p x tale s → KeptTo o plan options tale story × EndsAs plan options tale s
+pub as_begun : (o : Opening) (p plan : Plan) (x options : Options) (tale : List Logged) (story : Story) (s : Status) → p ≡ plan → x ≡ options → KeptTo o p x tale s story → EndsAs p x tale s → KeptTo o plan options tale s story × EndsAs plan options tale s
 as_begun o p plan x options tale story s plan_is options_are kept ends = (
-  subst (λ (y : Options). KeptTo o plan y tale story) options_are (subst (λ (q : Plan). KeptTo o q x tale story) plan_is kept),
+  subst (λ (y : Options). KeptTo o plan y tale s story) options_are (subst (λ (q : Plan). KeptTo o q x tale s story) plan_is kept),
   subst (λ (y : Options). EndsAs plan y tale s) options_are (subst (λ (q : Plan). EndsAs q x tale s) plan_is ends),
 )
 
@@ -105,7 +105,7 @@ pub unbegun_leaves : (gives : Gives) (reading : Reading) (book : Book) (plan : P
 unbegun_leaves gives reading book plan options before after story tale s runs now fresh entry clears same none ok failed steady ran = record {
   exact = λ e. absurd (ok e);
   crashes = λ image since. opened_crash gives reading book plan before after image fresh entry clears (subst (λ (x : Story). IsImageSince x 0 image) same since);
-  others = λ image since. opened_alone gives book before after plan options tale image fresh clears (subst (λ (x : Story). IsImageSince x 0 image) same since);
+  others = subst (λ (x : Story). LeavesOthers gives book before.held plan options tale s x) (sym same) (opened_alone gives book before after plan options tale s fresh clears);
   complete = λ wanted. (λ e. absurd (ok e), λ clean e. absurd (failed e));
   steady = steady;
   legal = inl none;

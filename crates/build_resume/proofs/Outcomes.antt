@@ -11,6 +11,7 @@ use Rattle.outside_traits.specs.declared.call.Call.{Call}
 use Rattle.meta_model.specs.declared.event.Event.{Event}
 use Rattle.meta_model.specs.declared.event.Event.TheVariants as events
 use Rattle.meta_model.specs.declared.event.Logged.{Logged}
+use Rattle.meta_model.specs.declared.event.Status.{Status}
 use Rattle.meta_model.specs.declared.plan.Options.{Options}
 use Rattle.meta_model.specs.declared.plan.Plan.{Plan}
 use Rattle.meta_model.specs.declared.plan.PlanTask.{PlanTask}
@@ -115,7 +116,7 @@ built_at gives tasks k lt =
 
 -- ---- over the state in which a run ended
 
-module _ (o : Opening) (plan : Plan) (options : Options) (tale : List Logged) (story : Story) (k : KeptTo o plan options tale story) where
+module _ (o : Opening) (plan : Plan) (options : Options) (tale : List Logged) (s : Status) (story : Story) (k : KeptTo o plan options tale s story) where
   pub kept_exact : IsAtEnd plan options tale → has_failure tale ≡ false → EachNow story (HasTargets o.gives plan)
   kept_exact at_end none image is t task built target at built_at =
       let there : IsAtEnd k.last.plan k.last.options k.last.tale =

@@ -33,11 +33,13 @@ use Rattle.bb_report.specs.Written.{WritesFront}
 use Rattle.run_queue.specs.Books.{book_after}
 use Rattle.run_queue.specs.Courses.{IsLegalTale}
 use Rattle.run_queue.specs.Opening.{HasFolders, Opening}
-use Rattle.run_queue.specs.Stands.{AllStand, HasStarted}
+use Rattle.run_queue.specs.Own.{IsAside, IsOfNone}
+use Rattle.run_queue.specs.Stands.{AllStand, HasStarted, IsTakenUp}
 use Rattle.run_workers.specs.Runs.{RanScripts, Runs}
 use Rattle.run_workers.specs.Told.{own}
 use Rattle.run_workers.specs.Worked as worked
 use Rattle.build_resume.specs.Benches.{AtSeats, started_by}
+use Rattle.build_resume.specs.Ends.{is_faultless}
 
 -- What is asked of a run: the plan is sound; what the disk holds is valid with a book of lines that can be read again, and has folders
 -- where the store keeps them; the plan may reuse of the book what it wants; what scripts give are trees; and a program can hold the
@@ -113,14 +115,28 @@ pub record IsLeftAlone (book : Book) (held image : Store) (of : PlanTask) : Type
   pub objects : (line : Line) → HasLine book line → line.sig.pn ≡ of.id.pn → line.sig.task ≡ of.id.task → (q : List ℕ) → IsAtOrBelow (object_folder line.unihash) q → image q ≡ held q
   pub stamp : IsLeft held (stamp_path of) → image (stamp_path of) ≡ held (stamp_path of)
 
--- Each task of the plan is left alone that the tale doesn't start, and that had no object to be restored from: none by its signature over
--- the lines of the book, in some order, and those that the tale puts behind them.
-pub record LeavesOthers (gives : Gives) (book : Book) (held : Store) (plan : Plan) (options : Options) (tale : List Logged) (image : Store) : Type 0 where
+-- The run was halted while it restored the task: it met a fault, so its status isn't one of those that come without; and the task had an
+-- object to be restored from, by its signature over the lines of the book and those that the tale puts behind them.
+pub record WasHalted (gives : Gives) (book : Book) (held : Store) (plan : Plan) (options : Options) (tale : List Logged) (s : Status) (t : ℕ) : Type 0 where
+  pub faulty : is_faultless s ≡ false
+  pub object : (sg : Signed) → slice_get (signatures (rows_of (book_after gives plan book tale)) plan.tasks) t ≡ Some sg → IsAvailable held (rows_of (book_after gives plan book tale)) options.setscene sg Object
+
+-- The run may have touched the task: the tale starts it or restores it, or it is the one at which the run was halted.
+abbrev pub MayTouch : Gives → Book → Store → Plan → Options → List Logged → Status → ℕ → ℕ → Type 0
+MayTouch gives book held plan options tale s halted t = IsTakenUp tale t ⊎ ((t ≡ halted) × WasHalted gives book held plan options tale s t)
+
+-- Whatever a crash leaves since the run began, all else is left alone: each task of the plan that the run can't have touched, with the objects
+-- of the book's lines of it; the object of each line of the book of which the tale starts no task; and, be it of a task of the plan or not, each
+-- path that opening the store leaves alone, that isn't under `tmp/`, that is neither the stamp nor at or under the work folder of a task which the
+-- run may have touched, and, where the tale starts a task, not at or under `rec` or `obj`. (What is under `rec` there, `IsCrash` says.) The lines
+-- of the book have some order.
+pub record LeavesOthers (gives : Gives) (book : Book) (held : Store) (plan : Plan) (options : Options) (tale : List Logged) (s : Status) (story : Story) : Type 0 where
   pub again : Book
   pub same : HaveSameLines book again
-  pub others : (t : ℕ) (task : PlanTask) → slice_get plan.tasks t ≡ Some task → (HasStarted tale t → ⊥)
-      → ((sg : Signed) → slice_get (signatures (rows_of (book_after gives plan again tale)) plan.tasks) t ≡ Some sg → IsAvailable held (rows_of (book_after gives plan again tale)) options.setscene sg Object → ⊥)
-      → IsLeftAlone book held image task
+  pub halted : ℕ
+  pub others : (image : Store) → IsImageSince story 0 image → (t : ℕ) (task : PlanTask) → slice_get plan.tasks t ≡ Some task → (MayTouch gives again held plan options tale s halted t → ⊥) → IsLeftAlone book held image task
+  pub objects : (image : Store) → IsImageSince story 0 image → (line : Line) → HasLine book line → IsOfNone plan (HasStarted tale) line.sig.pn line.sig.task → (q : List ℕ) → IsAtOrBelow (object_folder line.unihash) q → image q ≡ held q
+  pub paths : (image : Store) → IsImageSince story 0 image → (q : List ℕ) → IsLeft held q → IsAside plan (MayTouch gives again held plan options tale s halted) (HasStarted tale) q → image q ≡ held q
 
 -- ---- failed tasks
 
@@ -158,8 +174,9 @@ pub record Leaves (gives : Gives) (reading : Reading) (book : Book) (held : Stor
   pub exact : s ≡ status.Ok → EachNow story (HasTargets gives plan)
   -- whatever the status is, each crash since the run began leaves a valid store
   pub crashes : (image : Store) → IsImageSince story 0 image → IsCrash gives reading book image
-  -- whatever the status is, each crash since the run began leaves the plan's tasks alone that the tale doesn't start and that had no object
-  pub others : (image : Store) → IsImageSince story 0 image → LeavesOthers gives book held plan options tale image
+  -- each crash since the run began leaves all alone but what is the own of tasks that the tale starts or restores; under the status of a
+  -- fault it may have touched one task more, at which it was halted
+  pub others : LeavesOthers gives book held plan options tale s story
   -- whatever failed, Ok comes only where every task of the plan has a clean output, and TaskFailed only where one hasn't
   pub complete : AreWanted plan → (s ≡ status.Ok → AllClean gives plan) × (AllClean gives plan → s ≢ status.TaskFailed)
   -- no output is found to differ from one run to another

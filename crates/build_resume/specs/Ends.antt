@@ -59,6 +59,13 @@ is_plain status.Ok = true
 is_plain status.TaskFailed = true
 is_plain _ = false
 
+-- whether the status comes only where no fault was kept
+abbrev pub is_faultless : Status → Bool
+is_faultless status.Ok = true
+is_faultless status.TaskFailed = true
+is_faultless status.BenchFault = true
+is_faultless _ = false
+
 -- How a run ends whose first cause is this one: so it does; or memory was wanting for the last line, or for the list of the tasks that
 -- failed; or nothing failed outside before, and the sink did now.
 abbrev pub EndsBy : Type 0 → Status → Status → Type 0

@@ -1,6 +1,7 @@
 -- What a run leaves, over an opening.
-use Rattle.std.specs.Prelude.{◌≡◌, false, true, List}
+use Rattle.std.specs.Prelude.{◌≡◌, false, true, List, None}
 use Rattle.outside_traits.specs.Story.{Story}
+use Rattle.build_resume.specs.Ends.{is_faultless}
 use Rattle.meta_model.specs.declared.event.Logged.{Logged}
 use Rattle.meta_model.specs.declared.event.Status.{Status}
 use Rattle.meta_model.specs.declared.event.Status.TheVariants as status
@@ -11,17 +12,21 @@ use Rattle.run_queue.specs.Keeps.{IsRun}
 use Rattle.run_queue.specs.Opening.{Opening}
 use Rattle.run_queue.specs.Seen.{Seen}
 use Rattle.run_queue.specs.Turns.{IsAtEnd}
+use Rattle.build_resume.specs.Ends.{bench_broke, is_plain, memory_broke}
 
--- the state in which a run ended kept all over the opening
-pub record KeptTo (o : Opening) (plan : Plan) (options : Options) (tale : List Logged) (story : Story) : Type 0 where
+-- the state in which a run ended kept all over the opening, and no fault where the status tells of none
+pub record KeptTo (o : Opening) (plan : Plan) (options : Options) (tale : List Logged) (s : Status) (story : Story) : Type 0 where
   pub last : Seen
   pub run : IsRun o last
   pub plan_is : last.plan ≡ plan
   pub options_are : last.options ≡ options
   pub tale_is : last.tale ≡ tale
   pub story_is : last.story ≡ story
+  pub faultless : is_faultless s ≡ true → last.fault ≡ None
 
--- Under Ok nothing is left to do, and no task failed; where a task failed it stands in the tale.
+-- Under Ok nothing is left to do, and no task failed; where a task failed it stands in the tale. Neither of the two comes where a task broke
+-- off since a bench failed or memory was wanting, though another bench did it after all.
 pub record EndsAs (plan : Plan) (options : Options) (tale : List Logged) (s : Status) : Type 0 where
   pub ok : s ≡ status.Ok → IsAtEnd plan options tale × (has_failure tale ≡ false)
   pub failed : s ≡ status.TaskFailed → has_failure tale ≡ true
+  pub unbroken : is_plain s ≡ true → (bench_broke tale ≡ false) × (memory_broke tale ≡ false)

@@ -131,7 +131,7 @@ fn finish<D: Disk, B: Bench, W: Sink>(
     ensures failed { result.status ≡ ends.TaskFailed → result.failed.items ≡ failed_in result.tale.items }
     ensures text { W.tells → (base : List ℕ) (before : ℕ) → Prints base (W.written state.sink) (tale_text state.plan.tasks state.tale) state.sink_failed → Counts before (W.faults state.sink) state.sink_failed → WritesReport (Rose before (W.faults result.sink)) base (W.written result.sink) state.plan result.tale.items result.status }
     ensures cause { (before : ℕ) → Counts before (W.faults state.sink) state.sink_failed → MayEndSo (D.faults result.disk) (Rose (B.faults last.old) (B.faults last.new) ⊎ SomeBreak result.tale.items) (Rose before (W.faults result.sink)) result.status }
-    ensures run { D.tells → B.tells → (o : Opening) → o.gives ≡ B.gives last.old → IsRun o (seen D.story W.written state) → KeptTo o state.plan state.options result.tale.items (D.story result.disk) × RanOn (B.gives last.old) state.plan state.tale result.tale.items (B.place last.old).runs (B.place last.new).runs }
+    ensures run { D.tells → B.tells → (o : Opening) → o.gives ≡ B.gives last.old → IsRun o (seen D.story W.written state) → KeptTo o state.plan state.options result.tale.items result.status (D.story result.disk) × RanOn (B.gives last.old) state.plan state.tale result.tale.items (B.place last.old).runs (B.place last.new).runs }
     ensures printed { W.tells → B.tells → (from : List Entry) (base : List ℕ) (before : Runs) → RanSaid state.plan None state.fault from state.tale before (B.place last.old).runs base (W.written state.sink) → SaidTo state.plan from result.tale.items before (B.place last.new).runs base (W.written result.sink) }
     ensures lawful { D.tells → IsLawful (D.story result.disk) }
     ensures steady { D.tells → B.tells → (o : Opening) → o.gives ≡ B.gives last.old → IsRun o (seen D.story W.written state) → IsSteady state.fault → is_unsteady result.status ≡ false }
@@ -166,7 +166,7 @@ where
     ensures text { W.tells → WritesReport (Rose (W.faults state.sink) (W.faults result.sink)) (W.written state.sink) (W.written result.sink) state.plan result.tale.items result.status }
     ensures cause { MayEndSo (D.faults result.disk) (SomeRose (map B.faults benches.items) (map B.faults result.benches.items)) (Rose (W.faults state.sink) (W.faults result.sink)) result.status }
     ensures broke { AtSeats (BreaksByFault result.tale.items) (map B.faults benches.items) (map B.faults result.benches.items) }
-    ensures run { D.tells → B.tells → (gives : Gives) → All (λ b. B.gives b ≡ gives) benches.items → (o : Opening) → o.gives ≡ gives → IsRun o (seen D.story W.written state) → KeptTo o state.plan state.options result.tale.items (D.story result.disk) × AtSeats (RanStarted gives state.plan result.tale.items) (map (λ b. (B.place b).runs) benches.items) (map (λ b. (B.place b).runs) result.benches.items) }
+    ensures run { D.tells → B.tells → (gives : Gives) → All (λ b. B.gives b ≡ gives) benches.items → (o : Opening) → o.gives ≡ gives → IsRun o (seen D.story W.written state) → KeptTo o state.plan state.options result.tale.items result.status (D.story result.disk) × AtSeats (RanStarted gives state.plan result.tale.items) (map (λ b. (B.place b).runs) benches.items) (map (λ b. (B.place b).runs) result.benches.items) }
     ensures printed { W.tells → B.tells → RanPrinted state.plan result.tale.items (map (λ b. (B.place b).runs) benches.items) (map (λ b. (B.place b).runs) result.benches.items) (W.written state.sink) (W.written result.sink) }
     ensures lawful { D.tells → IsLawful (D.story result.disk) }
     ensures steady { D.tells → B.tells → (gives : Gives) → All (λ b. B.gives b ≡ gives) benches.items → (o : Opening) → o.gives ≡ gives → IsRun o (seen D.story W.written state) → is_unsteady result.status ≡ false }
@@ -262,8 +262,8 @@ where
     // Whatever the disk tells, each bench ran the scripts of just those tasks whose start had been printed.
     ensures printed { W.tells → B.tells → RanPrinted plan result.tale.items (map (λ b. (B.place b).runs) benches.items) (map (λ b. (B.place b).runs) result.benches.items) (W.written sink) (W.written result.sink) }
 
-    // Whatever the devices tell, Ok comes only where nothing is left to do and no task failed, and where a task failed it is told. The
-    // failed tasks are those of the tale.
+    // Whatever the devices tell, Ok comes only where nothing is left to do and no task failed, and where a task failed it is told. Neither
+    // comes where a bench that failed, or want of memory, broke a task off. The failed tasks are those of the tale.
     ensures told { EndsAs plan options result.tale.items result.status }
     ensures failed { result.status ≡ ends.TaskFailed → result.failed.items ≡ failed_in result.tale.items }
 

@@ -7,7 +7,7 @@ use Rattle.run_queue.specs.Keeps.{IsFront}
 use Rattle.run_workers.specs.Runs.{Runs}
 use Rattle.build_resume.specs.Benches.{AtSeats, BreaksByFault, SomeRose, started_by}
 use Rattle.build_resume.specs.Build.{AllClean, MayEndSo, RanJust, RanPrinted, RanStarted, WritesReport, is_unsteady}
-use Rattle.build_resume.specs.Ends.{EndsBy}
+use Rattle.build_resume.specs.Ends.{EndsBy, bench_broke, memory_broke}
 use Rattle.build_resume.specs.Outcome.{EndsAs}
 use Rattle.build_resume.proofs.Begun.{just_nothing, ran_nothing}
 use Rattle.build_resume.proofs.Benches.{broke_nothing, seats_same, some_mapped}
@@ -87,7 +87,7 @@ returns-in-Err-begin-clause-leaves g c tells told gives all reading book entry =
 pub returns-in-Err-begin-clause-told : goal.returns-in-Err-begin-clause-told
 returns-in-Err-begin-clause-told g c =
     let ends = (memory_ends c.unbegun.result.status (c.unbegun.ensures.status ∙ c.end_wanting-status.ensures.ends)) in
-    record { ok = λ e. absurd (ends.0 e); failed = λ e. absurd (ends.1 e) }
+    record { ok = λ e. absurd (ends.0 e); failed = λ e. absurd (ends.1 e); unbroken = λ e. (ap bench_broke c.unbegun.ensures.tale, ap memory_broke c.unbegun.ensures.tale) }
 
 pub returns-in-Err-begin-clause-broke : goal.returns-in-Err-begin-clause-broke
 returns-in-Err-begin-clause-broke g c =
@@ -122,7 +122,7 @@ pub returns-in-Err-clause-told : goal.returns-in-Err-clause-told
 returns-in-Err-clause-told g c =
     let sink : Type 0 = Rose (g.W.Sink.faults c.args.sink) (g.W.Sink.faults c.tell_end-status.new.sink) in
     let ends = refused_ends sink c.in-Err.field-0.fault c.tell_end-status.result (subst (λ x. EndsBy sink x c.tell_end-status.result) c.status_of_store.ensures c.tell_end-status.ensures.ends) c.in-Err.ensures.fault in
-    record { ok = λ e. absurd (ends.0 (sym c.unbegun-in-Err.ensures.status ∙ e)); failed = λ e. absurd (ends.1 (sym c.unbegun-in-Err.ensures.status ∙ e)) }
+    record { ok = λ e. absurd (ends.0 (sym c.unbegun-in-Err.ensures.status ∙ e)); failed = λ e. absurd (ends.1 (sym c.unbegun-in-Err.ensures.status ∙ e)); unbroken = λ e. (ap bench_broke c.unbegun-in-Err.ensures.tale, ap memory_broke c.unbegun-in-Err.ensures.tale) }
 
 pub returns-in-Err-clause-broke : goal.returns-in-Err-clause-broke
 returns-in-Err-clause-broke g c =

@@ -5,8 +5,8 @@ use Rattle.meta_model.specs.declared.event.Logged.{Logged}
 use Rattle.meta_model.specs.declared.plan.Plan.{Plan}
 use Rattle.bb_report.specs.Runs.{has_failure, tale_text}
 use Rattle.run_queue.specs.Keeps.{IsCause, IsFront, IsSteady, Prints}
-use Rattle.build_resume.specs.Ends.{bench_broke, memory_broke}
-use Rattle.build_resume.proofs.Begun.{EndsSo, ends_by, kept_to, ran_on, went_on}
+use Rattle.build_resume.specs.Ends.{is_faultless}
+use Rattle.build_resume.proofs.Begun.{EndsSo, ends_by, kept_to, none_kept, ran_on, went_on}
 use Rattle.build_resume.proofs.Reports.{reports_as, rose_from, rose_on}
 use Rattle.build_resume.proofs.Printing.{grew, said_last}
 use Rattle.build_resume.proofs.Statuses.{ended_cause, ended_steady}
@@ -23,7 +23,7 @@ returns-clause-ends g c =
     let told : EndsSo sink c.drive-halt.new.state.fault by (has_failure c.drive-halt.new.state.tale) c.conclude.result.status =
     subst (λ f. EndsSo sink f by (has_failure c.drive-halt.new.state.tale) c.conclude.result.status) parts.fault
     (subst (λ (l : List Logged). EndsSo sink c.into_parts-parts.result.fault by (has_failure l) c.conclude.result.status) parts.tale c.conclude.ensures.status) in
-    ends_by sink c.args.state c.drive-halt.new.state c.drive-halt.result by (bench_broke c.as_slice.result.now) (memory_broke c.as_slice.result.now) c.conclude.result.tale.items c.conclude.result.status c.halt_of_run-halt.ensures.is c.drive-halt.ensures.same (c.conclude.ensures.tale ∙ parts.tale) c.drive-halt.ensures.halted told
+    ends_by sink c.args.state c.drive-halt.new.state c.drive-halt.result by c.as_slice.result.now c.conclude.result.tale.items c.conclude.result.status c.halt_of_run-halt.ensures.is (c.as_slice.ensures.value ∙ sym c.conclude.ensures.tale) c.drive-halt.ensures.same (c.conclude.ensures.tale ∙ parts.tale) c.drive-halt.ensures.halted told
 
 pub returns-clause-went : goal.returns-clause-went
 returns-clause-went g c =
@@ -51,8 +51,10 @@ pub returns-clause-run : goal.returns-clause-run
 returns-clause-run g c tells told o gives run =
     let parts = c.into_parts-parts.ensures in
     let last = c.drive-halt.new.state in
-    let did = c.drive-halt.ensures.run tells told o gives run in (
-      kept_to g.D.Disk.story g.W.Sink.written o c.args.state last c.conclude.result.disk c.conclude.result.tale.items c.drive-halt.ensures.same (c.conclude.ensures.disk ∙ parts.disk) (c.conclude.ensures.tale ∙ parts.tale) did.0,
+    let did = c.drive-halt.ensures.run tells told o gives run in
+    let sink : Type 0 = (c.into_parts-parts.result.sink_failed ≡ true) ⊎ Rose (g.W.Sink.faults c.into_parts-parts.result.sink) (g.W.Sink.faults c.conclude.result.sink) in
+    let faultless = λ (e : is_faultless c.conclude.result.status ≡ true). sym parts.fault ∙ none_kept sink c.into_parts-parts.result.fault c.halt_of_run-halt.result (has_failure c.into_parts-parts.result.tale.items) c.conclude.result.status c.conclude.ensures.status e in (
+      kept_to g.D.Disk.story g.W.Sink.written o c.args.state last c.conclude.result.disk c.conclude.result.tale.items c.conclude.result.status c.drive-halt.ensures.same (c.conclude.ensures.disk ∙ parts.disk) (c.conclude.ensures.tale ∙ parts.tale) faultless did.0,
       ran_on (g.B.Bench.gives c.args.last.now) c.args.state.plan c.drive-halt.result c.args.state.tale c.conclude.result.tale.items last.tale (g.B.Bench.place c.args.last.now).runs (g.B.Bench.place c.drive-halt.new.bench).runs (c.conclude.ensures.tale ∙ parts.tale) did.1,
     )
 

@@ -84,7 +84,7 @@ returns-clause-run g c tells told gives all o same run =
     let ran : RanOn gives state.plan mid.tale tale (g.B.Bench.place last).runs (g.B.Bench.place c.finish-plan.new.last).runs =
     subst (λ (p : Plan). RanOn gives p mid.tale tale (g.B.Bench.place last).runs (g.B.Bench.place c.finish-plan.new.last).runs) c.with_workers-state.ensures.same.plan
     (subst (λ (x : Gives). RanOn x mid.plan mid.tale tale (g.B.Bench.place last).runs (g.B.Bench.place c.finish-plan.new.last).runs) own alone.1) in (
-      kept_still o state mid tale (g.D.Disk.story c.finish-plan.result.disk) c.with_workers-state.ensures.same alone.0,
+      kept_still o state mid tale c.finish-plan.result.status (g.D.Disk.story c.finish-plan.result.disk) c.with_workers-state.ensures.same alone.0,
       at_seats (λ b. (g.B.Bench.place b).runs) (RanStarted gives state.plan tale) c.args.benches.items c.push_reserved.new.self.items c.take_last-last.new.benches.items c.with_workers-state.result.1.items last c.finish-plan.new.last c.take_last-last.ensures.items c.push_reserved.ensures.items
           (workers_weaker (λ s a b. RanStarted gives state.plan mid.tale s (g.B.Bench.place a).runs (g.B.Bench.place b).runs) (λ s a b. RanStarted gives state.plan tale s (g.B.Bench.place a).runs (g.B.Bench.place b).runs) c.take_last-last.new.benches.items c.with_workers-state.result.1.items
           (λ s a b other r. ran_before gives state.plan s mid.tale tale went.more (g.B.Bench.place a).runs (g.B.Bench.place b).runs other went.is went.alone r) workers.1)
