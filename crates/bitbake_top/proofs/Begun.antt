@@ -177,7 +177,7 @@ pub words_steady : (s : Status) → is_words_refusal s ≡ true → is_unsteady 
 words_steady status.Ok refusal = refl
 words_steady status.TaskFailed refusal = refl
 words_steady status.Usage refusal = refl
-words_steady (status.Metadata file line kind detail) refusal = refl
+words_steady (status.Metadata file line kind detail) refusal = absurd (false≢true refusal)
 words_steady status.DiskFault refusal = refl
 words_steady status.BenchFault refusal = refl
 words_steady status.ReadFault refusal = refl

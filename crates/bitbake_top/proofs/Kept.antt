@@ -86,7 +86,7 @@ begun_keeps gives reading book held plan options tales tale s story before now o
       crashes = kept.crashes;
       legal = All-cons (λ x. (x ≡ []) ⊎ HasRun gives reading book held plan options x story) tale [] kept.legal (All-nil _);
       real = All-cons (λ x. (t : ℕ) → Contains (failed_in x) t → FailsClean gives plan t) tale [] kept.real (All-nil _);
-      others = All-cons (λ x. (image : Store) → IsImageSince story 0 image → LeavesOthers gives book held plan options x image) tale [] kept.others (All-nil _);
+      others = All-cons (λ x. LeavesOthers gives book held plan options x s story) tale [] kept.others (All-nil _);
       steady = kept.steady;
       ran = kept.ran;
     })

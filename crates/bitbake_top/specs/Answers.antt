@@ -10,10 +10,9 @@ use Rattle.project_reading.specs.Answered.{is_refusal}
 abbrev pub IsRefusal : {A : Type 0} → Result A Status → Status → Type 0
 IsRefusal meant s = (meant ≡ Err s) ⊎ (s ≡ status.OutOfMemory)
 
--- the statuses of words that are refused: no reading, what isn't built, want of memory
+-- the statuses of words that are refused: no reading, want of memory
 abbrev pub is_words_refusal : Status → Bool
 is_words_refusal status.Usage = true
-is_words_refusal (status.Metadata file line kind detail) = true
 is_words_refusal status.OutOfMemory = true
 is_words_refusal _ = false
 

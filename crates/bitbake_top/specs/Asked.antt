@@ -1,4 +1,4 @@
--- What the words behind the program's name ask for, of what is built so far.
+-- What the words behind the program's name ask for.
 use Rattle.std.specs.Prelude.{◌≡◌, ℕ, List, Result, Ok, Err}
 use Rattle.std.specs.Option.{option_map_or}
 use Rattle.meta_model.specs.declared.event.Status.{Status}
@@ -10,9 +10,8 @@ use Rattle.command_words.specs.Modes.{mode_of}
 use Rattle.command_words.specs.Reading.{request_of}
 use Rattle.read_modes.specs.declared.modes.ReadMode.{ReadMode}
 use Rattle.read_modes.specs.declared.modes.ReadMode.TheVariants as read
-use Rattle.project_reading.specs.Project.{not_built}
 use Rattle.bitbake_top.specs.declared.asked.Asked.{Asked}
-use Rattle.bitbake_top.specs.declared.asked.Asked.TheVariants.{Runs, Reads, Plans}
+use Rattle.bitbake_top.specs.declared.asked.Asked.TheVariants.{Runs, Reads, Plans, Sample}
 use Rattle.bitbake_top.specs.declared.asked.DryRequest.{DryRequest}
 use Rattle.bitbake_top.specs.declared.asked.RunRequest.{RunRequest}
 
@@ -24,15 +23,14 @@ run_of request = record { targets = request.targets; task = request.task; force 
 abbrev pub dry_of : Request → DryRequest
 dry_of request = record { targets = request.targets; task = request.task }
 
--- What a mode asks for. A mode that only reads looks at the targets, and at no option (own rule). `--sample` isn't built so far (own
--- rule).
+-- What a mode asks for. A mode that only reads looks at the targets, and at no option; the sample looks at neither (own rule).
 abbrev pub asked_in : Mode → Request → Result Asked Status
 asked_in mode.Run request = Ok (Runs (run_of request))
 asked_in mode.Environment request = Ok (Reads read.Environment request.targets)
 asked_in mode.Versions request = Ok (Reads read.Versions request.targets)
 asked_in mode.Parse request = Ok (Reads read.Parse request.targets)
 asked_in mode.Dry request = Ok (Plans (dry_of request))
-asked_in (mode.Sample size) request = Err not_built
+asked_in (mode.Sample size) request = Ok (Sample size)
 
 -- what a request asks for
 abbrev pub asked_for : Request → Result Asked Status
@@ -55,6 +53,11 @@ AskReading words mode targets = asked_of words ≡ Ok (Reads mode targets)
 abbrev pub AskDry : List (List ℕ) → DryRequest → Type 0
 AskDry words request = asked_of words ≡ Ok (Plans request)
 
--- the words ask for no run
-abbrev pub AskNoRun : List (List ℕ) → Type 0
-AskNoRun words = (request : RunRequest) → AskRun words request → ⊥
+-- the words ask for the sample of so many recipes
+abbrev pub AskSample : List (List ℕ) → ℕ → Type 0
+AskSample words size = asked_of words ≡ Ok (Sample size)
+
+-- the words ask for no run, and not for the sample, which has two
+pub record AskNoRun (words : List (List ℕ)) : Type 0 where
+  pub no_run : (request : RunRequest) → AskRun words request → ⊥
+  pub no_sample : (size : ℕ) → AskSample words size → ⊥

@@ -4,3 +4,4 @@ pub mod Devices
 pub mod Run
 pub mod Headline
 pub mod Dry
+pub mod Sample

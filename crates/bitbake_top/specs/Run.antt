@@ -35,7 +35,7 @@ abbrev pub IsUnrun : Files → List (List ℕ) → RunRequest → Status → Typ
 IsUnrun files paths request s = (s ≡ status.OutOfMemory) ⊎ ((s ≡ status.ReadFault) ⊎ IsPlanRefused files paths request.targets request.task request.force s)
 
 -- A run was begun: it has one plan and one tale. Under Ok the tale leaves nothing to do and no task failed in it; where the status says that
--- a task failed, one did.
+-- a task failed, one did; and under neither a task broke off in it.
 pub record IsBegun (options : Options) (plans : List Plan) (tales : List (List Logged)) (s : Status) : Type 0 where
   pub plan : Plan
   pub tale : List Logged

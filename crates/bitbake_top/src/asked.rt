@@ -6,12 +6,11 @@ ghost use Rattle.bitbake_top.specs.declared.asked.Asked.TheVariants.{Reads};
 
 use command_words::{Mode, Request, WordsFault, read_words};
 use meta_model::{Options, Status};
-use project_reading::not_built;
 use read_modes::ReadMode;
 use std::alloc::Global;
 use tree_model::{Text, Texts};
 
-/// What words ask for, of what is built so far.
+/// What words ask for.
 #[derive(Debug, Drop)]
 pub enum Asked {
     /// A run of targets.
@@ -22,6 +21,9 @@ pub enum Asked {
 
     /// The plan of targets.
     Plans(DryRequest),
+
+    /// The sample of so many recipes.
+    Sample(u32),
 }
 
 /// What a dry run is asked for.
@@ -97,14 +99,14 @@ fn asked_for(alloc: Global, request: Request) -> Result<Asked, Status>
         Mode::Versions => Ok(reading_of(ReadMode::Versions, request)),
         Mode::Parse => Ok(reading_of(ReadMode::Parse, request)),
         Mode::Dry => Ok(Asked::Plans(dry_of(request))),
-        Mode::Sample(_) => Err(not_built(alloc)),
+        Mode::Sample(size) => Ok(Asked::Sample(size)),
     }
 }
 
 /// What the words ask for.
 ///
 /// # Errors
-/// `Usage` where the words have no reading, `NotBuilt` where the mode isn't built so far, `OutOfMemory`.
+/// `Usage` where the words have no reading, `OutOfMemory`.
 #[tactic(auto, unfolding(crate::specs::Asked::asked_of))]
 pub fn asked_of(alloc: Global, words: &[Text]) -> Result<Asked, Status>
     ensures ok { IfOk result (λ made. asked.asked_of words.now ≡ Ok made) }

@@ -2,8 +2,7 @@
 ghost use Rattle.std.specs.Prelude.{◌≡◌, [], ◌∷◌, Ok, Err, Some, None, true, false, codes};
 ghost use Rattle.meta_model.specs.declared.event.Status.TheVariants.{Usage};
 ghost use Rattle.read_modes.specs.declared.modes.ReadMode.TheVariants.{Parse, Versions, Environment};
-ghost use Rattle.project_reading.specs.Project.{not_built};
-ghost use Rattle.bitbake_top.specs.declared.asked.Asked.TheVariants.{Runs, Reads, Plans};
+ghost use Rattle.bitbake_top.specs.declared.asked.Asked.TheVariants.{Runs, Reads, Plans, Sample};
 ghost use Rattle.bitbake_top.specs.Asked.{asked_of};
 
 /// Runs, and what a mode prints.
@@ -36,7 +35,7 @@ pub fn example_of_dry_runs()
     ensures options { asked_of (codes "-nfk" ∷ codes "--no-setscene" ∷ codes "hello" ∷ []) ≡ Ok (Plans (record { targets = codes "hello" ∷ []; task = None })) }
 {}
 
-/// Options of runs, and the mode that isn't built so far.
+/// Options of runs, and the sample.
 #[tactic(auto, unfolding(crate::specs::Asked::asked_of, command_words::specs::Command::command, clap::proofs::OnLiterals::clap_on_literals))]
 pub fn example_of_options()
     ensures force { asked_of (codes "-f" ∷ codes "hello" ∷ []) ≡ Ok (Runs (record { targets = codes "hello" ∷ []; task = None; force = true; options = record { keep_going = false; setscene = true } })) }
@@ -44,7 +43,8 @@ pub fn example_of_options()
     ensures no_setscene { asked_of (codes "--no-setscene" ∷ codes "hello" ∷ []) ≡ Ok (Runs (record { targets = codes "hello" ∷ []; task = None; force = false; options = record { keep_going = false; setscene = false } })) }
     // a mode that reads doesn't look at options
     ensures force_in_a_mode { asked_of (codes "-f" ∷ codes "-p" ∷ []) ≡ Ok (Reads Parse []) }
-    ensures sample { asked_of (codes "--sample" ∷ codes "5" ∷ []) ≡ Err not_built }
+    ensures sample { asked_of (codes "--sample" ∷ codes "5" ∷ []) ≡ Ok (Sample 5) }
+    ensures sample_without_targets { asked_of (codes "-f" ∷ codes "--sample" ∷ codes "5" ∷ codes "x" ∷ []) ≡ Ok (Sample 5) }
 {}
 
 /// Words without a reading.
@@ -55,7 +55,6 @@ pub fn example_of_misread_words()
     ensures only_two_hyphens { asked_of (codes "--" ∷ []) ≡ Err Usage }
     ensures unknown_name { asked_of (codes "--not-utf-8" ∷ []) ≡ Err Usage }
     ensures unknown_letter { asked_of (codes "-x" ∷ []) ≡ Err Usage }
-    // before what isn't built
     ensures no_target { asked_of (codes "-f" ∷ []) ≡ Err Usage }
     ensures task_without_a_value { asked_of (codes "hello" ∷ codes "-c" ∷ []) ≡ Err Usage }
 {}

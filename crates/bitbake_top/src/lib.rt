@@ -21,7 +21,8 @@
 //!
 //! A mode prints exactly its text, and answers `Ok` exactly where no rule refuses, where no device failed and memory wasn't wanting. A dry
 //! run prints exactly the text of the plan, and answers `Ok` exactly where there is one. Neither a mode, a dry run nor refused words touch
-//! the disk or a bench, and refused words don't touch the layers. Words are refused as `Usage` exactly where they have no reading. Each
+//! the disk or a bench, and refused words don't touch the layers. The sample builds a generated project twice, over devices in memory of its
+//! own, and prints how many tasks its runs started and found. Words are refused as `Usage` exactly where they have no reading. Each
 //! refusal's line is printed, and each fault has its cause. Beside these comes want of memory alone.
 #![tactic(auto)]
 
@@ -32,6 +33,7 @@ mod examples;
 mod finish;
 mod laws;
 mod run;
+mod sample;
 mod top;
 mod whole;
 

@@ -21,7 +21,8 @@ ghost use Rattle.bitbake_top.specs.Dry.{HasDry, IsDryPlan};
 ghost use Rattle.bitbake_top.specs.declared.asked.DryRequest.{DryRequest};
 ghost use Rattle.bitbake_top.specs.declared.asked.RunRequest.{RunRequest as Request};
 ghost use Rattle.bitbake_top.specs.Answers.{HasRead, IsRefusal, Says, is_read_status};
-ghost use Rattle.bitbake_top.specs.Asked.{AskDry, AskNoRun, AskReading, AskRun, asked_of as asked_by};
+ghost use Rattle.bitbake_top.specs.Asked.{AskDry, AskNoRun, AskReading, AskRun, AskSample, asked_of as asked_by};
+ghost use Rattle.bitbake_top.specs.Sample.{SaysSample};
 ghost use Rattle.bitbake_top.specs.Run.{Concludes, HasBuild, HasCause, IsCertain, IsRunPlan, IsUnrun, RanPrintedCall, WritesCall};
 
 use crate::answer::{read, refuse};
@@ -29,6 +30,7 @@ use crate::asked::{Asked, asked_of};
 use crate::dry::dry;
 use crate::finish::Finish;
 use crate::run::run;
+use crate::sample::sample;
 use meta_model::Status;
 use outside_traits::{Bench, Disk, Layers, Sink};
 use std::alloc::Global;
@@ -39,13 +41,13 @@ use tree_model::Text;
 /// Does all that the program does, and gives the devices back with the status and the tale.
 ///
 /// `words` are those behind the program's name. They ask for a run of targets, for what a mode prints that only reads metadata
-/// (`-e`, `-s`, `-p`), for the plan of targets (`-n`), or for what isn't built so far (`--sample`), or they have no reading. (BitBake User Manual,
+/// (`-e`, `-s`, `-p`), for the plan of targets (`-n`), or for the sample (`--sample`), or they have no reading. (BitBake User Manual,
 /// "The BitBake Command"; the texts are own rules.)
 ///
 /// A run reads the configuration and all recipes, works out the graph of the tasks that the targets need, the number of threads and
 /// the plan, and is refused where one of these is, in this order. It prints the plan, opens the store that earlier runs left, finds and
 /// restores what it can trust, and runs what is missing. With `-f` the targets' tasks run in any case, with `-k` it goes on after
-/// failures, and with `--no-setscene` it restores no shared state object.
+/// failures, and with `--no-setscene` it restores no shared state object. The sample is built twice, over devices in memory of its own.
 pub fn bitbake<L, D, B, W, R>(
     rt: &R,
     alloc: Global,
@@ -90,7 +92,7 @@ where
         → ((result.status ≡ Status.Ok) ↔ HasBuild (L.files layers) paths request gives) }
 
     // The plan that is handed back is the request's, and each answer but a refusal hands one back. The status fits the tale: Ok comes only
-    // where nothing is left to do and no task failed.
+    // where nothing is left to do and no task failed, and neither Ok nor a failed task is answered where a bench broke a task off.
     ensures plans { (request : Request) → AskRun words.now request → L.tells → (paths : List (List ℕ)) → IsListing [] (L.files layers) paths
         → All (IsRunPlan (L.files layers) paths request) result.plans.items }
     ensures found { (request : Request) → AskRun words.now request → is_refusal result.status ≡ false → (plan : Plan) × (result.plans.items ≡ plan ∷ []) }
@@ -161,6 +163,11 @@ where
         → (plan : Plan) → IsDryPlan (L.files layers) paths request plan
         → result.status ≡ Status.WriteFault → WritesFront (W.written sink) (W.written result.sink) (dry_text plan) }
 
+    // The sample. One line was written that tells of the tales of its two runs; the devices in memory that it runs over are its own.
+    ensures sample { (size : ℕ) → AskSample words.now size → W.tells
+        → SaysSample size result.plans.items result.tales.items result.status (W.written sink) (W.written result.sink) (W.faults sink) (W.faults result.sink) }
+    ensures sample_alone { (size : ℕ) → AskSample words.now size → (result.disk ≡ disk) × (result.benches.items ≡ benches.items) × (result.layers ≡ layers) }
+
     // Words that are refused: the status is the refusal's, or says that memory was wanting. `Usage` has no other cause.
     ensures refused { IsErr (asked_by words.now) → IsRefusal (asked_by words.now) result.status }
     ensures usage { result.status ≡ Status.Usage → asked_by words.now ≡ Err Status.Usage }
@@ -200,6 +207,18 @@ where
             benches,
             sink,
         },
+        Ok(Asked::Sample(size)) => {
+            let (status, plans, tales) = sample(rt, alloc, size, &mut sink);
+            Finish {
+                status,
+                plans,
+                tales,
+                layers,
+                disk,
+                benches,
+                sink,
+            }
+        }
         Err(status) => Finish {
             status: refuse(alloc, status, &mut sink),
             plans: Vec::new(alloc),
