@@ -171,6 +171,10 @@ impl Case {
                 self.project.benches = number_of(it.rest.as_str())?;
                 Ok(())
             }
+            Word::Gate => {
+                self.project.gate = Some(u64::from(number_of(it.rest.as_str())?));
+                Ok(())
+            }
             Word::Run => self.run(rt, alloc, it.rest.as_str()),
             _ => self.add_rule(alloc, it),
         }
@@ -210,6 +214,7 @@ impl Case {
             Some(("layers", number)) => fails.layers = u64::from(number_of(number)?),
             Some(("disk", number)) => fails.disk = u64::from(number_of(number)?),
             Some(("bench", number)) => fails.bench = u64::from(number_of(number)?),
+            Some(("workers", number)) => fails.workers = u64::from(number_of(number)?),
             Some(("sink", number)) => fails.sink = u64::from(number_of(number)?),
             _ => return Err(Wrong::Says("there is no such device")),
         }
@@ -270,8 +275,22 @@ impl Case {
                     .push(unescaped_text(alloc, it.rest.as_str())?)?;
                 Ok(())
             }
+            Word::Count => self.wish_count(alloc, it.rest.as_str()),
             Word::No => self.wish_no(alloc, it.rest.as_str()),
             _ => self.wish_work(alloc, it),
+        }
+    }
+
+    fn wish_count(&mut self, alloc: Global, rest: &str) -> Result<(), Wrong> {
+        match rest.split_once(' ') {
+            Some((number, front)) => {
+                let front = unescaped_text(alloc, front)?;
+                self.wishes
+                    .counts
+                    .push((number_of(number)? as usize, front))?;
+                Ok(())
+            }
+            None => Err(Wrong::Says("a count is a number and how lines begin")),
         }
     }
 

@@ -13,6 +13,8 @@ pub struct Wishes {
     /// Lines that are printed, and lines that aren't.
     pub lines: Vec<String>,
     pub no_lines: Vec<String>,
+    /// How many lines begin with a text.
+    pub counts: Vec<(usize, String)>,
     /// What stands below `work/`, where that is said.
     pub work: Option<Listing>,
 }
@@ -25,13 +27,15 @@ impl Wishes {
             text: None,
             lines: Vec::new(alloc),
             no_lines: Vec::new(alloc),
+            counts: Vec::new(alloc),
             work: None,
         }
     }
 
     /// Whether enough is said: a status, and what is printed.
     pub fn is_whole(&self) -> bool {
-        self.status.is_some() && (self.text.is_some() || !self.lines.is_empty())
+        self.status.is_some()
+            && (self.text.is_some() || !self.lines.is_empty() || !self.counts.is_empty())
     }
 
     /// Holds what a run answered to what is wanted.
@@ -51,7 +55,8 @@ impl Wishes {
             let wanted = printed(wanted.as_slice());
             return Err(Wrong::Told(format!(in alloc; "the text is\n{text}wanted\n{wanted}")?));
         }
-        self.judge_lines(alloc, text)
+        self.judge_lines(alloc, text)?;
+        self.judge_counts(alloc, text)
     }
 
     fn judge_lines(&self, alloc: Global, text: &str) -> Result<(), Wrong> {
@@ -71,6 +76,23 @@ impl Wishes {
         }
         Ok(())
     }
+
+    fn judge_counts(&self, alloc: Global, text: &str) -> Result<(), Wrong> {
+        for (wanted, front) in &self.counts {
+            let found = lines_with(text, front.as_str());
+            if found != *wanted {
+                return Err(Wrong::Told(format!(in alloc;
+                    "{found} lines begin with {front}, wanted {wanted}; the text is\n{text}"
+                )?));
+            }
+        }
+        Ok(())
+    }
+}
+
+/// How many lines of a text begin so.
+fn lines_with(text: &str, front: &str) -> usize {
+    text.split('\n').filter(|it| it.starts_with(front)).count()
 }
 
 /// Whether a text has a line.

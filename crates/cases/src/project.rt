@@ -6,7 +6,9 @@ ghost use Rattle.outside_mem.specs.Told.{story_of};
 use crate::wrong::Wrong;
 use bitbake_top::bitbake;
 use meta_model::Status;
-use outside_mem::{FailDisk, FuseDisk, MemDisk, MemLayers, MemSink, Rule, ScriptTable};
+use outside_mem::{
+    FailDisk, FuseDisk, Gate, GateBench, MemDisk, MemLayers, MemSink, Rule, ScriptTable,
+};
 use std::alloc::Global;
 use std::collections::BTreeMap;
 use std::mem;
@@ -28,12 +30,13 @@ struct Script {
     status: u32,
 }
 
-/// Which call of each device fails in the next run, from 1; 0 is none.
+/// Which call of each device fails in the next run, from 1; 0 is none. `bench` is the last bench, `workers` each of the others.
 #[derive(Clone, Copy)]
 pub struct Fails {
     pub layers: u64,
     pub disk: u64,
     pub bench: u64,
+    pub workers: u64,
     pub sink: u64,
 }
 
@@ -42,6 +45,7 @@ pub const NONE_FAILS: Fails = Fails {
     layers: 0,
     disk: 0,
     bench: 0,
+    workers: 0,
     sink: 0,
 };
 
@@ -67,6 +71,8 @@ pub struct Project {
     scripts: Vec<Script>,
     pub fails: Fails,
     pub crash: Option<Crash>,
+    /// In the next run the first runs of all benches but the last wait for one another, and look so often; the last one's fail.
+    pub gate: Option<u64>,
     /// How many benches there are; of none there is one.
     pub benches: u32,
 }
@@ -80,6 +86,7 @@ impl Project {
             scripts: Vec::new(alloc),
             fails: NONE_FAILS,
             crash: None,
+            gate: None,
             benches: 1,
         }
     }
@@ -165,7 +172,7 @@ impl Project {
         let fails = mem::replace(&mut self.fails, NONE_FAILS);
         let disk = FailDisk::new(disk, fails.disk);
         let layers = self.layers(alloc, fails.layers)?;
-        let benches = self.benches(alloc, fails.bench)?;
+        let benches = self.benches(alloc, &fails)?;
         let sink = MemSink::new(alloc, numbers(alloc, fails.sink)?)?;
         let finish = bitbake(rt, alloc, words, layers, disk, benches, sink);
         self.held = copied(alloc, finish.disk.into_disk().held())?;
@@ -185,7 +192,7 @@ impl Project {
     {
         let disk = FuseDisk::new(disk, crash.calls);
         let layers = self.layers(alloc, 0)?;
-        let benches = self.benches(alloc, 0)?;
+        let benches = self.benches(alloc, &NONE_FAILS)?;
         let sink = MemSink::new(alloc, numbers(alloc, 0)?)?;
         let finish = bitbake(rt, alloc, words, layers, disk, benches, sink);
         let image = finish.disk.into_disk().image(crash.image)?;
@@ -202,16 +209,42 @@ impl Project {
         Ok(MemLayers::new(alloc, files, numbers(alloc, fail)?)?)
     }
 
-    /// The benches. Only the last one fails, where one does.
-    fn benches(&self, alloc: Global, fail: u64) -> Result<Vec<ScriptTable>, Wrong>
+    /// The benches: those of workers, and the last one.
+    fn benches(
+        &mut self,
+        alloc: Global,
+        fails: &Fails,
+    ) -> Result<Vec<GateBench<ScriptTable>>, Wrong>
         ensures { IfOk result (λ made. 0 < vec_len made) }
     {
+        let gate = match self.gate.take() {
+            Some(turns) => Some(Gate::new(alloc, self.workers(), turns)?),
+            None => None,
+        };
         let mut benches = Vec::new(alloc);
-        for _ in 1..self.benches {
-            benches.push(ScriptTable::new(alloc, self.rules(alloc)?, numbers(alloc, 0)?))?;
+        for _ in 0..self.workers() {
+            let table = self.table(alloc, fails.workers)?;
+            benches.push(match &gate {
+                Some(gate) => GateBench::behind(gate, table)?,
+                None => GateBench::open(table),
+            })?;
         }
-        benches.push(ScriptTable::new(alloc, self.rules(alloc)?, numbers(alloc, fail)?))?;
+        let last = self.table(alloc, fails.bench)?;
+        benches.push(match gate {
+            Some(_) => GateBench::shut(last),
+            None => GateBench::open(last),
+        })?;
         Ok(benches)
+    }
+
+    /// How many benches have a worker.
+    fn workers(&self) -> u64 {
+        u64::from(self.benches).saturating_sub(1)
+    }
+
+    /// A bench by the rules for scripts, of which one call fails.
+    fn table(&self, alloc: Global, fail: u64) -> Result<ScriptTable, Wrong> {
+        Ok(ScriptTable::new(alloc, self.rules(alloc)?, numbers(alloc, fail)?))
     }
 
     fn rules(&self, alloc: Global) -> Result<Vec<Rule>, Wrong> {

@@ -14,10 +14,12 @@ pub enum Word {
     Crash,
     Memory,
     Benches,
+    Gate,
     Run,
     Status,
     Text,
     Line,
+    Count,
     No,
     Work,
     Worklink,
@@ -38,6 +40,7 @@ impl Word {
             "crash" => Some(Word::Crash),
             "memory" => Some(Word::Memory),
             "benches" => Some(Word::Benches),
+            "gate" => Some(Word::Gate),
             "run" => Some(Word::Run),
             _ => Word::of_wish(text),
         }
@@ -49,6 +52,7 @@ impl Word {
             "status" => Some(Word::Status),
             "text" => Some(Word::Text),
             "line" => Some(Word::Line),
+            "count" => Some(Word::Count),
             "no" => Some(Word::No),
             "work" => Some(Word::Work),
             "worklink" => Some(Word::Worklink),
@@ -68,7 +72,13 @@ impl Word {
     pub fn is_wish(self) -> bool {
         matches!(
             self,
-            Word::Status | Word::Text | Word::Line | Word::No | Word::Work | Word::Worklink
+            Word::Status
+                | Word::Text
+                | Word::Line
+                | Word::Count
+                | Word::No
+                | Word::Work
+                | Word::Worklink
         )
     }
 }
