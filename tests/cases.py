@@ -4,6 +4,8 @@
 Usage: tests/cases.py [--program FILE] [--data FOLDER] [TOPIC[/NAME] ..]
 The program is the one that the gate built. A case for devices in memory alone is passed over, and one with a run whose devices are to fail
 from that run on; both are counted apart.
+Where a run is refused for a fault of the metadata or a limit, standard error has to explain that by the sentence of docs/faults.tsv and
+nothing else; where it is Ok, nothing stands there. The cases of tests/sentences.tsv have to show just the sentences that stand there.
 The last line is 'N passed, M failed'; the status is 0 where M is 0.
 """
 import argparse
@@ -13,6 +15,8 @@ import shutil
 import subprocess
 import sys
 import tempfile
+
+from sentences import sentences
 
 TOP = os.path.dirname(os.path.dirname(os.path.realpath(__file__)))
 ESCAPE = re.compile(rb"\\(?:\{(\d+)\*((?:[^}\\]|\\.)*)\}|x([0-9A-Fa-f]{2})|([ntr\\])|)")
@@ -69,8 +73,10 @@ class Case:
     def __init__(self, folder, program):
         self.folder, self.program, self.runs = folder, program, 0
         self.work, self.wishes, self.fails = {}, None, False
-        # (number of the step, words, status and output of the run; None before it)
+        # (status, output and standard error of the last run; None before the first)
         self.ran = None
+        # what standard error had of all runs that were judged
+        self.said = b""
 
     def at(self, *parts):
         return os.path.join(os.fsencode(self.folder), *parts)
@@ -86,7 +92,7 @@ class Case:
 
     def run(self, words):
         self.runs += 1
-        self.wishes = {"status": None, "text": None, "lines": [], "not": [], "work": None}
+        self.wishes = {"status": None, "text": None, "lines": [], "counts": [], "not": [], "work": None}
         if not self.fails:
             ran = subprocess.run([self.program, *words], cwd=self.folder, stdin=subprocess.DEVNULL, capture_output=True, timeout=60)
             self.ran = ran.returncode, ran.stdout, ran.stderr
@@ -109,7 +115,7 @@ class Case:
         wishes, self.wishes = self.wishes, None
         if wishes is None:
             return
-        if wishes["status"] is None or wishes["text"] is None and not wishes["lines"]:
+        if wishes["status"] is None or wishes["text"] is None and not wishes["lines"] and not wishes["counts"]:
             raise Wrong("the run has no status, or neither a text nor a line")
         if wishes["work"] is not None:
             self.work = wishes["work"]
@@ -126,17 +132,29 @@ class Case:
         for line in wishes["lines"]:
             if line not in lines:
                 raise Wrong(f"the text has no line {line.decode(errors='replace')}; it is\n{shown(text)}{shown(said)}")
+        for count, front in wishes["counts"]:
+            found = sum(it.startswith(front) for it in lines)
+            if found != count:
+                raise Wrong(f"{found} lines begin with {front.decode(errors='replace')}, wanted {count}; the text is\n{shown(text)}{shown(said)}")
         for line in wishes["not"]:
             if line in lines:
                 raise Wrong(f"the text has a line {line.decode(errors='replace')}; it is\n{shown(text)}")
+        self.explained(status, text, said)
         held = self.held()
         if held != self.work:
             raise Wrong(f"below build/work stands\n{listed(held)}wanted\n{listed(self.work)}")
 
+    def explained(self, status, text, said):
+        """Holds what standard error says of a run to the status and the text."""
+        self.said += said
+        wanted = [it.encode(errors="surrogateescape") for it in sentences(text.decode(errors="surrogateescape"))]
+        if status in (3, 10) and said not in wanted or status == 0 and said:
+            raise Wrong(f"standard error says\n{shown(said)}wanted\n{''.join(shown(it) for it in wanted)}")
+
     def obey(self, word, rest, content):
         """One directive."""
         wishes = self.wishes
-        if word in ("status", "text", "line", "no", "work", "worklink"):
+        if word in ("status", "text", "line", "count", "no", "work", "worklink"):
             if wishes is None:
                 raise Wrong(f"{word} before any run")
         elif wishes is not None:
@@ -158,7 +176,7 @@ class Case:
                 self.work[path[5:]] = content, is_exec
         elif word in ("script", "puts", "links", "exit", "benches"):
             pass
-        elif word in ("fail", "crash"):
+        elif word in ("fail", "gate", "crash"):
             self.fails = True
         elif word == "run":
             self.run([unescaped(it) for it in rest.split(b" ")] if rest else [])
@@ -168,6 +186,9 @@ class Case:
             wishes["text"] = content
         elif word == "line":
             wishes["lines"].append(path)
+        elif word == "count":
+            number, _, front = rest.partition(b" ")
+            wishes["counts"].append((int(number), unescaped(front)))
         elif word == "no" and rest.startswith(b"line "):
             wishes["not"].append(unescaped(rest[5:]))
         elif word == "work":
@@ -192,8 +213,9 @@ def listed(held):
     return "".join(f"{path.decode(errors='replace')}: {what}\n" for path, what in sorted(held.items())) or "nothing\n"
 
 
-def run_case(file, program):
-    """Runs a case, and gives whether all of it was run; what is wrong is raised with its place."""
+def run_case(file, program, wanted):
+    """Runs a case, and gives whether all of it was run; what is wrong is raised with its place. Standard error has to have the wanted
+    lines."""
     with open(file, "rb") as it:
         found = directives(it.read())
     if any(word == "memory" for _, word, _, _ in found):
@@ -207,6 +229,9 @@ def run_case(file, program):
         case.judge()
         if not case.runs:
             raise Wrong("nothing is run")
+        for line in wanted:
+            if line.encode() not in case.said.split(b"\n"):
+                raise Wrong(f"standard error never says\n{line}\nbut\n{shown(case.said)}")
         return True
     except StopIteration:
         return False
@@ -228,6 +253,16 @@ def files_of(data, names):
     return {it: found[it] for it in sorted(found) if not names or any(it == name or it.startswith(f"{name}/") for name in names)}
 
 
+def wanted_lines(found):
+    """The lines that tests/sentences.tsv wants on standard error, by the name of the case."""
+    wanted = {}
+    with open(f"{TOP}/tests/sentences.tsv", encoding="utf-8") as lines:
+        for line in lines.read().splitlines():
+            _, name, sentence = line.split("\t")
+            wanted.setdefault(name, []).append(sentence)
+    return {name: wanted.get(name, []) for name in found}
+
+
 def main():
     given = argparse.ArgumentParser()
     given.add_argument("--program", default=os.environ.get("BITBAKE", f"{TOP}/crates/bitbake_cli/out/bitbake_cli"))
@@ -235,10 +270,14 @@ def main():
     given.add_argument("names", nargs="*")
     given = given.parse_args()
     passed = skipped = failed = 0
-    for name, file in files_of(given.data, given.names).items():
+    found = files_of(given.data, given.names)
+    wanted = wanted_lines(found)
+    for name, file in found.items():
         try:
-            if run_case(file, os.path.realpath(given.program)):
+            if run_case(file, os.path.realpath(given.program), wanted[name]):
                 passed += 1
+            elif wanted[name]:
+                raise Wrong("a case of tests/sentences.tsv is passed over")
             else:
                 skipped += 1
         except Wrong as wrong:

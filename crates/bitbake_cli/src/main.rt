@@ -2,14 +2,18 @@
 //!
 //! What is decided is decided in `bitbake_top`, and what it promises is the promise of this program; the devices stand in
 //! `outside_os`. Here the words are taken from the system and the devices made, and standard error tells of what failed: the end of
-//! the log of each task, and what a device says of its first fault. `tests/program.sh` tests it by runs.
+//! the log of each task, what is wrong with the metadata and what to do, and what a device says of its first fault.
+//! `tests/program.sh` tests it by runs.
 #![tactic(auto)]
 
 mod failures;
+mod faults;
 mod logs;
+mod sentences;
 
 use bitbake_top::bitbake;
 use failures::tell_failures;
+use faults::tell_fault;
 use outside_os::{FolderDisk, FolderLayers, ShBench, StdSink, is_memory};
 use std::process::ExitCode;
 use std::sync::Wait;
@@ -54,6 +58,7 @@ fn run<R: Threads + Wait + Sync>(rt: &HostRuntime, threads: &R) -> io::Result<u8
     if tell_failures(rt, &finish.plans, &finish.tales, &finish.benches).is_err() {
         tell(rt, "log", Some("out of memory"));
     }
+    tell_fault(rt, &finish.status);
     tell(rt, "layers", finish.layers.first_fault());
     tell(rt, "disk", finish.disk.first_fault());
     for bench in &finish.benches {

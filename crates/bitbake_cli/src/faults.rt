@@ -1,0 +1,182 @@
+// What is wrong where a run ends with a fault of the metadata, a limit, or a task that gave something else than before, as standard
+// error tells it.
+use crate::sentences::{SENTENCES, Sentence};
+use meta_model::Status;
+use std::alloc::{AllocError, Global};
+use tree_model::{ManifestLine, Text};
+
+/// A fault without its sentence: the file or an empty text, the number of the line or 0, the kind, and its texts.
+#[derive(Clone, Copy)]
+struct Fault<'a> {
+    file: &'a str,
+    line: u32,
+    kind: &'a str,
+    texts: &'a [Text],
+}
+
+/// Says what is wrong and what to do, in one sentence, where the status is one that `docs/faults.tsv` has a row for. Where there
+/// is no memory for it, or it can't be written, the status says it alone.
+pub fn tell_fault(rt: &HostRuntime, status: &Status) {
+    let sentence = match status {
+        Status::Metadata {
+            file,
+            line,
+            kind,
+            detail,
+        } => told(
+            rt.alloc(),
+            &Fault {
+                file: file.as_str(),
+                line: *line,
+                kind: kind.as_str(),
+                texts: detail.as_slice(),
+            },
+        ),
+        Status::Limit { kind } => told_of(rt.alloc(), kind.as_str(), &[]),
+        Status::Unsteady {
+            pn,
+            task,
+            held,
+            given,
+        } => told_unsteady(
+            rt.alloc(),
+            pn.as_str(),
+            task.as_str(),
+            first_other(held.lines(), given.lines()),
+        ),
+        _ => return,
+    };
+    if let Ok(Some(sentence)) = sentence {
+        let _ = eprintln!(rt; "{}", sentence.as_str());
+    }
+}
+
+/// The sentence of a kind without a place.
+fn told_of(alloc: Global, kind: &str, texts: &[Text]) -> Result<Option<String>, AllocError> {
+    told(
+        alloc,
+        &Fault {
+            file: "",
+            line: 0,
+            kind,
+            texts,
+        },
+    )
+}
+
+/// The sentence of a task that gave something else at this path than before.
+fn told_unsteady(
+    alloc: Global,
+    pn: &str,
+    task: &str,
+    path: &str,
+) -> Result<Option<String>, AllocError> {
+    let id = Text::from_string(format!(in alloc; "{pn}:{task}")?);
+    let path = Text::from_string(String::from_str(alloc, path)?);
+    told_of(alloc, "unsteady", &[id, path])
+}
+
+/// The first path at which two manifests differ, or an empty text.
+fn first_other<'a>(held: &'a [ManifestLine], given: &'a [ManifestLine]) -> &'a str {
+    for (before, now) in held.iter().zip(given) {
+        let path = before.path.as_str().min(now.path.as_str());
+        if before.path != now.path || before.kind != now.kind || before.hash != now.hash {
+            // (the lesser of two paths stands in one of them alone)
+            return path;
+        }
+    }
+    let longer = if held.len() > given.len() {
+        held
+    } else {
+        given
+    };
+    match longer.get(held.len().min(given.len())) {
+        Some(line) => line.path.as_str(),
+        None => "",
+    }
+}
+
+/// The sentence of a fault, with its place in front.
+fn told(alloc: Global, fault: &Fault<'_>) -> Result<Option<String>, AllocError> {
+    let Some(sentence) = sentence_of(fault) else {
+        return Ok(None);
+    };
+    let mut made = placed(alloc, fault)?;
+    push_filled(&mut made, sentence.wrong, fault.texts)?;
+    made.push_str("; ")?;
+    push_filled(&mut made, sentence.mend, fault.texts)?;
+    Ok(Some(made))
+}
+
+/// The row of the table for a fault.
+fn sentence_of(fault: &Fault<'_>) -> Option<&'static Sentence> {
+    SENTENCES.iter().find(|row| fits(row, fault))
+}
+
+/// Whether a row of the table is for this fault.
+fn fits(row: &Sentence, fault: &Fault<'_>) -> bool {
+    match row.kind.split_once(", ") {
+        None => row.kind == fault.kind,
+        Some((kind, "no file")) => kind == fault.kind && fault.file.is_empty(),
+        Some((kind, _)) => kind == fault.kind && has_no_text(fault.texts),
+    }
+}
+
+/// Whether the first text is there and empty.
+fn has_no_text(texts: &[Text]) -> bool {
+    match texts.first() {
+        Some(text) => text.as_str().is_empty(),
+        None => false,
+    }
+}
+
+/// The place of a fault as editors read it, or the program's name where no file is at fault.
+fn placed(alloc: Global, fault: &Fault<'_>) -> Result<String, AllocError> {
+    let file = fault.file;
+    match fault.line {
+        _ if file.is_empty() => String::from_str(alloc, "bitbake: "),
+        0 => format!(in alloc; "{file}: "),
+        line => format!(in alloc; "{file}:{line}: "),
+    }
+}
+
+/// Puts a sentence at the end, each mark in it replaced by what it stands for.
+fn push_filled(made: &mut String, sentence: &str, texts: &[Text]) -> Result<(), AllocError> {
+    for part in sentence.split('<') {
+        match part.split_once('>') {
+            Some((mark, rest)) => {
+                push_marked(made, mark, texts)?;
+                made.push_str(rest)?;
+            }
+            None => made.push_str(part)?,
+        }
+    }
+    Ok(())
+}
+
+/// Puts the text of a mark at the end, or with `..` behind its number all texts from there on.
+fn push_marked(made: &mut String, mark: &str, texts: &[Text]) -> Result<(), AllocError> {
+    let texts = if mark.starts_with('2') {
+        texts.get(1..).unwrap_or(&[])
+    } else {
+        texts
+    };
+    if mark.ends_with("..") {
+        return push_all(made, texts);
+    }
+    match texts.first() {
+        Some(text) => made.push_str(text.as_str()),
+        None => Ok(()),
+    }
+}
+
+/// Puts texts at the end, with commas between them.
+fn push_all(made: &mut String, texts: &[Text]) -> Result<(), AllocError> {
+    let mut before = "";
+    for text in texts {
+        made.push_str(before)?;
+        made.push_str(text.as_str())?;
+        before = ", ";
+    }
+    Ok(())
+}
