@@ -1,0 +1,86 @@
+# Completion of bash for bitbake: options, names of recipes, and tasks behind a colon or an option -c. bin/install puts it where
+# bash-completion looks; without that, `. bin/completion.bash`.
+#
+# Names are those of `bitbake -s` in the current folder, kept for ten seconds; tasks are those of the recipe that `-n` plans, and its functions
+# do_.. that `-e` prints. A project that is refused has none. Nothing is built for it.
+
+# What the program prints in the current folder.
+_bitbake_asks() {
+    BITBAKE_NO_BUILD=1 "$program" "$@" 2>/dev/null </dev/null
+}
+
+# Sets `found` to the names of all recipes.
+_bitbake_names() {
+    if [[ ${_bitbake_place-} != "$PWD" || $SECONDS -ge ${_bitbake_until-0} ]]; then
+        _bitbake_kept=$(_bitbake_asks -s | cut -d ' ' -f 1)
+        _bitbake_place=$PWD
+        _bitbake_until=$((SECONDS + 10))
+    fi
+    found=$_bitbake_kept
+}
+
+# Sets `found` to the tasks of the recipe that a name stands for.
+_bitbake_tasks() {
+    local values pn
+    values=$(_bitbake_asks -e "$1") || return
+    pn=${values%%$'\n'*}
+    found=$({
+        sed -n 's/^\(do_[A-Za-z0-9_]*\)="..*"$/\1/p' <<<"$values"
+        _bitbake_asks -n "$1" | awk -v pn="task ${pn#\# }:" 'index($0, pn) == 1 { print substr($2, length(pn) - 4) }'
+    } | sort -u)
+}
+
+# The reply for what bash has at the cursor. Bash cuts words at colons and equals signs, so the word is taken from the line, and what stands
+# in front of its last such sign is left out of the reply.
+_bitbake() {
+    local program=${1/#\~\//$HOME/} line=${COMP_LINE:0:COMP_POINT} found='' word before typed target
+    word=${line##*[[:space:]]}
+    before=${line%"$word"}
+    before=${before%"${before##*[![:space:]]}"}
+    before=${before##*[[:space:]]}
+    typed=$word
+    target=$(_bitbake_target "$line")
+    case $before,$word in
+        -c,* | --cmd,*) [[ -z $target ]] || _bitbake_tasks "$target" ;;
+        *,--cmd=*)
+            typed=${word#--cmd=}
+            [[ -z $target ]] || _bitbake_tasks "$target"
+            ;;
+        *,-*)
+            found='-c -f -k -n -e -s -p --cmd --force --continue --dry-run --environment --show-versions --parse-only --no-setscene --sample'
+            ;;
+        *,*:*)
+            typed=${word#*:}
+            _bitbake_tasks "${word%%:*}"
+            ;;
+        *) _bitbake_names ;;
+    esac
+    mapfile -t COMPREPLY < <(compgen -W "$found" -- "$typed")
+    if [[ ${#COMPREPLY[@]} -eq 0 && $typed != "$word" ]]; then
+        # (a task's name without do_)
+        mapfile -t COMPREPLY < <(compgen -W "${found//do_/}" -- "$typed")
+    fi
+    before=${word%"$typed"}
+    if [[ -n $before && $COMP_WORDBREAKS != *"${before: -1}"* ]]; then
+        # (this shell doesn't cut words there)
+        COMPREPLY=("${COMPREPLY[@]/#/$before}")
+    fi
+}
+
+# The first target in a line, without its task.
+_bitbake_target() {
+    local words word skip=yes
+    read -ra words <<<"$1"
+    for word in "${words[@]}"; do
+        if [[ $skip == yes ]]; then
+            skip=no
+        elif [[ $word == -c || $word == --cmd || $word == --sample ]]; then
+            skip=yes
+        elif [[ $word != -* ]]; then
+            printf '%s\n' "${word%%:*}"
+            return
+        fi
+    done
+}
+
+complete -F _bitbake bitbake

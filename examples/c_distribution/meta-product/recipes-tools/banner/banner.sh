@@ -1,0 +1,3 @@
+#!/bin/sh
+# Prints a title.
+printf '== %s ==\n' "$1"

@@ -1,0 +1,2 @@
+DEPENDS = "text"
+SOURCES = "${THISDIR}/shout.c ${THISDIR}/Makefile"

@@ -1,0 +1,2 @@
+DEPENDS = "text"
+SOURCES = "${THISDIR}/wordcount.c ${THISDIR}/Makefile"
