@@ -57,11 +57,15 @@ holds() {
 
 # Runs a command, with its status in `status`, its text in the file `text`, and what it writes to standard error in the
 # file `said`. The program writes the devices' sentences there, and a line for each failed task with the end of its log
-# behind it, each line of that after a bar; anything else is text too.
+# behind it, each line of that after a bar, or one for a task that gave something else than before; anything else is text too. Of a
+# fault of the metadata or a limit its sentence stands there alone, which counts as a case.
 runs() {
     "$@" >"$room/text" 2>"$room/said" </dev/null
     status=$?
-    grep -a -v -e '^bitbake: [a-z]*: ' -e '^bitbake: [^ :]*:do_[^ :]* failed' -e '^| ' "$room/said" >>"$room/text"
+    case $status in
+        3 | 10) holds "the sentence of $(cat "$room/text")" python3 "$top/tests/sentences.py" "$room/text" "$room/said" ;;
+        *) grep -a -v -e '^bitbake: [a-z]*: ' -e '^bitbake: [^ :]*:do_[^ :]* \(failed\|gave \)' -e '^| ' "$room/said" >>"$room/text" ;;
+    esac
 }
 
 # From here on the project here builds by one worker, so that its tasks run in one order.
@@ -138,10 +142,12 @@ for words in '' '--' '--nope' '--nope hello' '-x' '-h hello' '--help' '--version
 done
 runs "$bitbake" "$(printf 'x\377')"
 wants "a word that isn't UTF-8" 2 "$usage"
-for words in '--sample 5' '--sample=1000 -p'; do
+for words in '--sample 5' '--sample=5 -p'; do
     runs "$bitbake" $words
-    wants "words that aren't built: '$words'" 3 "fault 3 NotBuilt"
+    wants "the sample: '$words'" 0 "sample 5: 5 recipes, 10 tasks; first run 10 started; second run 5 found, 0 started"
 done
+runs "$bitbake" --sample 1000
+wants "the largest sample" 0 "sample 1000: 1000 recipes, 2000 tasks; first run 2000 started; second run 1000 found, 0 started"
 for words in '-fp' '-k -e hello' '--no-setscene -s'; do
     runs "$bitbake" $words
     wants "a mode beside options of a run: '$words'" 6 "fault 6 read"
@@ -254,6 +260,20 @@ wants "the most recipes" 0 "parsed 2000 recipes"
 : >recipes/one-more.bb
 runs "$bitbake" -p
 wants "a recipe beyond the limit" 10 "fault 10 Recipes"
+
+# 65,536 tasks are planned, and one more is refused: 32 of each recipe, and 1,536 or 1,537 of the last.
+rm recipes/one-more.bb
+mkdir classes
+tasks() {
+    seq -s ' ' -f 't%.0f' "$1"
+}
+printf 'addtask build %s\ndo_build[recrdeptask] = "do_build %s"\n' "$(tasks 31)" "$(tasks 31 | sed 's/t/do_t/g')" >classes/base.bbclass
+printf 'DEPENDS = "%s"\naddtask %s before do_build\n' "$(seq -s ' ' -f 'r%.0f' 2 2000)" "$(tasks 1567 | cut -d ' ' -f 32-)" >recipes/r1.bb
+runs "$bitbake" -n r1
+holds "the most tasks" test "$status $(head -n 1 "$room/text")" = '0 plan 65536 tasks, 4 threads'
+printf 'addtask one_more before do_build\n' >>recipes/r1.bb
+runs "$bitbake" -n r1
+wants "a task beyond the limit" 10 "fault 10 Tasks"
 
 # Versions are compared piece by piece, and a preference counts.
 project versions
@@ -755,11 +775,11 @@ fi
 cp -R "$top/examples/library_and_application" "$room/killed" && rm -rf "$room/killed/build" || exit 1
 cd "$room/killed" || exit 1
 
-# A run behind a killed one. Where that is still on its way out, which the lock tells, it is tried again.
+# A run behind a killed one. Where that one or its script is still on its way out, which the locks tell, it is tried again.
 behind() {
     for _ in 1 2 3 4 5 6 7 8 9 10; do
         "$program" app >"$room/text" 2>"$room/said" </dev/null && return 0
-        grep -q 'another run is at work' "$room/said" || return 1
+        grep -q -e 'another run is at work' -e 'is still at work' "$room/said" || return 1
         sleep 0.1
     done
     return 1
@@ -857,6 +877,7 @@ for change in byte unihash end manifest; do
         wants "a record with another $change" 9 "$plan
 broke hello:do_build fault
 fault 9 unsteady hello:do_build"
+        holds "it says where" grep -q '^bitbake: hello:do_build gave another hello.txt than ' "$room/said"
         rm "$record" || exit 1
         runs "$bitbake" hello
     fi
@@ -912,6 +933,149 @@ rm -r build || exit 1
 runs "$bitbake" hello
 wants "without the store" 0 "$done_text"
 
+# A distribution in C, built by one thread and by eight; what an edit starts.
+built_distribution='== report ==
+3 words
+A WELL-KNOWN TEXT!'
+# Counts a case: a run of the image is Ok, starts just these tasks, and its programs print this.
+starts() {
+    runs "$bitbake" image
+    sed -n 's/^started //p' "$room/text" | LC_ALL=C sort >"$room/told"
+    printf '%s\n' $3 | sed '/^$/d' | LC_ALL=C sort >"$room/wanted"
+    if ! cmp -s "$room/wanted" "$room/told"; then
+        cat "$room/text"
+    fi
+    holds "$1" test "$status" -eq 0 -a "$(cat "$room/told")" = "$(cat "$room/wanted")"
+    holds "$1, what it prints" test "$(cat build/work/image/do_build/report.txt)" = "$2"
+}
+tasks_of() {
+    recipe=$1
+    shift
+    printf " $recipe:do_%s" "$@"
+}
+if command -v cc >/dev/null 2>&1 && command -v ar >/dev/null 2>&1 && command -v make >/dev/null 2>&1 && command -v tar >/dev/null 2>&1; then
+    all=$(for recipe in banner image shout text wordcount; do tasks_of "$recipe" unpack configure compile install sysroot; done)
+    for threads in 1 8; do
+        cp -R "$top/examples/c_distribution" "$room/distribution-$threads" && cd "$room/distribution-$threads" && rm -rf build || exit 1
+        printf 'BB_NUMBER_THREADS = "%s"\n' "$threads" >>conf/bblayers.conf
+        starts "a distribution by $threads threads" "$built_distribution" "$all image:do_build"
+        holds "its plan, $threads threads" test "$(head -n 1 "$room/text")" = "plan 26 tasks, $threads threads"
+    done
+    holds "one thread and eight leave the same files" diff -r "$room/distribution-1/build/work" build/work
+    starts "a distribution without an edit" "$built_distribution" ''
+    sed -i 's/^# .*/# other words/' meta-base/classes/base.bbclass meta-base/recipes-libs/text/text_1.0.bb
+    starts "comments of metadata" "$built_distribution" ''
+    sed -i 's|^/\* .* \*/$|/* other words */|' meta-product/recipes-tools/shout/shout.c
+    starts "a comment of a source" "$built_distribution" "$(tasks_of shout unpack configure compile install sysroot)"
+    sed -i 's/HYPHENS=1/HYPHENS=2/' meta-product/recipes-libs/text/text_%.bbappend
+    starts "a flag that changes no program" "$built_distribution" "$(tasks_of text configure compile install sysroot)"
+    sed -i 's/HYPHENS=2/HYPHENS=0/' meta-product/recipes-libs/text/text_%.bbappend
+    above=$(for recipe in shout wordcount image; do tasks_of "$recipe" configure compile install sysroot; done)
+    starts "a flag that changes a library" '== report ==
+4 words
+A WELL-KNOWN TEXT!' "$(tasks_of text configure compile install sysroot) $above image:do_build"
+    sed -i 's/HYPHENS=0/HYPHENS=2/' meta-product/recipes-libs/text/text_%.bbappend
+    starts "the flag as it was" "$built_distribution" image:do_build
+    holds "the rest is restored" grep -qx 'restored image:do_sysroot' "$room/text"
+    (cd meta-base/recipes-libs/text && tar -xf text-1.0.tar && sed -i 's/toupper/tolower/' text-1.0/text.c && tar -cf text-1.0.tar text-1.0 && rm -r text-1.0) || exit 1
+    starts "a source in an archive" '== report ==
+3 words
+a well-known text!' "$(tasks_of text unpack configure compile install sysroot) $above image:do_build"
+else
+    echo "skipped the distribution in C: there is no cc, ar, make or tar"
+fi
+
+# An installation: what is put, and that just this is taken away.
+prefix="$room/it's installed"
+mkdir -p "$prefix/share/man" || exit 1
+find "$prefix" >"$room/before"
+runs "$top/bin/install" "$prefix"
+holds "an installation" test "$status" -eq 0
+holds "its files" test "$(cd "$prefix" && find . -type f | LC_ALL=C sort | tr '\n' ' ')" = './bin/bitbake ./lib/bitbake/bitbake ./lib/bitbake/installed ./share/bash-completion/completions/bitbake ./share/man/man1/bitbake.1 '
+cd "$room/example" || exit 1
+runs "$prefix/bin/bitbake" hello
+wants "the example by the installed program" 0 "$found_text"
+runs "$prefix/bin/bitbake" 'two words' -x
+wants "faulty words by the installed program" 2 "$usage"
+if command -v man >/dev/null 2>&1; then
+    MANPATH="$prefix/share/man" man -w bitbake >"$room/text" 2>/dev/null
+    holds "man finds its page" grep -qxF "$prefix/share/man/man1/bitbake.1" "$room/text"
+else
+    echo "skipped the manual page that is installed: there is no man"
+fi
+find "$prefix" | LC_ALL=C sort >"$room/text"
+holds "an installation over it" "$top/bin/install" "$prefix"
+holds "it leaves nothing else" test "$(find "$prefix" | LC_ALL=C sort)" = "$(cat "$room/text")"
+holds "it is taken away" "$top/bin/install" --remove "$prefix"
+holds "nothing else goes, and nothing stays" test "$(find "$prefix")" = "$(cat "$room/before")"
+runs "$top/bin/install" --remove "$prefix"
+holds "there is nothing more to take away" test "$status" -eq 1
+rm -rf "$room/clone/crates/bitbake_cli/out" && cp "$top/bin/install" "$room/clone/bin/" || exit 1
+runs "$room/clone/bin/install" "$prefix"
+holds "without a program nothing is installed" test "$status" -eq 1 -a "$(find "$prefix")" = "$(cat "$room/before")"
+mkdir "$prefix/bin" && echo mine >"$prefix/bin/bitbake" || exit 1
+runs "$top/bin/install" "$prefix"
+holds "a program of that name is left alone" test "$status" -eq 1 -a "$(cat "$prefix/bin/bitbake")" = mine -a ! -e "$prefix/lib"
+
+# The completion of bash, by its function, and where there is tmux by what a terminal shows.
+cd "$room/library" || exit 1
+if command -v bash >/dev/null 2>&1; then
+    cat >"$room/completed" <<'END'
+. "$1/bin/completion.bash"
+shift
+program=$1
+shift
+for line in "$@"; do
+    COMP_LINE=$line COMP_POINT=${#line} COMPREPLY=()
+    _bitbake "$program"
+    printf '%s:%s\n' "$line" "${COMPREPLY[*]/#/ }"
+done
+END
+    bash --norc --noprofile "$room/completed" "$top" "$bitbake" 'bitbake ' 'bitbake -k gr' 'bitbake --no' 'bitbake greet:' 'bitbake app greet:do_c' \
+        'bitbake greet:comp' 'bitbake app -c do_b' 'bitbake -c do_b' 'bitbake nosuch:' >"$room/text" 2>&1
+    status=$?
+    wants "what bash completes" 0 'bitbake : app  greet
+bitbake -k gr: greet
+bitbake --no: --no-setscene
+bitbake greet:: do_build  do_compile  do_configure  do_install  do_populate_sysroot
+bitbake app greet:do_c: do_compile  do_configure
+bitbake greet:comp: compile
+bitbake app -c do_b: do_build
+bitbake -c do_b:
+bitbake nosuch::'
+    holds "nothing is built for it" test ! -e build
+    (cd "$room/clone" && PATH=$room/tools:$PATH BITBAKE_NO_BUILD=1 bin/bitbake -s) >"$room/text" 2>&1
+    holds "the launcher builds nothing for it" test $? -eq 126 -a ! -e "$room/clone/crates/bitbake_cli/out"
+else
+    echo "skipped the completion of bash: there is no bash"
+fi
+terminal() {
+    TMUX_TMPDIR=$room tmux -L bitbake-test -f /dev/null "$@"
+}
+shows() {
+    for _ in 1 2 3 4 5 6 7 8 9 10 11 12 13 14 15 16 17 18 19 20 21 22 23 24 25; do
+        terminal capture-pane -p | sed 's/ *$//' | grep -qFx "$1" && return 0
+        sleep 0.2
+    done
+    terminal capture-pane -p
+    return 1
+}
+if command -v bash >/dev/null 2>&1 && command -v tmux >/dev/null 2>&1; then
+    mkdir -p "$room/path" && ln -sf "$bitbake" "$room/path/bitbake" || exit 1
+    terminal new-session -d -x 150 -y 40 env PATH="$room/path:$PATH" PS1='here: ' INPUTRC=/dev/null bash --norc --noprofile -i || exit 1
+    shows 'here:' && terminal send-keys ". '$top/bin/completion.bash'" Enter C-l 'bitbake ap' Tab
+    holds "a terminal completes a recipe" shows 'here: bitbake app'
+    terminal send-keys C-u 'bitbake greet:pop' Tab
+    holds "a terminal completes a task" shows 'here: bitbake greet:populate_sysroot'
+    terminal send-keys C-u 'bitbake greet:do_i' Tab
+    holds "a terminal completes a task by its whole name" shows 'here: bitbake greet:do_install'
+    terminal send-keys C-u 'bitbake --show' Tab
+    holds "a terminal completes an option" shows 'here: bitbake --show-versions'
+    terminal kill-server
+else
+    echo "skipped the completion in a terminal: there is no bash or no tmux"
+fi
+
 # The case files, by this program over real folders.
 python3 "$top/tests/cases.py" --program "$program" >"$room/cases"
 sed '$d' "$room/cases"
@@ -919,6 +1083,15 @@ more=$(sed -n '$s/^\([0-9]*\) passed, \([0-9]*\) failed$/\1 \2/p' "$room/cases")
 holds "the cases are run" test -n "$more"
 passed=$((passed + ${more% *}))
 failed=$((failed + ${more#* }))
+
+# What the README shows, and the chapter of docs/METADATA.md whose cases are among those above.
+python3 "$top/tests/readme.py" --program "$program" >"$room/readme"
+sed '$d' "$room/readme"
+more=$(sed -n '$s/^\([0-9]*\) passed, \([0-9]*\) failed$/\1 \2/p' "$room/readme")
+holds "the README is typed" test -n "$more"
+passed=$((passed + ${more% *}))
+failed=$((failed + ${more#* }))
+holds "the cases of the chapter are what it shows" python3 "$top/tests/chapter.py" --check
 
 # Several workers over real folders: random projects, examples, and what waiting costs.
 python3 "$top/tests/workers.py" --program "$program" >"$room/workers"
@@ -941,12 +1114,16 @@ for runner in "$top/crates/cases/out/cases" "python3 $top/tests/cases.py --progr
     holds "no other name, by ${runner##*/}" test "$(grep -c '^topic/' "$room/text")" -eq 1
 done
 
-# The table of faults is the one in the documents, and has each kind that a case shows.
+# The table of faults is the one in the documents and in the program, and has each kind that a case shows. A case shows each of its
+# sentences, but those of two limits, which are shown above.
 holds "the tables of faults" python3 "$top/bench/fault_tables.py" --check
 grep -rhoE '^\|fault (3|10) ([^ ]*:[0-9]+: |[^ ]+: )?[A-Z][A-Za-z0-9]*' "$top/crates/cases/data" | sed 's/.* //' | sort -u >"$room/kinds-shown"
-cut -f1 "$top/docs/faults.tsv" | sort -u >"$room/kinds-told"
+cut -f1 "$top/docs/faults.tsv" | sed 's/, .*//' | sort -u >"$room/kinds-told"
 holds "each kind of fault in the table" test -z "$(comm -23 "$room/kinds-shown" "$room/kinds-told")"
 holds "kinds of faults in cases" test "$(comm -12 "$room/kinds-shown" "$room/kinds-told" | wc -l)" -ge 27
+cut -f1 "$top/docs/faults.tsv" | LC_ALL=C sort >"$room/told"
+cut -f1 "$top/tests/sentences.tsv" | LC_ALL=C sort >"$room/shown"
+holds "a case for each sentence" test "$(LC_ALL=C comm -3 "$room/told" "$room/shown" | tr '\n' ' ')" = 'Recipes Tasks '
 
 echo "$passed passed, $failed failed"
 test "$failed" -eq 0

@@ -1,5 +1,5 @@
-use Rattle.std.proofs.Common.{arith, ◌≡◌, ◌∙◌, ap, ◌++◌, ◌∷◌, ◌+◌, [], ℕ, suc, List}
-use Rattle.sample_project.specs.Sample.{recipe_file, sample_files}
+use Rattle.std.proofs.Common.{arith, ◌≡◌, ◌∙◌, ap, ◌++◌, ◌∷◌, ◌+◌, [], suc}
+use Rattle.sample_project.specs.Sample.{sample_files}
 use Rattle.sample_project.proofs.recipes.files_of.Goals as goal
 
 pub loop-number-preserved : goal.loop-number-preserved

@@ -1,4 +1,4 @@
-use Rattle.std.proofs.Common.{append_assoc, ◌≡◌, ◌∙◌, ap, codes, ◌++◌, ℕ, List}
+use Rattle.std.proofs.Common.{append_assoc, ◌∙◌, ap, codes, ◌++◌, ℕ, List}
 use Rattle.std.specs.Fmt.{decimal}
 use Rattle.sample_project.specs.Sample.{rest_text}
 use Rattle.sample_project.proofs.recipes.push_tasks.Goals as goal
