@@ -49,8 +49,8 @@ pub record Keeps (gives : Gives) (reading : Reading) (book : Book) (held : Store
   pub legal : All (λ tale. (tale ≡ []) ⊎ HasRun gives reading book held plan options tale story) tales
   -- each task that failed fails by itself in the clean build
   pub real : All (λ tale. (t : ℕ) → Contains (failed_in tale) t → FailsClean gives plan t) tales
-  -- each crash since the call began leaves all alone but what is the own of tasks that the tale starts or restores; under the status of a
-  -- fault it may have touched one task more, at which it was halted
+  -- each crash since the call began leaves alone what isn't the own of tasks that the tale starts or restores, but for `tmp/` and, where one
+  -- is started, for folders of `obj/` that are no line's object; under the status of a fault one task more may have been touched
   pub others : All (λ tale. LeavesOthers gives book held plan options tale s story) tales
   -- no output is found to differ from one run to another
   pub steady : is_unsteady s ≡ false

@@ -163,7 +163,8 @@ where
         → (plan : Plan) → IsDryPlan (L.files layers) paths request plan
         → result.status ≡ Status.WriteFault → WritesFront (W.written sink) (W.written result.sink) (dry_text plan) }
 
-    // The sample. One line was written that tells of the tales of its two runs; the devices in memory that it runs over are its own.
+    // The sample. One line was written, with the counts of the two tales that are handed back; of what was handed in, the sink alone was
+    // touched. That the tales are of runs over the sample is no clause.
     ensures sample { (size : ℕ) → AskSample words.now size → W.tells
         → SaysSample size result.plans.items result.tales.items result.status (W.written sink) (W.written result.sink) (W.faults sink) (W.faults result.sink) }
     ensures sample_alone { (size : ℕ) → AskSample words.now size → (result.disk ≡ disk) × (result.benches.items ≡ benches.items) × (result.layers ≡ layers) }

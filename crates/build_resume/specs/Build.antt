@@ -174,8 +174,8 @@ pub record Leaves (gives : Gives) (reading : Reading) (book : Book) (held : Stor
   pub exact : s ≡ status.Ok → EachNow story (HasTargets gives plan)
   -- whatever the status is, each crash since the run began leaves a valid store
   pub crashes : (image : Store) → IsImageSince story 0 image → IsCrash gives reading book image
-  -- each crash since the run began leaves all alone but what is the own of tasks that the tale starts or restores; under the status of a
-  -- fault it may have touched one task more, at which it was halted
+  -- each crash since the run began leaves alone what isn't the own of tasks that the tale starts or restores, but for `tmp/` and, where one is
+  -- started, for folders of `obj/` that are no line's object; under the status of a fault one task more may have been touched
   pub others : LeavesOthers gives book held plan options tale s story
   -- whatever failed, Ok comes only where every task of the plan has a clean output, and TaskFailed only where one hasn't
   pub complete : AreWanted plan → (s ≡ status.Ok → AllClean gives plan) × (AllClean gives plan → s ≢ status.TaskFailed)

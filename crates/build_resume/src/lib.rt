@@ -9,8 +9,8 @@
 //! (`IsEntry` in `specs/Build`): an empty disk, or what a crash of any earlier run left (`entry_laws`). It is one record, `Leaves`:
 //!
 //! - under Ok each target's work folder holds exactly its clean output, in every image (`exact`);
-//! - whatever the status, every image since the run began holds a valid store, in which the next run may begin (`crashes`), and has those
-//!   tasks as they were that the run neither started nor could restore (`others`);
+//! - whatever the status, every image since the run began holds a valid store, in which the next run may begin (`crashes`), and has what
+//!   isn't the own of tasks that the run started or restored as it was (`others`, which says of which paths);
 //! - where every task of the plan is a target or needed by another task, Ok comes only where every task has a clean output (`complete`), and
 //!   just there where no device failed, memory wasn't wanting and no two signatures have one digest (the clause `exactly`);
 //! - `TaskFailed` comes only where a told task fails by itself in the clean build (`real`), and `Unsteady` never (`steady`);
