@@ -6,6 +6,8 @@ ghost use Rattle.std.specs.Str.{IsUtf8, IsCharBoundary};
 ghost use Rattle.meta_model.specs.Text.{is_blank, is_white, is_quote, equals, skip_blanks, without_end, split_at_first, holds, is_empty};
 ghost use Rattle.meta_model.specs.Lines.{without_opening, opens_body};
 
+use byte_scan::first_of;
+
 /// Whether a character is a space or a tab.
 pub fn is_a_blank(c: u8) -> bool
     ensures { result ≡ is_blank c }
@@ -98,7 +100,7 @@ pub fn before_opening(line: &str) -> Option<&str>
 fn holds_sign(line: &[u8]) -> bool
     ensures { result ≡ list_any (λ c. c == equals || is_quote c) line.now }
 {
-    line.iter().any(|c| *c == b'=' || *c == b'"' || *c == b'\'')
+    first_of(line, b"=\"'").is_some()
 }
 
 /// Whether the line opens the body of a function.
@@ -113,7 +115,7 @@ pub fn place_of(bytes: &[u8], byte: u8) -> Option<usize>
     ensures first { result ≡ position (λ b. b == byte) bytes.now }
     ensures stands { IfSome result (λ i. (i < length bytes.now) × (slice_index bytes.now i ≡ byte)) }
 {
-    bytes.iter().position(|b| *b == byte)
+    first_of(bytes, &[byte])
 }
 
 /// What stands behind the first byte like this.

@@ -1,5 +1,6 @@
-//! Tests of calls that no case shows: calls that the program doesn't make yet (`print`, `references`, lists), and graphs of tasks, which
-//! it doesn't print yet. Each call answers at a concrete type and with ample memory; the expected values come from the rules, by hand.
+//! Tests of calls that no case shows: calls that the program doesn't make yet (`print`, `references`, lists), scans over bytes, and graphs
+//! of tasks, which it doesn't print yet. Each call answers at a concrete type and with ample memory; the expected values come from the
+//! rules, by hand.
 #![tactic(auto)]
 
 #[cfg(test)]
@@ -16,5 +17,7 @@ mod pairs;
 mod printing;
 #[cfg(test)]
 mod references;
+#[cfg(test)]
+mod scans;
 #[cfg(test)]
 mod shown;

@@ -1,14 +1,22 @@
--- A set of one byte holds exactly that byte.
-use Rattle.std.proofs.Common.{◌≡◌, ℕ, ◌==◌, ◌∙◌, position, List, [], ◌∷◌, length, get_or, arith}
+use Rattle.std.proofs.Common.{arith, sym, ◌==◌}
 use Rattle.std.specs.List.{list_any}
-use Rattle.std.proofs.Math.Bool.{or-false}
+use Rattle.byte_scan.proofs.Firsts.{in_block, past_block, in_rest, none_in_rest}
 use Rattle.byte_scan.proofs.first_of.Goals as goal
 
--- the place of a set's only byte is the place of the set
-only_byte : (hay set : List ℕ) → length set ≡ 1 → position (λ b. get_or set 0 0 == b) hay ≡ position (λ b. list_any (λ c. c == b) set) hay
-only_byte hay [] one = absurd (omega arith)
-only_byte hay (byte ∷ []) one = simp or-false
-only_byte hay (byte ∷ (next ∷ rest)) one = absurd (omega arith)
+pub returns-then-free-lt-LANES : goal.returns-then-free-lt-LANES
+returns-then-free-lt-LANES c =
+    in_block (λ b. list_any (λ d. d == b) c.args.set.now) c.args.hay.now c.loop-at.at c.before_any-free.result (omega (arith, c.loop-at.invariant.within, c.loop-at-test.true)) c.loop-at.invariant.none c.before_any-free.ensures c.if-free-lt-LANES.true
 
-pub returns-in-len1 : goal.returns-in-len1
-returns-in-len1 c = c.first_place.ensures ∙ only_byte c.args.hay.now c.args.set.now (omega arith)
+pub loop-at-preserved : goal.loop-at-preserved
+loop-at-preserved c = record {
+  within = omega (arith, c.loop-at.invariant.within, c.loop-at-test.true);
+  none = past_block (λ b. list_any (λ d. d == b) c.args.set.now) c.args.hay.now c.loop-at.at c.before_any-free.result (omega (arith, c.loop-at.invariant.within, c.loop-at-test.true)) c.loop-at.invariant.none c.before_any-free.ensures c.if-free-lt-LANES.false;
+}
+
+pub returns-in-Some : goal.returns-in-Some
+returns-in-Some c =
+    in_rest (λ b. list_any (λ d. d == b) c.args.set.now) c.args.hay.now c.loop-at.at c.in-Some.place c.loop-at.invariant.within c.loop-at.invariant.none (sym c.in-Some.ensures)
+
+pub returns-in-None : goal.returns-in-None
+returns-in-None c =
+    none_in_rest (λ b. list_any (λ d. d == b) c.args.set.now) c.args.hay.now c.loop-at.at c.loop-at.invariant.within c.loop-at.invariant.none (sym c.in-None.ensures)
