@@ -19,7 +19,7 @@ use Rattle.meta_model.specs.Statements.{AreStatements, statements, statements_of
 use Rattle.bb_parser.specs.Forms.{value_forms_of, directive_forms_of, exported_assignment}
 use Rattle.bb_parser.specs.Written.{is_one_line, is_free_name, is_python_name, are_whole_lines, begins_unblank, can_follow, line_of_text, can_be_written, IsNowhere}
 use Rattle.bb_parser.proofs.Cuts.{starts-is, ends-is}
-use Rattle.bb_parser.proofs.Ends.{without_end-stays}
+use Rattle.bb_lexer.proofs.Ends.{without_end-stays}
 use Rattle.bb_parser.proofs.FormFacts.{fit_of-opens, two_lists}
 use Rattle.bb_parser.proofs.NameSearch.{name_char}
 use Rattle.bb_parser.proofs.WrittenNames

@@ -1,5 +1,5 @@
 pub mod Tests
-pub mod Ends
+pub mod Blanks
 pub mod Fronts
 pub mod NameSearch
 pub mod Bounds

@@ -9,12 +9,12 @@ use Rattle.var_expand.specs.declared.fault.ExpandFault.TheVariants as expand
 use Rattle.var_expand.specs.Faults.{IsFaultOf}
 use Rattle.datastore.specs.declared.fault.DataFault.{DataFault}
 use Rattle.datastore.specs.declared.fault.DataFault.TheVariants as data_fault
-use Rattle.datastore.specs.Faults.{IsDataFault, refusal_of}
+use Rattle.datastore.specs.Faults.{IsDataFault, refusal_of, data_refusal}
 use Rattle.load_model.specs.LoadRefusal.{LoadCause, no_value, LoadRefusal, refused_at, Place as Where, ◌>>=◌, asked_at}
 use Rattle.class_inherit.specs.declared.fault.LoadFault.{LoadFault}
 use Rattle.class_inherit.specs.declared.fault.LoadKind.{LoadKind}
 use Rattle.class_inherit.specs.declared.fault.LoadKind.TheVariants.{MissingRequired, MissingClass, IncludeDepth, Read, Parse, Data, FileBytes, Memory}
-use Rattle.class_inherit.specs.Faults.{cause_of, data_refusal, IsFree, place_of, IsLoadFault, IsSaid, IsOutOfMemory, IsUntold}
+use Rattle.class_inherit.specs.Faults.{cause_of, IsFree, place_of, IsLoadFault, IsSaid, IsOutOfMemory, IsUntold}
 
 -- of the same
 pub fault_same : {A : Type 0} (fault : LoadFault) (m n : Result A LoadRefusal) → m ≡ n → IsLoadFault fault n → IsLoadFault fault m

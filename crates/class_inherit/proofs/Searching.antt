@@ -10,13 +10,13 @@ use Rattle.meta_model.specs.Refusal.{Refusal}
 use Rattle.meta_model.specs.Text.{colon_pieces}
 use Rattle.meta_model.specs.Active.{value}
 use Rattle.datastore.specs.declared.fault.DataFault.{DataFault}
-use Rattle.datastore.specs.Faults.{IsDataFault}
+use Rattle.datastore.specs.Faults.{IsDataFault, data_refusal}
 use Rattle.datastore.proofs.Freezing as storing
 use Rattle.load_model.specs.Paths.{slash, path_named, paths_in, is_absolute}
 use Rattle.load_model.specs.LoadRefusal.{no_value, Place as Where, asked_at, ◌>>=◌}
 use Rattle.load_model.specs.Loading.{Contents, Sources, Found, found_there, first_found, search_folders, searched, class_path, class_searched}
 use Rattle.class_inherit.specs.declared.fault.LoadFault.{LoadFault}
-use Rattle.class_inherit.specs.Faults.{data_refusal, IsSaid, IsLoadFault}
+use Rattle.class_inherit.specs.Faults.{IsSaid, IsLoadFault}
 use Rattle.class_inherit.specs.Reading.{path_folders}
 use Rattle.class_inherit.proofs.Told.{told, pick_first, pick_second}
 use Rattle.class_inherit.proofs.Faulting.{fault_value, fault_same, fault_on}

@@ -1,10 +1,8 @@
 -- What a fault of loading says of what was meant.
 use Rattle.std.specs.Prelude.{◌≡◌, Bool, true, false, [], Option, Some, None, Result, Ok, Err, MatchOption, ⊤}
 use Rattle.std.specs.Option.{option_map}
-use Rattle.meta_model.specs.Refusal.{Refusal, unstable}
 use Rattle.datastore.specs.declared.fault.DataFault.{DataFault}
-use Rattle.datastore.specs.declared.fault.DataFault.TheVariants as data_fault
-use Rattle.datastore.specs.Faults.{refusal_of}
+use Rattle.datastore.specs.Faults.{data_refusal}
 use Rattle.load_model.specs.LoadRefusal.{LoadCause, missing_required, missing_class, include_depth, syntax, no_value, file_bytes, LoadRefusal, refused_at, Place as Where}
 use Rattle.class_inherit.specs.declared.fault.Place.{Place}
 use Rattle.class_inherit.specs.declared.fault.LoadFault.{LoadFault}
@@ -14,12 +12,6 @@ use Rattle.class_inherit.specs.declared.fault.LoadKind.TheVariants.{MissingRequi
 -- a place of the input
 abbrev pub where_is : Place → Where
 where_is place = record { file = place.file.now; line = place.line }
-
--- the refusal that a fault of a store is; none where it is want of memory
-abbrev pub data_refusal : DataFault → Option Refusal
-data_refusal (data_fault.Unstable before last) = Some (unstable before last)
-data_refusal (data_fault.Expand fault) = refusal_of fault
-data_refusal data_fault.Memory = None
 
 -- The cause that a kind of fault is. A failure of the layers and want of memory are none.
 abbrev pub cause_of : LoadKind → Option LoadCause

@@ -18,9 +18,9 @@ use crate::search::search;
 use datastore::DataFault;
 use meta_model::Kind;
 use outside_traits::Layers;
-use path_words::words;
 use std::alloc::Global;
 use tree_model::{Text, Texts};
+use var_expand::words;
 
 /// The most files that are nested, the one that is read first among them (own rule).
 const MOST_NESTED: usize = 32;

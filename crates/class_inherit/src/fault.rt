@@ -2,8 +2,8 @@
 ghost use Rattle.std.specs.Prelude.{◌≡◌, not, is_some, true, false, Some};
 ghost use Rattle.std.specs.Option.{option_map};
 ghost use Rattle.load_model.specs.LoadRefusal.{no_value};
-ghost use Rattle.datastore.specs.Faults.{refusal_of};
-ghost use Rattle.class_inherit.specs.Faults.{cause_of, data_refusal, where_is, is_memory, is_read, IsSaid, IsOutOfMemory, IsUntold};
+ghost use Rattle.datastore.specs.Faults.{refusal_of, data_refusal};
+ghost use Rattle.class_inherit.specs.Faults.{cause_of, where_is, is_memory, is_read, IsSaid, IsOutOfMemory, IsUntold};
 
 use datastore::DataFault;
 use meta_model::SyntaxFault;

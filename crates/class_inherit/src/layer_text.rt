@@ -11,9 +11,9 @@ use crate::entries::{add_assignment, add_flag_assignment, add_statement};
 use crate::reading::Reading;
 use datastore::DataFault;
 use meta_model::Statement;
-use path_words::words;
 use std::alloc::Global;
 use tree_model::{Mem, Text, Texts};
+use var_expand::words;
 
 /// What stands before the first `${LAYERDIR}`, and what behind it, where there is one.
 fn cut_at_layer(text: &str) -> Option<(&str, &str)>

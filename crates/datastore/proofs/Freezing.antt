@@ -30,7 +30,7 @@ use Rattle.datastore.specs.Named.{slot_at, flag_at}
 use Rattle.datastore.specs.Maps.{named_at, Keeps}
 use Rattle.datastore.specs.Picked.{picked}
 use Rattle.datastore.specs.Left.{kept_set}
-use Rattle.datastore.proofs.Ordered.{ordered_in}
+use Rattle.meta_model.proofs.Ordered.{ordered_in}
 use Rattle.datastore.proofs.Naming.{flags_are, no_flags_of}
 
 -- faults

@@ -4,7 +4,7 @@ pub mod Steps
 pub mod Winning
 pub mod Keeping
 pub mod Looking
-pub mod Ordered
+pub mod Picked
 pub mod Naming
 pub mod Sets
 pub mod Tasking

@@ -22,8 +22,10 @@ use Rattle.datastore.specs.Named.{slot_at, lates_at, flag_at}
 use Rattle.datastore.specs.Maps.{named_at, Keeps}
 use Rattle.datastore.specs.Picked.{picked, passes}
 use Rattle.datastore.specs.Left.{kept_set, named_left}
-use Rattle.datastore.specs.Keys.{Ascending, AreKeys}
-use Rattle.datastore.proofs.Ordered.{ordered_in, picked_is, picked_in, picked_ascending, ordered_is, filtered_in, filter_ascending}
+use Rattle.meta_model.specs.Ascending.{Ascending}
+use Rattle.datastore.specs.Keys.{AreKeys}
+use Rattle.meta_model.proofs.Ordered.{ordered_in, ordered_is, filtered_in, filter_ascending}
+use Rattle.datastore.proofs.Picked.{picked_is, picked_in, picked_ascending}
 
 -- a flag that no entry gives is nothing
 

@@ -18,7 +18,8 @@ use Rattle.datastore.specs.declared.freeze.Anew.{Anew}
 use Rattle.datastore.specs.Named.{slot_at, lates_at, flag_at, IsAlike}
 use Rattle.datastore.specs.Forms.{rests}
 use Rattle.datastore.specs.Plain.{is_plain_late, is_plain}
-use Rattle.datastore.specs.Keys.{Ascending, AreKeys}
+use Rattle.meta_model.specs.Ascending.{Ascending}
+use Rattle.datastore.specs.Keys.{AreKeys}
 use Rattle.datastore.specs.Maps.{named_at, noted_at, base_of, under_named, under_entries, under_noted, under_special, is_anew, Keeps, KeepsBase}
 use Rattle.std.specs.Global.{Vec}
 use Rattle.std.proofs.lemmas.List.Sums.{fold_push}
@@ -29,7 +30,7 @@ use Rattle.datastore.specs.Telling.{parted}
 use Rattle.datastore.specs.Store.{all_entries}
 use Rattle.datastore.specs.Parts.{moved_with}
 use Rattle.datastore.specs.Anew.{or_given, moved, IsAnew}
-use Rattle.datastore.proofs.Ordered.{above_not_in, ordered_in, ordered_ascending, filtered_in, filter_ascending, ascending_same}
+use Rattle.meta_model.proofs.Ordered.{above_not_in, ordered_in, ordered_ascending, filtered_in, filter_ascending, ascending_same}
 use Rattle.datastore.proofs.Naming.{left_named, left_kept}
 use Rattle.datastore.proofs.Steps.{none_of}
 use Rattle.datastore.proofs.Freezing.{ok_pair, no_fault, moves_fault, told_all_fault}

@@ -34,6 +34,12 @@ refusal_of (expand.TooLong name) = Some (too_long name)
 refusal_of (expand.Unstable before last) = Some (unstable before last)
 refusal_of expand.Memory = None
 
+-- the refusal that a fault of a store is; none where it is want of memory
+abbrev pub data_refusal : DataFault → Option Refusal
+data_refusal (Unstable before last) = Some (unstable before last)
+data_refusal (Expand fault) = refusal_of fault
+data_refusal Memory = None
+
 -- What is found where a fault keeps all names from being found. Where it is want of memory nothing is claimed.
 abbrev pub refused_with : Option Refusal → Result (Option Resolved) Refusal
 refused_with (Some refusal) = Err refusal

@@ -11,8 +11,8 @@ use Rattle.std.proofs.lemmas.List.{take_more}
 use Rattle.std.proofs.lemmas.List.Elements.{filter_map-append}
 use Rattle.std.proofs.lemmas.Map.Keys.{sorted_head, sorted_tail}
 use Rattle.meta_model.specs.Text.{in_byte_order}
-use Rattle.datastore.specs.Keys.{Above, Ascending}
-use Rattle.datastore.proofs.Ordered.{ascending_same, filter_ascending, ordered_ascending, ordered_in}
+use Rattle.meta_model.specs.Ascending.{Above, Ascending}
+use Rattle.meta_model.proofs.Ordered.{ascending_same, filter_ascending, ordered_ascending, ordered_in}
 use Rattle.load_model.specs.Paths.{path_named, has_ending}
 use Rattle.load_model.specs.Patterns.{matches, names_path}
 use Rattle.load_model.specs.Layers.{named_files}

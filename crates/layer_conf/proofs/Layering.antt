@@ -7,12 +7,12 @@ use Rattle.load_model.specs.Loading.{Sources, Loaded, entries}
 use Rattle.load_model.specs.Layers.{LayerRefusal, load, no_list, layer_file, layer_at, layers_after, sources_in_layer, starting_with, built_in, configured, layered, flat, Configured, patterns, words_of, config, named_files, in_layer_order}
 use Rattle.meta_model.specs.Refusal.{Refusal}
 use Rattle.datastore.specs.declared.fault.DataFault.{DataFault}
-use Rattle.datastore.specs.Faults.{IsDataFault}
+use Rattle.datastore.specs.Faults.{IsDataFault, data_refusal}
 use Rattle.layer_conf.specs.Config.{configured_meant, layered_from, listed_meant, patterns_over, lists_over, with_lists}
 use Rattle.layer_conf.specs.declared.reads.Configured.{Configured as Made}
 use Rattle.class_inherit.specs.declared.fault.LoadFault.{LoadFault}
 use Rattle.class_inherit.specs.Faults.{cause_of, place_of, load_refusal, IsLoadFault}
-use Rattle.recipe_facts.specs.Said.{IsRefused, data_refusal}
+use Rattle.recipe_facts.specs.Said.{IsRefused}
 use Rattle.recipe_facts.proofs.Binding.{refused_on, refused_same, goes_on, next_of, said}
 use Rattle.layer_conf.specs.declared.fault.LayerFault.{LayerFault}
 use Rattle.layer_conf.specs.Faults.{layer_refusal, IsLayerFault}

@@ -5,7 +5,7 @@ use Rattle.std.specs.Cmp.Lexicographic.{nat_list_eq_equiv}
 use Rattle.std.proofs.lemmas.Map.Views.{list_any-from_Contains}
 use Rattle.meta_model.proofs.Bools.{either_way, same_text, from_or}
 use Rattle.meta_model.specs.Text.{is_in}
-use Rattle.datastore.proofs.Ordered.{ascending_same}
+use Rattle.meta_model.proofs.Ordered.{ascending_same}
 use Rattle.outside_traits.specs.Store.{IsListing}
 use Rattle.layer_conf.proofs.Globbing.{sorted_ascends}
 

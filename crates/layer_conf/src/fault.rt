@@ -3,7 +3,7 @@ ghost use Rattle.std.specs.Prelude.{◌≡◌, false, Some, None};
 ghost use Rattle.std.specs.Option.{option_map};
 ghost use Rattle.load_model.specs.Layers as meant;
 ghost use Rattle.class_inherit.specs.Faults.{is_read, load_refusal};
-ghost use Rattle.recipe_facts.specs.Said.{data_refusal};
+ghost use Rattle.datastore.specs.Faults.{data_refusal};
 ghost use Rattle.layer_conf.specs.Faults.{layer_refusal, is_failure, IsOrMemory};
 
 use class_inherit::LoadFault;

@@ -2,7 +2,7 @@
 use Rattle.std.proofs.Common.{◌≡◌, refl, sym, ◌∙◌, ap, ℕ, List, [], ◌∷◌, ◌++◌, append-nil, true, false, ◌||◌, Bool, inl, inr, bytes_eq, if◌then◌else◌}
 use Rattle.meta_model.proofs.Bools.{either_way, or_first}
 use Rattle.meta_model.specs.Text.{is_in, into_order, in_byte_order}
-use Rattle.task_model.proofs.Ordered.{into_in, into_ascending, ordered_in, ordered_ascending, ascending_same}
+use Rattle.meta_model.proofs.Ordered.{into_in, into_ascending, ordered_in, ordered_ascending, ascending_same}
 use Rattle.name_walk.specs.Walk.{HasGoneOn, done_after, todo_after, with_more}
 use Rattle.name_walk.proofs.Places.{done_there, todo_there, done_new}
 

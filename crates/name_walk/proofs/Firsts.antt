@@ -6,7 +6,8 @@ use Rattle.std.specs.declared.cmp.Ordering.{Ordering}
 use Rattle.std.proofs.lemmas.Cmp.{nat_list_cmp_total}
 use Rattle.meta_model.proofs.Bools.{not_both, either_way, or_first, or_later, from_or, same_text, text_itself}
 use Rattle.meta_model.specs.Text.{is_in, in_byte_order}
-use Rattle.task_model.proofs.Ordered.{Before, Above, Ascending, ordered_in, ordered_ascending, ascending_same}
+use Rattle.meta_model.specs.Ascending.{Before, Above, Ascending}
+use Rattle.meta_model.proofs.Ordered.{ordered_in, ordered_ascending, ascending_same}
 use Rattle.task_model.proofs.Least.{in_either}
 use Rattle.name_walk.specs.Walk.{with_more}
 use Rattle.name_walk.specs.Firsts.{IsFirst}

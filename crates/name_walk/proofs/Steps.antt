@@ -3,7 +3,8 @@ use Rattle.std.proofs.Common.{◌≡◌, refl, sym, ◌∙◌, ap, subst, arith,
 use Rattle.meta_model.proofs.Bools.{not_both, either_way, or_first, or_later, from_or, same_text, text_itself}
 use Rattle.meta_model.specs.Text.{is_in, into_order, in_byte_order}
 use Rattle.task_model.specs.Keys.{IsLeast}
-use Rattle.task_model.proofs.Ordered.{Ascending, into_in, into_ascending, ordered_in, ordered_ascending, ascending_same}
+use Rattle.meta_model.specs.Ascending.{Ascending}
+use Rattle.meta_model.proofs.Ordered.{into_in, into_ascending, ordered_in, ordered_ascending, ascending_same}
 use Rattle.task_model.proofs.Agree.{in_front, in_behind}
 use Rattle.task_model.proofs.Least.{in_either}
 use Rattle.name_walk.specs.Walk.{is_met, IsWalk, HasGoneOn, weight, done_after, todo_after}

@@ -28,7 +28,8 @@ use Rattle.load_model.specs.Loading.{Sources, Loaded, with_lines, read_first, cl
 use Rattle.load_model.specs.Layers.{words_of, starting_with}
 use Rattle.load_model.specs.Recipes.{FileName, Recipe, SetRefusal, load, no_value, bad_name, asked_of, too_many, is_pn, appends_of, file_lines, name_lines, appended, with_inherit, recipe_entries, text_of, recipe_of, recipe_read, recipes_read, names_of_files, all_belong}
 use Rattle.load_model.specs.Facts.{flag_words, named_task, task_facts, all_tasks, facts_of, all_facts, needed_words, all_packages, RecipeSet, Wishes, wishes, recipe_cmp, greater, chosen, that_count, fits, all_chosen, most_recipes, recipe_set}
-use Rattle.task_model.proofs.Ordered.{Before, Above, Ascending, ordered_ascending}
+use Rattle.meta_model.specs.Ascending.{Before, Above, Ascending}
+use Rattle.meta_model.proofs.Ordered.{ordered_ascending}
 use Rattle.plan_model.specs.Names.{is_task_name, AddsGoodTask, HaveGoodTasks, AddGoodTasks}
 use Rattle.plan_model.specs.Sound.{HasGoodNames}
 use Rattle.plan_model.proofs.Planning.{ok_parts, ok_as, same_ok}

@@ -11,7 +11,7 @@ use Rattle.meta_model.specs.declared.value.KeyLine.{KeyLine}
 use Rattle.meta_model.specs.Text.{is_in}
 use Rattle.task_model.specs.Leads.{View, view_of, is_key_name}
 use Rattle.task_model.specs.Keys.{key, key_over}
-use Rattle.task_model.proofs.Ordered.{Above, Ascending}
+use Rattle.meta_model.specs.Ascending.{Above, Ascending}
 use Rattle.task_model.proofs.Least.{reached_ascending}
 use Rattle.task_model.proofs.Leaders.{view_is}
 use Rattle.task_model.proofs.KeyNames.{made_from, names_are_reached}

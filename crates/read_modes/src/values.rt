@@ -1,7 +1,7 @@
 // Names with their values, as texts.
 ghost use Rattle.std.specs.Prelude.{◌≡◌, ◌<◌, [], ◌++◌, All, length, true, false, Ok, IfOk, IfErr};
 ghost use Rattle.meta_model.specs.declared.event.Status.TheVariants as status;
-ghost use Rattle.class_inherit.specs.Faults.{data_refusal};
+ghost use Rattle.datastore.specs.Faults.{data_refusal};
 ghost use Rattle.layer_conf.specs.Config.{config_meant};
 ghost use Rattle.bb_report.specs.Texts as texts;
 ghost use Rattle.project_reading.specs.Said as said;

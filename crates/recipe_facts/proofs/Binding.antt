@@ -9,9 +9,9 @@ use Rattle.var_expand.specs.declared.fault.ExpandFault.TheVariants as expand
 use Rattle.var_expand.specs.Faults.{IsFaultOf}
 use Rattle.datastore.specs.declared.fault.DataFault.{DataFault}
 use Rattle.datastore.specs.declared.fault.DataFault.TheVariants.{Unstable, Expand, Memory}
-use Rattle.datastore.specs.Faults.{IsDataFault, IsWantOfMemory}
+use Rattle.datastore.specs.Faults.{IsDataFault, IsWantOfMemory, data_refusal}
 use Rattle.load_model.specs.LoadRefusal.{◌>>=◌}
-use Rattle.recipe_facts.specs.Said.{IsRefused, data_refusal}
+use Rattle.recipe_facts.specs.Said.{IsRefused}
 use Rattle.recipe_facts.specs.Behind.{behind}
 
 -- refusals of any kind

@@ -8,9 +8,9 @@ ghost use Rattle.meta_model.specs.Text.{words as text_words};
 
 use crate::brackets::without_brackets;
 use datastore::{DataFault, Datastore};
-use path_words::words;
 use std::alloc::Global;
 use tree_model::{Mem, Text, Texts};
+use var_expand::words;
 
 /// The expanded value of a name, or the empty text where it has none.
 ///

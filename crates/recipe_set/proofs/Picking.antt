@@ -18,7 +18,8 @@ use Rattle.std.proofs.lemmas.Map.Text.{is_eq-slice_cmp, text_cmp}
 use Rattle.meta_model.proofs.Bools.{either_way, same_text, text_itself}
 use Rattle.meta_model.specs.Text.{is_in, is_empty, in_byte_order}
 use Rattle.datastore.specs.Picked.{picked, passes}
-use Rattle.datastore.proofs.Ordered.{ascending_same, picked_ascending, picked_in, ordered_ascending, ordered_in}
+use Rattle.meta_model.proofs.Ordered.{ascending_same, ordered_ascending, ordered_in}
+use Rattle.datastore.proofs.Picked.{picked_ascending, picked_in}
 use Rattle.load_model.specs.Recipes.{Recipe}
 use Rattle.load_model.specs.Facts.{greater, greatest, recipe_cmp, fits, that_count, chosen, all_chosen}
 use Rattle.recipe_facts.proofs.Fronted.{turned}

@@ -12,7 +12,7 @@ use Rattle.std.proofs.lemmas.Result.{err_from_is_err_and}
 use Rattle.meta_model.specs.Refusal.{Refusal}
 use Rattle.meta_model.specs.declared.entry.EntryLine.{EntryLine}
 use Rattle.datastore.specs.declared.fault.DataFault.{DataFault}
-use Rattle.datastore.specs.Faults.{IsDataFault}
+use Rattle.datastore.specs.Faults.{IsDataFault, data_refusal}
 use Rattle.load_model.specs.LoadRefusal.{LoadRefusal, LoadCause, Place, refused_at, ◌>>=◌, refused_as, require, there}
 use Rattle.load_model.specs.Loading.{Sources, class_entries}
 use Rattle.load_model.specs.Recipes as recipes
@@ -25,7 +25,7 @@ use Rattle.class_inherit.specs.declared.fault.LoadFault.{LoadFault}
 use Rattle.class_inherit.specs.Faults.{cause_of, place_of, load_refusal, IsLoadFault}
 use Rattle.recipe_facts.specs.declared.of_recipe.Recipe.{Recipe as Read}
 use Rattle.recipe_facts.specs.Recipe.{recipe_meant}
-use Rattle.recipe_facts.specs.Said.{IsRefused, data_refusal}
+use Rattle.recipe_facts.specs.Said.{IsRefused}
 use Rattle.recipe_facts.specs.Behind.{behind}
 use Rattle.recipe_facts.proofs.Binding.{refused_on, said, goes_on, one_refused}
 use Rattle.recipe_set.specs.declared.fault.SetFault.{SetFault}

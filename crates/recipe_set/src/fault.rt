@@ -3,7 +3,7 @@ ghost use Rattle.std.specs.Prelude.{◌≡◌, false, Some};
 ghost use Rattle.std.specs.Option.{option_map};
 ghost use Rattle.load_model.specs.Recipes as meant;
 ghost use Rattle.class_inherit.specs.Faults.{is_read, load_refusal, IsOutOfMemory};
-ghost use Rattle.recipe_facts.specs.Said.{data_refusal};
+ghost use Rattle.datastore.specs.Faults.{data_refusal};
 ghost use Rattle.recipe_set.specs.Faults.{set_refusal, is_failure, is_data_memory, IsTold};
 
 use class_inherit::{LoadFault, LoadKind};

@@ -10,8 +10,8 @@ use project_reading::{nothing_provides, or_status};
 use std::alloc::Global;
 use tree_model::{Mem, Text};
 
-/// Whether a text begins with the other.
-fn begins_with(front: &str, text: &str) -> bool
+/// Whether the text begins with the front.
+fn begins_with(text: &str, front: &str) -> bool
     ensures { result ≡ begins front.now text.now }
 {
     text.as_bytes().starts_with(front.as_bytes())
@@ -21,7 +21,7 @@ fn begins_with(front: &str, text: &str) -> bool
 pub fn is_elsewhere(word: &str) -> bool
     ensures { result ≡ targets.is_elsewhere word.now }
 {
-    begins_with("mc:", word)
+    begins_with(word, "mc:")
 }
 
 /// The name of a target: what stands before its first colon, or the whole word.
@@ -38,7 +38,7 @@ pub fn target_name(word: &str) -> &str
 fn task_named(alloc: Global, name: &str) -> Result<Text, Mem>
     ensures { IfOk result (λ made. made ≡ targets.task_named name.now) }
 {
-    if begins_with("do_", name) {
+    if begins_with(name, "do_") {
         return Text::from_str(alloc, name);
     }
     let mut made = Text::from_str(alloc, "do_")?;

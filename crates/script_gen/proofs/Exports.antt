@@ -7,7 +7,7 @@ use Rattle.meta_model.specs.Base.{flag, names}
 use Rattle.meta_model.specs.Active.{find_in}
 use Rattle.task_model.specs.Views.{seen_by, has_flag}
 use Rattle.task_model.specs.Scripts.{known, told_names}
-use Rattle.task_model.proofs.Ordered.{filtered_in}
+use Rattle.meta_model.proofs.Ordered.{filtered_in}
 use Rattle.task_model.proofs.Faithful.{faithful}
 use Rattle.task_model.proofs.ScriptLaw.{filter_in, told_same}
 

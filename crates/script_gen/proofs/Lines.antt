@@ -14,7 +14,8 @@ use Rattle.meta_model.proofs.Bools.{or_left, or_right, differs, text_itself}
 use Rattle.meta_model.specs.declared.value.KeyLine.{KeyLine}
 use Rattle.meta_model.specs.Text.{is_in, into_order, in_byte_order}
 use Rattle.task_model.specs.Scripts.{value_at}
-use Rattle.task_model.proofs.Ordered.{Before, Above, Ascending, ordered_ascending}
+use Rattle.meta_model.specs.Ascending.{Before, Above, Ascending}
+use Rattle.meta_model.proofs.Ordered.{ordered_ascending}
 
 -- the last name of a list in byte order
 

@@ -2,7 +2,8 @@
 use Rattle.std.proofs.Common.{◌≡◌, refl, sym, ◌∙◌, ap, subst, ℕ, ◌||◌, Bool, true, false, List, bytes_eq}
 use Rattle.meta_model.proofs.Bools.{same_text}
 use Rattle.meta_model.specs.Text.{is_in, into_order, in_byte_order}
-use Rattle.task_model.proofs.Ordered.{Ascending, ascending_same, into_ascending, into_in, ordered_ascending, ordered_in}
+use Rattle.meta_model.specs.Ascending.{Ascending}
+use Rattle.meta_model.proofs.Ordered.{ascending_same, into_ascending, into_in, ordered_ascending, ordered_in}
 
 -- names in byte order stay so in byte order
 pub ordered_twice : (xs : List (List ℕ)) → in_byte_order (in_byte_order xs) ≡ in_byte_order xs

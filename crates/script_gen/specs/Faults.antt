@@ -1,18 +1,9 @@
 -- What a fault says of the script or the places that were meant.
 use Rattle.std.specs.Prelude.{◌≡◌, Option, Some, None, option_map, Result, Err, ⊤}
-use Rattle.meta_model.specs.Refusal.{Refusal, unstable}
-use Rattle.datastore.specs.declared.fault.DataFault.{DataFault}
-use Rattle.datastore.specs.declared.fault.DataFault.TheVariants as data_fault
-use Rattle.datastore.specs.Faults as datastore
+use Rattle.datastore.specs.Faults.{data_refusal}
 use Rattle.task_model.specs.TaskRefusal.{TaskRefusal, bad_flag, no_value}
 use Rattle.script_gen.specs.declared.fault.ScriptFault.{ScriptFault}
 use Rattle.script_gen.specs.declared.fault.ScriptFault.TheVariants.{BadFlag, Data, Memory}
-
--- the refusal that a store's fault is; none where it is want of memory
-abbrev pub data_refusal : DataFault → Option Refusal
-data_refusal (data_fault.Unstable before last) = Some (unstable before last)
-data_refusal (data_fault.Expand fault) = datastore.refusal_of fault
-data_refusal data_fault.Memory = None
 
 -- the refusal that a fault is: with its flag and word, or that of the value that was asked for; none where it is want of memory
 abbrev pub refusal_of : ScriptFault → Option TaskRefusal

@@ -9,11 +9,10 @@ use crate::fault::ScriptFault;
 use crate::flags::{flag_text, must_fit};
 use crate::sight::Sight;
 use meta_model::Resolved;
-use path_words::words;
 use std::alloc::Global;
 use tree_model::{Text, Texts};
 use var_deps::is_function;
-use var_expand::are_name_bytes;
+use var_expand::{are_name_bytes, words};
 
 /// Whether what was found is a function.
 pub(crate) fn found_is_function(found: Option<Resolved>) -> bool

@@ -7,10 +7,9 @@ ghost use Rattle.script_gen.specs.Faults.{IsScriptFault};
 
 use crate::fault::ScriptFault;
 use crate::sight::Sight;
-use path_words::words;
 use std::alloc::Global;
 use tree_model::{Text, Texts};
-use var_expand::{are_name_bytes, expand};
+use var_expand::{are_name_bytes, expand, words};
 
 /// The most bytes of a path in a work folder.
 const MOST_OF_PATH: usize = 4096;

@@ -10,9 +10,9 @@ use crate::of_key::OfKey;
 use crate::sight::{OfStore, Sight};
 use datastore::Datastore;
 use meta_model::{Key, ListOf};
-use path_words::words;
 use std::alloc::Global;
 use tree_model::{Mem, Text, Texts};
+use var_expand::words;
 
 /// The folder that a word means: what stands behind `${WORKDIR}/`, or else the word itself.
 fn place_of(word: &str) -> &str

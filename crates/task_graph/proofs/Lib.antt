@@ -1,4 +1,3 @@
-pub mod InOrder
 pub mod Numbers
 pub mod Kept
 pub mod Indexed

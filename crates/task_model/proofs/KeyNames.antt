@@ -10,7 +10,8 @@ use Rattle.meta_model.specs.Text.{is_in, in_byte_order}
 use Rattle.task_model.specs.Leads.{View, Led, view_of, value_words, flag_words, exported, starting, without}
 use Rattle.task_model.specs.Keys.{led_to, Told, IsLeast, key, key_over, lines_of, reached, own_value, task_value}
 use Rattle.task_model.specs.Scripts.{line_names, value_at, flag_at, is_sstate_of}
-use Rattle.task_model.proofs.Ordered.{Ascending, ordered_in, ordered_ascending, ascending_same}
+use Rattle.meta_model.specs.Ascending.{Ascending}
+use Rattle.meta_model.proofs.Ordered.{ordered_in, ordered_ascending, ascending_same}
 use Rattle.task_model.proofs.Least.{NoOthers, reached_closed, reached_holds, reached_least, reached_ascending}
 use Rattle.task_model.proofs.Leaders.{store_view, view_is, no_others}
 use Rattle.task_model.proofs.KeyLines.{all_lines}

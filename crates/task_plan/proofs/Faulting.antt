@@ -7,11 +7,11 @@ use Rattle.meta_model.specs.Refusal.{Refusal}
 use Rattle.outside_traits.specs.Fault.{Counts}
 use Rattle.datastore.specs.declared.fault.DataFault.{DataFault}
 use Rattle.datastore.specs.declared.fault.DataFault.TheVariants.{Unstable, Expand, Memory}
-use Rattle.datastore.specs.Faults.{IsDataFault, refusal_of}
+use Rattle.datastore.specs.Faults.{IsDataFault, refusal_of, data_refusal}
 use Rattle.load_model.specs.LoadRefusal.{◌>>=◌, refused_as}
 use Rattle.task_model.specs.TaskRefusal.{TaskRefusal}
 use Rattle.task_model.specs.TaskRefusal as task
-use Rattle.recipe_facts.specs.Said.{IsRefused, data_refusal}
+use Rattle.recipe_facts.specs.Said.{IsRefused}
 use Rattle.recipe_facts.proofs.Binding.{refused_on, said, goes_on}
 use Rattle.script_gen.specs.declared.fault.ScriptFault.{ScriptFault}
 use Rattle.script_gen.specs.Faults as script
@@ -61,7 +61,7 @@ same_told : (file : List ℕ) (o : Option Refusal) → option_map (told_at file)
 same_told file None = refl
 same_told file (Some r) = refl
 
-pub same_data : (file : List ℕ) (fault : DataFault) → option_map (told_at file) (option_map task.no_value (script.data_refusal fault)) ≡ option_map (no_value file) (data_refusal fault)
+pub same_data : (file : List ℕ) (fault : DataFault) → option_map (told_at file) (option_map task.no_value (data_refusal fault)) ≡ option_map (no_value file) (data_refusal fault)
 same_data file (Unstable before last) = refl
 same_data file (Expand fault) = same_told file (refusal_of fault)
 same_data file Memory = refl

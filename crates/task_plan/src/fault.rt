@@ -1,7 +1,7 @@
 // Why a graph has no plan.
 ghost use Rattle.std.specs.Prelude.{◌≡◌, false, Some, IfOk};
 ghost use Rattle.std.specs.Option.{option_map};
-ghost use Rattle.recipe_facts.specs.Said.{data_refusal};
+ghost use Rattle.datastore.specs.Faults.{data_refusal};
 ghost use Rattle.script_gen.specs.Faults.{refusal_of};
 ghost use Rattle.plan_model.specs.PlanRefusal as meant;
 ghost use Rattle.task_plan.specs.declared.fault.PlanFault.TheVariants.{MissingFile as NoFile};

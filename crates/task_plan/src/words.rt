@@ -10,9 +10,10 @@ ghost use Rattle.task_plan.specs.Steps.{checksum_words as words_meant};
 
 use crate::fault::{PlanFault, data_told};
 use datastore::{DataFault, Datastore};
-use path_words::{has_ending, without_ending, words};
+use path_words::{has_ending, without_ending};
 use std::alloc::Global;
 use tree_model::{Text, Texts};
+use var_expand::words;
 
 /// The file that a word names: `:True` at its end is dropped, and one that ends with `:False` is passed over.
 pub(crate) fn input_word(word: &str) -> Option<&str>

@@ -9,72 +9,23 @@ use Rattle.std.proofs.lemmas.List.Folds.{list_any_none}
 use Rattle.tree_model.specs.declared.entry.Entry.{Entry}
 use Rattle.tree_model.specs.declared.tree.Size.{Size}
 use Rattle.tree_model.specs.Size.{Exceeds, size_of}
-use Rattle.outside_traits.proofs.Puts.{bool_cases}
+use Rattle.meta_model.proofs.Bools.{or_first, or_later}
+use Rattle.meta_model.proofs.Limits.{exceeds_true, exceeds_false, long_false, long_true}
 use Rattle.outside_traits.specs.Bench.{IsTaken}
 use Rattle.outside_traits.specs.declared.bench.Taken.TheVariants as taken
 use Rattle.meta_model.specs.declared.event.Why.TheVariants as why
 use Rattle.meta_model.specs.CleanBuild.{Entries, exceeds, is_beyond, is_beyond_layout, is_long, layout_limit, limited, output_limit}
 
--- a test that can't pass fails
-fails : (b : Bool) (P : Type 0) → Decides b P → (P → ⊥) → b ≡ false
-fails true P d never = absurd (never (d.0 refl))
-fails false P d never = refl
-
-passes_left : (a b : Bool) → a ≡ true → (a || b) ≡ true
-passes_left true b e = refl
-passes_left false b e = absurd (false≢true e)
-
-passes_right : (a b : Bool) → b ≡ true → (a || b) ≡ true
-passes_right true b e = refl
-passes_right false b e = e
-
--- the tests of the three numbers
-pub exceeds_true : (size limit : Size) → Exceeds size limit → exceeds size limit ≡ true
-exceeds_true size limit (inl more) = passes_left _ _ ((Decides-ltb limit.entries size.entries).1 more)
-exceeds_true size limit (inr (inl more)) = passes_right _ _ (passes_left _ _ ((Decides-ltb limit.largest size.largest).1 more))
-exceeds_true size limit (inr (inr more)) = passes_right _ _ (passes_right _ _ ((Decides-ltb limit.bytes size.bytes).1 more))
-
-pub exceeds_false : (size limit : Size) → (Exceeds size limit → ⊥) → exceeds size limit ≡ false
-exceeds_false size limit never =
-    let first = fails (nat_lt limit.entries size.entries) (limit.entries < size.entries) (Decides-ltb limit.entries size.entries) (λ more. never (inl more)) in
-    let second = fails (nat_lt limit.largest size.largest) (limit.largest < size.largest) (Decides-ltb limit.largest size.largest) (λ more. never (inr (inl more))) in
-    let third = fails (nat_lt limit.bytes size.bytes) (limit.bytes < size.bytes) (Decides-ltb limit.bytes size.bytes) (λ more. never (inr (inr more))) in
-    ap (λ (b : Bool). b || (nat_lt limit.largest size.largest || nat_lt limit.bytes size.bytes)) first
-    ∙ ap (λ (b : Bool). b || nat_lt limit.bytes size.bytes) second ∙ third
-
--- no path is long, or one is
-long_false : (tree : Entries) → All (λ e. length e.0 ≤ 3072) tree → list_any is_long tree ≡ false
-long_false tree short = list_any_none is_long tree (λ k d lt. fails (is_long (get_or tree k d)) (3072 < length (get_or tree k d).0) (Decides-ltb 3072 (length (get_or tree k d).0)) (λ more. let h = short k d lt in omega arith))
-
-long_true : (tree : Entries) → (All (λ e. length e.0 ≤ 3072) tree → ⊥) → list_any is_long tree ≡ true
-long_true [] never = absurd (never (λ k d lt. absurd (omega arith)))
-long_true (e ∷ tree) never = elim (bool_cases (is_long e)) [
-  | inl long ↦ passes_left _ _ long
-  | inr short ↦ passes_right _ _ (long_true tree (λ rest. never (λ k d lt. each k d lt (at_most short) rest)))
-]
-  where
-    at_most : is_long e ≡ false → length e.0 ≤ 3072
-    at_most short = elim (le_or_gt (length e.0) 3072) [ inl le ↦ le | inr more ↦ absurd (false≢true (sym short ∙ (Decides-ltb 3072 (length e.0)).1 more)) ]
-      where
-        le_or_gt : (a b : ℕ) → (a ≤ b) ⊎ (b < a)
-        le_or_gt zero b = inl (omega arith)
-        le_or_gt (suc a) zero = inr (omega arith)
-        le_or_gt (suc a) (suc b) = elim (le_or_gt a b) [ inl le ↦ inl (omega arith) | inr gt ↦ inr (omega arith) ]
-
-    each : (k : ℕ) (d : List ℕ × Entry) → k < length (e ∷ tree) → length e.0 ≤ 3072 → All (λ x. length x.0 ≤ 3072) tree → length (slice_index_or (e ∷ tree) k d).0 ≤ 3072
-    each zero d lt here rest = here
-    each (suc k) d lt here rest = rest k d (omega arith)
-
 -- the test of an output
 fits : (tree : Entries) (short within : Bool) → (IsTrue short → All (λ e. length e.0 ≤ 3072) tree) × (All (λ e. length e.0 ≤ 3072) tree → IsTrue short) → (IsTrue within → Exceeds (size_of tree) output_limit → ⊥) → ((Exceeds (size_of tree) output_limit → ⊥) → IsTrue within) → (short && within) ≡ not (is_beyond tree)
 unfolding is_beyond
 fits tree true true s w b = ap not (sym (ap (λ (x : Bool). x || list_any is_long tree) (exceeds_false (size_of tree) output_limit (w refl)) ∙ long_false tree (s.0 refl)))
-fits tree true false s w b = ap not (sym (passes_left (exceeds (size_of tree) output_limit) (list_any is_long tree) (by (exceeds (size_of tree) output_limit) refl)))
+fits tree true false s w b = ap not (sym (or_first (exceeds (size_of tree) output_limit) (list_any is_long tree) (by (exceeds (size_of tree) output_limit) refl)))
   where
     by : (x : Bool) → exceeds (size_of tree) output_limit ≡ x → exceeds (size_of tree) output_limit ≡ true
     by true e = e
     by false e = absurd (false≢true (b (λ more. false≢true (sym e ∙ exceeds_true (size_of tree) output_limit more))))
-fits tree false within s w b = ap not (sym (passes_right (exceeds (size_of tree) output_limit) (list_any is_long tree) (long_true tree (λ all. false≢true (s.1 all)))))
+fits tree false within s w b = ap not (sym (or_later (exceeds (size_of tree) output_limit) (list_any is_long tree) (long_true tree (λ all. false≢true (s.1 all)))))
 
 -- the same, by the two tests that are made
 pub fits_short : (tree : Entries) (short within : Bool) (size : Size) → short ≡ true → (IsTrue short → All (λ e. length e.0 ≤ 3072) tree) × (All (λ e. length e.0 ≤ 3072) tree → IsTrue short) → size ≡ size_of tree → (IsTrue within → Exceeds size output_limit → ⊥) → ((Exceeds size output_limit → ⊥) → IsTrue within) → within ≡ not (is_beyond tree)
@@ -85,7 +36,7 @@ fits_short tree short within size e s is w b =
 pub fits_long : (tree : Entries) (short : Bool) → short ≡ false → (IsTrue short → All (λ e. length e.0 ≤ 3072) tree) × (All (λ e. length e.0 ≤ 3072) tree → IsTrue short) → short ≡ not (is_beyond tree)
 unfolding is_beyond
 fits_long tree short e s =
-    e ∙ ap not (sym (passes_right (exceeds (size_of tree) output_limit) (list_any is_long tree) (long_true tree (λ all. false≢true (sym e ∙ s.1 all)))))
+    e ∙ ap not (sym (or_later (exceeds (size_of tree) output_limit) (list_any is_long tree) (long_true tree (λ all. false≢true (sym e ∙ s.1 all)))))
 
 -- what a task gives by the test
 pub limited_fit : (output tree : Entries) → IsTaken output output_limit (taken.Tree tree) → not (is_beyond tree) ≡ true → limited (Ok output) ≡ Ok tree
@@ -114,7 +65,7 @@ not_beyond tree fit = by (is_beyond tree) refl fit
 pub too_much : (output : Entries) → IsTaken output output_limit taken.TooLarge → limited (Ok output) ≡ Err why.TooLarge
 unfolding is_beyond
 too_much output is =
-    let beyond : is_beyond output ≡ true = passes_left _ (list_any is_long output) (exceeds_true (size_of output) output_limit is) in
+    let beyond : is_beyond output ≡ true = or_first _ (list_any is_long output) (exceeds_true (size_of output) output_limit is) in
     ap (λ (b : Bool). if b then Err why.TooLarge else Ok output) beyond
 
 -- a layout is beyond its limits, or it isn't

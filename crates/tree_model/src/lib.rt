@@ -29,6 +29,6 @@ pub use laws::{
     overlay_with_the_empty_tree, pick_after_place, pick_is_picked, trees_of_equal_manifests,
 };
 pub use manifest::{Manifest, ManifestLine, manifest_of, matches};
-pub use path::{is_below, is_clean};
+pub use path::{begins_with, is_below, is_clean};
 pub use text::{Bytes, Mem, Text, Texts};
 pub use tree::{Size, Tree, TreeFault};

@@ -50,7 +50,7 @@ fn starts_with_slash(bytes: &[u8]) -> bool
 }
 
 /// Whether the path begins with the prefix, byte for byte.
-pub(crate) fn begins_with(path: &str, prefix: &str) -> bool
+pub fn begins_with(path: &str, prefix: &str) -> bool
     ensures { MatchBool result (BeginsWith prefix.now path.now) (BeginsWith prefix.now path.now → ⊥) }
 {
     match path.as_bytes().strip_prefix(prefix.as_bytes()) {

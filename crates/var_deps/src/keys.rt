@@ -16,12 +16,11 @@ use crate::seen::{Seen, found_in, is_bare};
 use crate::table::{Shared, Table};
 use datastore::{DataFault, Datastore};
 use meta_model::Key;
-use path_words::words;
 use std::alloc::Global;
 use std::collections::BTreeMap;
 use std::marker::Model;
 use tree_model::{Mem, Text, Texts};
-use var_expand::ExpandFault;
+use var_expand::{ExpandFault, words};
 
 /// The keys of the tasks of one store. What a name leads to, and its line, are found out once, for all tasks that ask for it; all
 /// that the exported names lead to is walked once. A key then costs a look-up for each of its lines, and one for each name that a

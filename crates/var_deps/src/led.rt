@@ -13,10 +13,9 @@ ghost use Rattle.var_deps.specs.Led.{led_of, kept_more};
 use crate::runs::runs;
 use crate::seen::{Seen, is_function};
 use meta_model::Resolved;
-use path_words::words;
 use std::alloc::Global;
 use tree_model::{Mem, Text, Texts};
-use var_expand::{ExpandFault, Lookup, are_name_bytes, expand, references, value};
+use var_expand::{ExpandFault, Lookup, are_name_bytes, expand, references, value, words};
 
 /// Names that are led to, and whether one was left out.
 #[derive(Drop)]

@@ -11,10 +11,10 @@ use crate::lookup::Lookup;
 use crate::parts::{Part, Parts};
 use crate::reading::read;
 use crate::scan::{are_name_bytes, holds_opening};
-use crate::words::{drop_words, is_among, push_words};
+use crate::word_list::{drop_words, is_among, push_words};
 use meta_model::Resolved;
 use std::alloc::Global;
-use tree_model::{Mem, Text};
+use tree_model::{Mem, Text, Texts};
 
 /// The most bytes of an expanded text.
 const LONGEST: usize = 1_048_576;
@@ -220,12 +220,12 @@ fn removed_words<L: Lookup>(
     within: &mut Vec<Text>,
     left: usize,
     removes: &[Text],
-) -> Result<Vec<Text>, ExpandFault>
-    ensures ok { IfOk result (λ made. removed (known (L.finds from.now) left within.old.items) (last_name within.old.items) removes.now ≡ Ok made.items) }
+) -> Result<Texts, ExpandFault>
+    ensures ok { IfOk result (λ made. removed (known (L.finds from.now) left within.old.items) (last_name within.old.items) removes.now ≡ Ok made) }
     ensures err { IfErr result (λ fault. IsFaultOf fault (removed (known (L.finds from.now) left within.old.items) (last_name within.old.items) removes.now)) }
     ensures same { OnOk result (within.new.items ≡ within.old.items) }
 {
-    let mut words = Vec::new(alloc);
+    let mut words = Texts::new(alloc);
     for remove in removes {
         let text = expand_text(alloc, from, within, left, remove.as_str())?;
         push_words(&mut words, alloc, text.as_str())?;

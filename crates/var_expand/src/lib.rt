@@ -17,7 +17,7 @@ mod parts;
 mod reading;
 mod scan;
 mod standing;
-mod words;
+mod word_list;
 
 pub use expansion::{expand, value};
 pub use fault::ExpandFault;
@@ -26,4 +26,4 @@ pub use names::references;
 pub use parts::{Part, Parts};
 pub use reading::parse_refs;
 pub use scan::{are_name_bytes, holds_opening};
-pub use words::drop_words;
+pub use word_list::{drop_words, words};

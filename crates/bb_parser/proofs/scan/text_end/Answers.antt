@@ -1,7 +1,7 @@
 use Rattle.std.proofs.Common.{◌-◌, sym, ◌∙◌, arith, get_or}
 use Rattle.meta_model.specs.Text.{is_blank}
 use Rattle.bb_parser.proofs.Bounds.{blank-ascii}
-use Rattle.bb_parser.proofs.Ends.{without_end-back, without_end-here}
+use Rattle.bb_lexer.proofs.Ends.{without_end-back, without_end-here}
 use Rattle.bb_parser.proofs.scan.text_end.Goals as goal
 
 pub loop-end-preserved : goal.loop-end-preserved

@@ -38,4 +38,4 @@ invariant-expand_parts-loop-part g l =
 abbrev pub invariant-removed_words-loop-remove : goal.invariant-removed_words-loop-remove
 invariant-removed_words-loop-remove g l =
     (l.within.items ≡ l.fn.within.items)
-    × (removed (known (g.L.Lookup.finds l.from) l.left l.fn.within.items) (last_name l.fn.within.items) l.removes ≡ gather (known (g.L.Lookup.finds l.from) l.left l.fn.within.items) (last_name l.fn.within.items) l.words.items (drop l.remove-index l.removes))
+    × (removed (known (g.L.Lookup.finds l.from) l.left l.fn.within.items) (last_name l.fn.within.items) l.removes ≡ gather (known (g.L.Lookup.finds l.from) l.left l.fn.within.items) (last_name l.fn.within.items) l.words (drop l.remove-index l.removes))

@@ -1,6 +1,6 @@
 use Rattle.std.proofs.Common.{◌∙◌, ap, sym, subst, arith, ◌≤◌, ◌<◌, length, bytes_eq}
 use Rattle.meta_model.specs.Text.{into_order, is_before}
-use Rattle.var_expand.proofs.Noting.{order_same, order_here, order_last, same_at}
+use Rattle.meta_model.proofs.Placing.{order_same, order_here, order_last, same_at}
 use Rattle.var_expand.proofs.names.note.Goals as goal
 
 pub returns-then-eq : goal.returns-then-eq

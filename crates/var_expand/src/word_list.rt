@@ -3,7 +3,7 @@ ghost use Rattle.std.specs.Prelude.{◌≡◌, ◌++◌, ◌<◌, ◌∷◌, IfO
 ghost use Rattle.meta_model.specs.Text.{is_white, is_in, non_empty, words, drop_words};
 
 use std::alloc::Global;
-use tree_model::{Mem, Text};
+use tree_model::{Mem, Text, Texts};
 
 /// Whether a byte is a space, a tab, a newline or a carriage return.
 fn is_white_byte(byte: &u8) -> bool
@@ -52,18 +52,18 @@ pub fn drop_words(alloc: Global, value: &str, words: &[Text]) -> Result<Text, Me
 }
 
 /// Puts the piece at the end, unless it is empty.
-fn push_piece(words: &mut Vec<Text>, alloc: Global, piece: &str) -> Result<(), Mem>
-    ensures { OnOk result (words.new.items ≡ words.old.items ++ non_empty (piece.now ∷ [])) }
+fn push_piece(list: &mut Texts, alloc: Global, piece: &str) -> Result<(), Mem>
+    ensures { OnOk result (list.new ≡ list.old ++ non_empty (piece.now ∷ [])) }
 {
     if piece.is_empty() {
         return Ok(());
     }
-    Ok(words.push(Text::from_str(alloc, piece)?)?)
+    list.push(Text::from_str(alloc, piece)?)
 }
 
 /// Puts the words of the text at the end.
-pub(crate) fn push_words(list: &mut Vec<Text>, alloc: Global, text: &str) -> Result<(), Mem>
-    ensures { OnOk result (list.new.items ≡ list.old.items ++ words text.now) }
+pub(crate) fn push_words(list: &mut Texts, alloc: Global, text: &str) -> Result<(), Mem>
+    ensures { OnOk result (list.new ≡ list.old ++ words text.now) }
 {
     let mut rest = text;
     while let Some(end) = white_at(rest.as_bytes()) {
@@ -71,4 +71,13 @@ pub(crate) fn push_words(list: &mut Vec<Text>, alloc: Global, text: &str) -> Res
         rest = &rest[end + 1..];
     }
     push_piece(list, alloc, rest)
+}
+
+/// The words of a text, in their order: its pieces between runs of white space.
+pub fn words(alloc: Global, text: &str) -> Result<Texts, Mem>
+    ensures { IfOk result (λ made. made ≡ words text.now) }
+{
+    let mut list = Texts::new(alloc);
+    push_words(&mut list, alloc, text)?;
+    Ok(list)
 }

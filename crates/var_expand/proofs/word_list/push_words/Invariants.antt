@@ -2,11 +2,10 @@ use denote.Text.{Utf8}
 use denote.Shadow.{shadow}
 use Rattle.std.proofs.Common.{◌≡◌, ◌++◌, length}
 use Rattle.meta_model.specs.Text.{words}
-use Rattle.path_words.proofs.word_list.words.Given as goal
+use Rattle.var_expand.proofs.word_list.push_words.Given as goal
 
--- the words so far, and those of the rest
 abbrev pub invariant-loop-end : goal.invariant-loop-end
-invariant-loop-end l = shadow (Utf8 l.rest) × (l.list ++ words l.rest ≡ words l.text)
+invariant-loop-end l = shadow (Utf8 l.rest) × (l.list ++ words l.rest ≡ l.initial.list ++ words l.text)
 
 abbrev pub decreases-loop-end : goal.decreases-loop-end
 decreases-loop-end l = length l.rest

@@ -1,10 +1,11 @@
 use Rattle.std.proofs.Common.{◌≡◌, ◌∙◌, ap, sym, subst, arith, ◌<◌, ◌+◌, length, take, drop, position, ◌++◌}
 use Rattle.std.proofs.lemmas.Grind.{common_steps}
+use Rattle.std.proofs.lemmas.Result.{on_ok_weaker}
 use Rattle.std.proofs.lemmas.Str.{IsCharBoundary-after_ascii}
 use Rattle.std.specs.List.{slice_index}
 use Rattle.meta_model.specs.Text.{is_white}
 use Rattle.var_expand.proofs.White.{push_step, words_last}
-use Rattle.path_words.proofs.word_list.words.Goals as goal
+use Rattle.var_expand.proofs.word_list.push_words.Goals as goal
 
 pub range_from-rest-requires : goal.range_from-rest-requires
 range_from-rest-requires c = λ _.
@@ -23,4 +24,4 @@ loop-end-preserved c =
 
 pub returns : goal.returns
 returns c =
-    c.in_ok-push_piece-2.ensures ∙ ap (λ l. c.loop-end.list ++ l) (sym (words_last c.loop-end.rest.now (ap (position is_white) (sym c.as_bytes.ensures.value) ∙ sym c.in_default.ensures.first))) ∙ c.loop-end.invariant.1
+    on_ok_weaker c.push_piece-2.result (λ e. e ∙ ap (λ l. c.loop-end.list ++ l) (sym (words_last c.loop-end.rest.now (ap (position is_white) (sym c.as_bytes.ensures.value) ∙ sym c.in_default.ensures.first))) ∙ c.loop-end.invariant.1) c.push_piece-2.ensures
