@@ -4,7 +4,7 @@
 //! (`specs/Leads`: which names come with a name; `specs/Keys`: the least set of them, and the lines). The script is the text
 //! that its shell is given, the places are the folders that a task of the shared state gives (`specs/Scripts`, both from a store
 //! and from a key alone; `specs/TaskRefusal`: why there is none). A task sees its own name as absent where it is bare
-//! (`specs/Views`). `specs/ValueTable` and `specs/Meeting` say how values may be kept, and what names meet in expansion.
+//! (`specs/Views`). `specs/Meeting` says what names meet in expansion.
 //!
 //! The crate has no code: its public functions have empty bodies, and their contracts are the laws (`laws`) and worked
 //! examples (`key_examples`). Proved are the law of keys, that the names of a key are the least set, that other lines in a key

@@ -181,7 +181,7 @@ ref_fault values name inner looked fault e h =
 
 -- names in expansion
 
-onto_more : (within names : List (List ℕ)) (name : List ℕ) → onto_names within (names ++ name ∷ []) ≡ name ∷ onto_names within names
+pub onto_more : (within names : List (List ℕ)) (name : List ℕ) → onto_names within (names ++ name ∷ []) ≡ name ∷ onto_names within names
 onto_more within [] name = refl
 onto_more within (n ∷ names) name = onto_more (n ∷ within) names name
 
@@ -202,13 +202,13 @@ or_none : (b : Bool) → (b || false) ≡ b
 or_none true = refl
 or_none false = refl
 
-in_names : (x : List ℕ) (names : List (List ℕ)) → is_in x (innermost_first names) ≡ is_in x names
+pub in_names : (x : List ℕ) (names : List (List ℕ)) → is_in x (innermost_first names) ≡ is_in x names
 in_names x names = in_onto x [] names ∙ or_none (is_in x names)
 
 met_at : (finds : Find) (names : List (List ℕ)) (name : List ℕ) (expand : Resolved → Result (List ℕ) Refusal) → is_in name names ≡ true → met finds (innermost_first names) name expand ≡ Err (value_cycle name)
 met_at finds names name expand h = rw (in_names name names, h) refl
 
-met_none : (finds : Find) (names : List (List ℕ)) (name : List ℕ) (expand : Resolved → Result (List ℕ) Refusal) → is_in name names ≡ false → finds name ≡ Ok None → met finds (innermost_first names) name expand ≡ Ok None
+pub met_none : (finds : Find) (names : List (List ℕ)) (name : List ℕ) (expand : Resolved → Result (List ℕ) Refusal) → is_in name names ≡ false → finds name ≡ Ok None → met finds (innermost_first names) name expand ≡ Ok None
 met_none finds names name expand h e = rw (in_names name names, h, e) refl
 
 met_some : (finds : Find) (names : List (List ℕ)) (name : List ℕ) (expand : Resolved → Result (List ℕ) Refusal) (value : Resolved) → is_in name names ≡ false → finds name ≡ Ok (Some value)

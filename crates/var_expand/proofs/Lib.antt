@@ -1,7 +1,10 @@
 pub mod Cuts
 pub mod Expanding
+pub mod Growing
 pub mod Noting
 pub mod Openings
 pub mod Pieces
 pub mod Steps
+pub mod Table
 pub mod White
+pub mod Wider

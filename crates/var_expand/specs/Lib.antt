@@ -1,6 +1,8 @@
 pub mod Expanding
 pub mod Faults
+pub mod Going
 pub mod Pieces
 pub mod ReadOn
 pub mod References
 pub mod Standing
+pub mod ValueTable

@@ -4,33 +4,22 @@ ghost use Rattle.meta_model.specs.Expansion.{Values, deepest, longest, expanded_
 ghost use Rattle.meta_model.specs.Parts.{depth};
 ghost use Rattle.var_expand.specs.Faults.{IsFaultOf};
 ghost use Rattle.var_expand.specs.Pieces.{parts_in};
-ghost use Rattle.var_expand.specs.Expanding.{as_found, fitting, grown, known, last_name, reference_text, removed};
+ghost use Rattle.var_expand.specs.Expanding.{fitting, grown, known, last_name, reference_text, removed};
+ghost use Rattle.var_expand.specs.Going.{AllTelling, Grew, IsGoing};
 
 use crate::fault::{ExpandFault, ReadFault};
+use crate::going::{AtHand, Going, LONGEST, at_hand, enter, innermost_name, leave};
 use crate::lookup::Lookup;
 use crate::parts::{Part, Parts};
 use crate::reading::read;
 use crate::scan::{are_name_bytes, holds_opening};
-use crate::word_list::{drop_words, is_among, push_words};
+use crate::word_list::{drop_words, push_words};
 use meta_model::Resolved;
 use std::alloc::Global;
 use tree_model::{Mem, Text, Texts};
 
-/// The most bytes of an expanded text.
-const LONGEST: usize = 1_048_576;
-
 /// The most names in expansion at once.
 const DEEPEST: usize = 64;
-
-/// The last of the names, or the empty text.
-fn innermost_name(alloc: Global, within: &[Text]) -> Result<Text, Mem>
-    ensures { IfOk result (λ made. made ≡ last_name within.now) }
-{
-    match within.last() {
-        Some(name) => name.copy(),
-        None => Ok(Text::new(alloc)),
-    }
-}
 
 /// Refuses more bytes than there is room for.
 fn fit(alloc: Global, within: &[Text], room: usize, more: usize) -> Result<(), ExpandFault>
@@ -71,22 +60,25 @@ fn put_piece(alloc: Global, within: &[Text], out: &mut Text, piece: &str) -> Res
 fn expand_part<L: Lookup>(
     alloc: Global,
     from: &L,
-    within: &mut Vec<Text>,
+    going: &mut Going,
     left: usize,
     out: &mut Text,
     part: &Part,
 ) -> Result<(), ExpandFault>
-    requires { length out.old ≤ longest }
-    ensures ok { OnOk result (grown (known (L.finds from.now) left within.old.items) (last_name within.old.items) part.now out.old ≡ Ok out.new) }
+    requires room { length out.old ≤ longest }
+    requires going { IsGoing (L.finds from.now) left going.old }
+    ensures ok { OnOk result (grown (known (L.finds from.now) left going.old.within.items) (last_name going.old.within.items) part.now out.old ≡ Ok out.new) }
     ensures room { OnOk result (length out.new ≤ longest) }
-    ensures err { IfErr result (λ fault. IsFaultOf fault (grown (known (L.finds from.now) left within.old.items) (last_name within.old.items) part.now out.old)) }
-    ensures same { OnOk result (within.new.items ≡ within.old.items) }
+    ensures err { IfErr result (λ fault. IsFaultOf fault (grown (known (L.finds from.now) left going.old.within.items) (last_name going.old.within.items) part.now out.old)) }
+    ensures same { OnOk result (going.new.within.items ≡ going.old.within.items) }
+    ensures grew { OnOk result (Grew (L.finds from.now) left going.old going.new) }
+    ensures told { OnOk result (AllTelling (L.finds from.now) going.new (λ values. grown values (last_name going.old.within.items) part.now out.old ≡ Ok out.new)) }
 {
     match part {
-        Part::Plain(text) => put_piece(alloc, within.as_slice(), out, text.as_str()),
+        Part::Plain(text) => put_piece(alloc, going.within.as_slice(), out, text.as_str()),
         Part::Ref(name) => {
-            let piece = expand_reference(alloc, from, within, left, name)?;
-            put_piece(alloc, within.as_slice(), out, piece.as_str())
+            let piece = expand_reference(alloc, from, going, left, name)?;
+            put_piece(alloc, going.within.as_slice(), out, piece.as_str())
         }
     }
 }
@@ -96,17 +88,20 @@ fn expand_part<L: Lookup>(
 fn expand_parts<L: Lookup>(
     alloc: Global,
     from: &L,
-    within: &mut Vec<Text>,
+    going: &mut Going,
     left: usize,
     parts: &Parts,
 ) -> Result<Text, ExpandFault>
-    ensures ok { IfOk result (λ made. expanded_parts (known (L.finds from.now) left within.old.items) (last_name within.old.items) (parts_in parts.now) longest ≡ Ok made) }
-    ensures err { IfErr result (λ fault. IsFaultOf fault (expanded_parts (known (L.finds from.now) left within.old.items) (last_name within.old.items) (parts_in parts.now) longest)) }
-    ensures same { OnOk result (within.new.items ≡ within.old.items) }
+    requires going { IsGoing (L.finds from.now) left going.old }
+    ensures ok { IfOk result (λ made. expanded_parts (known (L.finds from.now) left going.old.within.items) (last_name going.old.within.items) (parts_in parts.now) longest ≡ Ok made) }
+    ensures err { IfErr result (λ fault. IsFaultOf fault (expanded_parts (known (L.finds from.now) left going.old.within.items) (last_name going.old.within.items) (parts_in parts.now) longest)) }
+    ensures same { OnOk result (going.new.within.items ≡ going.old.within.items) }
+    ensures grew { OnOk result (Grew (L.finds from.now) left going.old going.new) }
+    ensures told { IfOk result (λ made. AllTelling (L.finds from.now) going.new (λ values. expanded_parts values (last_name going.old.within.items) (parts_in parts.now) longest ≡ Ok made)) }
 {
     let mut out = Text::new(alloc);
     for part in &parts.list {
-        expand_part(alloc, from, within, left, &mut out, part)?;
+        expand_part(alloc, from, going, left, &mut out, part)?;
     }
     Ok(out)
 }
@@ -116,51 +111,25 @@ fn expand_parts<L: Lookup>(
 fn expand_reference<L: Lookup>(
     alloc: Global,
     from: &L,
-    within: &mut Vec<Text>,
+    going: &mut Going,
     left: usize,
     name: &Parts,
 ) -> Result<Text, ExpandFault>
-    ensures ok { IfOk result (λ made. reference_text (known (L.finds from.now) left within.old.items) (last_name within.old.items) (parts_in name.now) ≡ Ok made) }
-    ensures err { IfErr result (λ fault. IsFaultOf fault (reference_text (known (L.finds from.now) left within.old.items) (last_name within.old.items) (parts_in name.now))) }
-    ensures same { OnOk result (within.new.items ≡ within.old.items) }
+    requires going { IsGoing (L.finds from.now) left going.old }
+    ensures ok { IfOk result (λ made. reference_text (known (L.finds from.now) left going.old.within.items) (last_name going.old.within.items) (parts_in name.now) ≡ Ok made) }
+    ensures err { IfErr result (λ fault. IsFaultOf fault (reference_text (known (L.finds from.now) left going.old.within.items) (last_name going.old.within.items) (parts_in name.now))) }
+    ensures same { OnOk result (going.new.within.items ≡ going.old.within.items) }
+    ensures grew { OnOk result (Grew (L.finds from.now) left going.old going.new) }
+    ensures told { IfOk result (λ made. AllTelling (L.finds from.now) going.new (λ values. reference_text values (last_name going.old.within.items) (parts_in name.now) ≡ Ok made)) }
 {
-    let looked = expand_parts(alloc, from, within, left, name)?;
+    let looked = expand_parts(alloc, from, going, left, name)?;
     if !are_name_bytes(looked.as_str().as_bytes()) {
         return Ok(as_reference(alloc, looked.as_str())?);
     }
-    match value_within(alloc, from, within, left, looked.as_str())? {
+    match value_within(alloc, from, going, left, looked.as_str())? {
         Some(value) => Ok(value),
         None => Ok(as_reference(alloc, looked.as_str())?),
     }
-}
-
-/// What a name has; where it has something, the name stands behind those in expansion from then on.
-fn enter<L: Lookup>(
-    alloc: Global,
-    from: &L,
-    within: &mut Vec<Text>,
-    left: usize,
-    name: &str,
-) -> Result<Option<Resolved>, ExpandFault>
-    ensures ok { IfOk result (λ made. MatchOption made (known (L.finds from.now) left within.old.items name.now ≡ Ok None) (λ found. (1 ≤ left) × (known (L.finds from.now) left within.old.items name.now ≡ as_found (expanded_value (known (L.finds from.now) (left - 1) (within.old.items ++ name.now ∷ [])) (last_name (within.old.items ++ name.now ∷ [])) found)))) }
-    ensures names { IfOk result (λ made. MatchOption made (within.new.items ≡ within.old.items) (λ found. within.new.items ≡ within.old.items ++ name.now ∷ [])) }
-    ensures err { IfErr result (λ fault. IsFaultOf fault (known (L.finds from.now) left within.old.items name.now)) }
-{
-    if is_among(name, within.as_slice()) {
-        return Err(ExpandFault::ValueCycle {
-            name: Text::from_str(alloc, name)?,
-        });
-    }
-    let Some(found) = from.find(alloc, name)? else {
-        return Ok(None);
-    };
-    if left == 0 {
-        return Err(ExpandFault::TooDeep {
-            name: innermost_name(alloc, within.as_slice())?,
-        });
-    }
-    within.push(Text::from_str(alloc, name)?)?;
-    Ok(Some(found))
 }
 
 /// The expanded value of a name in the expansion of others.
@@ -168,20 +137,25 @@ fn enter<L: Lookup>(
 fn value_within<L: Lookup>(
     alloc: Global,
     from: &L,
-    within: &mut Vec<Text>,
+    going: &mut Going,
     left: usize,
     name: &str,
 ) -> Result<Option<Text>, ExpandFault>
-    ensures ok { IfOk result (λ made. known (L.finds from.now) left within.old.items name.now ≡ Ok made) }
-    ensures err { IfErr result (λ fault. IsFaultOf fault (known (L.finds from.now) left within.old.items name.now)) }
-    ensures same { OnOk result (within.new.items ≡ within.old.items) }
+    requires going { IsGoing (L.finds from.now) left going.old }
+    ensures ok { IfOk result (λ made. known (L.finds from.now) left going.old.within.items name.now ≡ Ok made) }
+    ensures err { IfErr result (λ fault. IsFaultOf fault (known (L.finds from.now) left going.old.within.items name.now)) }
+    ensures same { OnOk result (going.new.within.items ≡ going.old.within.items) }
+    ensures grew { OnOk result (Grew (L.finds from.now) left going.old going.new) }
+    ensures told { IfOk result (λ made. AllTelling (L.finds from.now) going.new (λ values. values name.now ≡ Ok made)) }
 {
-    let names = within.len();
-    let Some(found) = enter(alloc, from, within, left, name)? else {
-        return Ok(None);
+    let found = match at_hand(alloc, from, going, left, name)? {
+        AtHand::Value(made) => return Ok(made),
+        AtHand::Deeper(found) => found,
     };
-    let value = expand_value(alloc, from, within, left - 1, found)?;
-    within.truncate(names);
+    let names = going.within.len();
+    let outer = enter(alloc, going, name)?;
+    let value = expand_value(alloc, from, going, left - 1, found)?;
+    leave(alloc, going, left, names, outer, name, &value)?;
     Ok(Some(value))
 }
 
@@ -190,13 +164,16 @@ fn value_within<L: Lookup>(
 fn expand_value<L: Lookup>(
     alloc: Global,
     from: &L,
-    within: &mut Vec<Text>,
+    going: &mut Going,
     left: usize,
     found: Resolved,
 ) -> Result<Text, ExpandFault>
-    ensures ok { IfOk result (λ made. expanded_value (known (L.finds from.now) left within.old.items) (last_name within.old.items) found ≡ Ok made) }
-    ensures err { IfErr result (λ fault. IsFaultOf fault (expanded_value (known (L.finds from.now) left within.old.items) (last_name within.old.items) found)) }
-    ensures same { OnOk result (within.new.items ≡ within.old.items) }
+    requires going { IsGoing (L.finds from.now) left going.old }
+    ensures ok { IfOk result (λ made. expanded_value (known (L.finds from.now) left going.old.within.items) (last_name going.old.within.items) found ≡ Ok made) }
+    ensures err { IfErr result (λ fault. IsFaultOf fault (expanded_value (known (L.finds from.now) left going.old.within.items) (last_name going.old.within.items) found)) }
+    ensures same { OnOk result (going.new.within.items ≡ going.old.within.items) }
+    ensures grew { OnOk result (Grew (L.finds from.now) left going.old going.new) }
+    ensures told { IfOk result (λ made. AllTelling (L.finds from.now) going.new (λ values. expanded_value values (last_name going.old.within.items) found ≡ Ok made)) }
 {
     let Resolved {
         text,
@@ -204,11 +181,11 @@ fn expand_value<L: Lookup>(
         flags,
     } = found;
     drop(flags);
-    let value = expand_owned(alloc, from, within, left, text)?;
+    let value = expand_owned(alloc, from, going, left, text)?;
     if removes.is_empty() {
         return Ok(value);
     }
-    let words = removed_words(alloc, from, within, left, removes.as_slice())?;
+    let words = removed_words(alloc, from, going, left, removes.as_slice())?;
     Ok(drop_words(alloc, value.as_str(), words.as_slice())?)
 }
 
@@ -217,17 +194,20 @@ fn expand_value<L: Lookup>(
 fn removed_words<L: Lookup>(
     alloc: Global,
     from: &L,
-    within: &mut Vec<Text>,
+    going: &mut Going,
     left: usize,
     removes: &[Text],
 ) -> Result<Texts, ExpandFault>
-    ensures ok { IfOk result (λ made. removed (known (L.finds from.now) left within.old.items) (last_name within.old.items) removes.now ≡ Ok made) }
-    ensures err { IfErr result (λ fault. IsFaultOf fault (removed (known (L.finds from.now) left within.old.items) (last_name within.old.items) removes.now)) }
-    ensures same { OnOk result (within.new.items ≡ within.old.items) }
+    requires going { IsGoing (L.finds from.now) left going.old }
+    ensures ok { IfOk result (λ made. removed (known (L.finds from.now) left going.old.within.items) (last_name going.old.within.items) removes.now ≡ Ok made) }
+    ensures err { IfErr result (λ fault. IsFaultOf fault (removed (known (L.finds from.now) left going.old.within.items) (last_name going.old.within.items) removes.now)) }
+    ensures same { OnOk result (going.new.within.items ≡ going.old.within.items) }
+    ensures grew { OnOk result (Grew (L.finds from.now) left going.old going.new) }
+    ensures told { IfOk result (λ made. AllTelling (L.finds from.now) going.new (λ values. removed values (last_name going.old.within.items) removes.now ≡ Ok made)) }
 {
     let mut words = Texts::new(alloc);
     for remove in removes {
-        let text = expand_text(alloc, from, within, left, remove.as_str())?;
+        let text = expand_text(alloc, from, going, left, remove.as_str())?;
         push_words(&mut words, alloc, text.as_str())?;
     }
     Ok(words)
@@ -238,18 +218,21 @@ fn removed_words<L: Lookup>(
 fn expand_owned<L: Lookup>(
     alloc: Global,
     from: &L,
-    within: &mut Vec<Text>,
+    going: &mut Going,
     left: usize,
     text: Text,
 ) -> Result<Text, ExpandFault>
-    ensures ok { IfOk result (λ made. expanded (known (L.finds from.now) left within.old.items) (last_name within.old.items) text ≡ Ok made) }
-    ensures err { IfErr result (λ fault. IsFaultOf fault (expanded (known (L.finds from.now) left within.old.items) (last_name within.old.items) text)) }
-    ensures same { OnOk result (within.new.items ≡ within.old.items) }
+    requires going { IsGoing (L.finds from.now) left going.old }
+    ensures ok { IfOk result (λ made. expanded (known (L.finds from.now) left going.old.within.items) (last_name going.old.within.items) text ≡ Ok made) }
+    ensures err { IfErr result (λ fault. IsFaultOf fault (expanded (known (L.finds from.now) left going.old.within.items) (last_name going.old.within.items) text)) }
+    ensures same { OnOk result (going.new.within.items ≡ going.old.within.items) }
+    ensures grew { OnOk result (Grew (L.finds from.now) left going.old going.new) }
+    ensures told { IfOk result (λ made. AllTelling (L.finds from.now) going.new (λ values. expanded values (last_name going.old.within.items) text ≡ Ok made)) }
 {
     if holds_opening(text.as_str().as_bytes()) {
-        return expand_text(alloc, from, within, left, text.as_str());
+        return expand_text(alloc, from, going, left, text.as_str());
     }
-    fit(alloc, within.as_slice(), LONGEST, text.as_str().len())?;
+    fit(alloc, going.within.as_slice(), LONGEST, text.as_str().len())?;
     Ok(text)
 }
 
@@ -273,16 +256,19 @@ fn read_within(alloc: Global, within: &[Text], text: &str) -> Result<Parts, Expa
 fn expand_text<L: Lookup>(
     alloc: Global,
     from: &L,
-    within: &mut Vec<Text>,
+    going: &mut Going,
     left: usize,
     text: &str,
 ) -> Result<Text, ExpandFault>
-    ensures ok { IfOk result (λ made. expanded (known (L.finds from.now) left within.old.items) (last_name within.old.items) text.now ≡ Ok made) }
-    ensures err { IfErr result (λ fault. IsFaultOf fault (expanded (known (L.finds from.now) left within.old.items) (last_name within.old.items) text.now)) }
-    ensures same { OnOk result (within.new.items ≡ within.old.items) }
+    requires going { IsGoing (L.finds from.now) left going.old }
+    ensures ok { IfOk result (λ made. expanded (known (L.finds from.now) left going.old.within.items) (last_name going.old.within.items) text.now ≡ Ok made) }
+    ensures err { IfErr result (λ fault. IsFaultOf fault (expanded (known (L.finds from.now) left going.old.within.items) (last_name going.old.within.items) text.now)) }
+    ensures same { OnOk result (going.new.within.items ≡ going.old.within.items) }
+    ensures grew { OnOk result (Grew (L.finds from.now) left going.old going.new) }
+    ensures told { IfOk result (λ made. AllTelling (L.finds from.now) going.new (λ values. expanded values (last_name going.old.within.items) text.now ≡ Ok made)) }
 {
-    let parts = read_within(alloc, within.as_slice(), text)?;
-    expand_parts(alloc, from, within, left, &parts)
+    let parts = read_within(alloc, going.within.as_slice(), text)?;
+    expand_parts(alloc, from, going, left, &parts)
 }
 
 /// The parts of a name expanded, in the expansion of no other.
@@ -294,8 +280,8 @@ pub(crate) fn expand_name<L: Lookup>(
     ensures ok { IfOk result (λ made. expanded_parts (value_by (L.finds from.now)) [] (parts_in name.now) longest ≡ Ok made) }
     ensures err { IfErr result (λ fault. IsFaultOf fault (expanded_parts (value_by (L.finds from.now)) [] (parts_in name.now) longest)) }
 {
-    let mut within = Vec::new(alloc);
-    expand_parts(alloc, from, &mut within, DEEPEST, name)
+    let mut going = Going::new(alloc);
+    expand_parts(alloc, from, &mut going, DEEPEST, name)
 }
 
 /// A text with its references replaced by the values of their names, as `from` finds them ("Syntax and Operators", "Variable
@@ -312,8 +298,8 @@ pub fn expand<L: Lookup>(alloc: Global, text: &str, from: &L) -> Result<Text, Ex
     ensures ok { IfOk result (λ made. expand_by (L.finds from.now) text.now ≡ Ok made) }
     ensures err { IfErr result (λ fault. IsFaultOf fault (expand_by (L.finds from.now) text.now)) }
 {
-    let mut within = Vec::new(alloc);
-    expand_text(alloc, from, &mut within, DEEPEST, text)
+    let mut going = Going::new(alloc);
+    expand_text(alloc, from, &mut going, DEEPEST, text)
 }
 
 /// The expanded value of a name, or `None` where it has none. The rules and faults are those of `expand`.
@@ -321,6 +307,6 @@ pub fn value<L: Lookup>(alloc: Global, name: &str, from: &L) -> Result<Option<Te
     ensures ok { IfOk result (λ made. value_by (L.finds from.now) name.now ≡ Ok made) }
     ensures err { IfErr result (λ fault. IsFaultOf fault (value_by (L.finds from.now) name.now)) }
 {
-    let mut within = Vec::new(alloc);
-    value_within(alloc, from, &mut within, DEEPEST, name)
+    let mut going = Going::new(alloc);
+    value_within(alloc, from, &mut going, DEEPEST, name)
 }

@@ -11,6 +11,7 @@
 mod expansion;
 mod fault;
 mod frame;
+mod going;
 mod lookup;
 mod names;
 mod parts;

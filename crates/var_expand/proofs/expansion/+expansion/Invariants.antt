@@ -3,6 +3,7 @@ use Rattle.meta_model.specs.Parts.{end, depth}
 use Rattle.meta_model.specs.Expansion.{longest, expanded_parts}
 use Rattle.var_expand.specs.Pieces.{part_before, parts_in, parts_in_list}
 use Rattle.var_expand.specs.Expanding.{known, last_name, removed}
+use Rattle.var_expand.specs.Going.{AllTelling, Grew}
 use Rattle.var_expand.proofs.Expanding.{finish, gather}
 use Rattle.var_expand.proofs.expansion.+expansion.Given as goal
 
@@ -32,10 +33,14 @@ decreases-expand_value g l = 1000 * l.left + 900
 
 abbrev pub invariant-expand_parts-loop-part : goal.invariant-expand_parts-loop-part
 invariant-expand_parts-loop-part g l =
-    (length l.out ≤ longest) × (l.within.items ≡ l.fn.within.items)
-    × (expanded_parts (known (g.L.Lookup.finds l.from) l.left l.fn.within.items) (last_name l.fn.within.items) (parts_in l.parts) longest ≡ finish (known (g.L.Lookup.finds l.from) l.left l.fn.within.items) (last_name l.fn.within.items) l.out (parts_in_list (drop l.part-index l.part-items)))
+    (length l.out ≤ longest) × (l.going.within.items ≡ l.fn.going.within.items)
+    × (expanded_parts (known (g.L.Lookup.finds l.from) l.left l.fn.going.within.items) (last_name l.fn.going.within.items) (parts_in l.parts) longest ≡ finish (known (g.L.Lookup.finds l.from) l.left l.fn.going.within.items) (last_name l.fn.going.within.items) l.out (parts_in_list (drop l.part-index l.part-items)))
+    × Grew (g.L.Lookup.finds l.from) l.left l.fn.going l.going
+    × AllTelling (g.L.Lookup.finds l.from) l.going (λ values. expanded_parts values (last_name l.fn.going.within.items) (parts_in l.parts) longest ≡ finish values (last_name l.fn.going.within.items) l.out (parts_in_list (drop l.part-index l.part-items)))
 
 abbrev pub invariant-removed_words-loop-remove : goal.invariant-removed_words-loop-remove
 invariant-removed_words-loop-remove g l =
-    (l.within.items ≡ l.fn.within.items)
-    × (removed (known (g.L.Lookup.finds l.from) l.left l.fn.within.items) (last_name l.fn.within.items) l.removes ≡ gather (known (g.L.Lookup.finds l.from) l.left l.fn.within.items) (last_name l.fn.within.items) l.words (drop l.remove-index l.removes))
+    (l.going.within.items ≡ l.fn.going.within.items)
+    × (removed (known (g.L.Lookup.finds l.from) l.left l.fn.going.within.items) (last_name l.fn.going.within.items) l.removes ≡ gather (known (g.L.Lookup.finds l.from) l.left l.fn.going.within.items) (last_name l.fn.going.within.items) l.words (drop l.remove-index l.removes))
+    × Grew (g.L.Lookup.finds l.from) l.left l.fn.going l.going
+    × AllTelling (g.L.Lookup.finds l.from) l.going (λ values. removed values (last_name l.fn.going.within.items) l.removes ≡ gather values (last_name l.fn.going.within.items) l.words (drop l.remove-index l.removes))

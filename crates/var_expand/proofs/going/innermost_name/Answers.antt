@@ -2,7 +2,7 @@ use Rattle.std.proofs.Common.{◌≡◌, ◌∙◌}
 use Rattle.std.proofs.lemmas.Result.{IfOk-weaker}
 use Rattle.var_expand.specs.Expanding.{last_name}
 use Rattle.var_expand.proofs.Expanding.{last_found}
-use Rattle.var_expand.proofs.expansion.innermost_name.Goals as goal
+use Rattle.var_expand.proofs.going.innermost_name.Goals as goal
 
 pub returns-in-Some : goal.returns-in-Some
 returns-in-Some c =
