@@ -1,5 +1,6 @@
 -- What is kept stays right.
 use Rattle.std.proofs.Common.{◌≡◌, refl, sym, ◌∙◌, ap, subst, ℕ, Bool, true, false, cond, List, [], ◌++◌, Option, Some, None, is_some, Result, Ok, Err, OnErr, OnOk, bytes_eq}
+use Rattle.std.specs.BTreeMap.{get_by_text}
 use Rattle.std.specs.Map.{update}
 use Rattle.meta_model.proofs.Bools.{same_text}
 use Rattle.meta_model.specs.declared.entry.EntryLine.{EntryLine}
@@ -88,6 +89,19 @@ learned (Err x) view old new name value put stays was is q known e = was q known
 pub on_ok_pushed : {T E : Type 0} (r : Result T E) (new before led other : List (List ℕ)) → led ≡ other → OnOk r (new ≡ before ++ led) → OnOk r (new ≡ before ++ other)
 on_ok_pushed (Ok x) new before led other e h = h ∙ ap (λ l. before ++ l) e
 on_ok_pushed (Err x) new before led other e h = tt
+
+-- what is kept of a name by now is what is read of it
+
+pub led_kept : (old new : Shared) (name : List ℕ) (known : Known) (items : List (List ℕ)) → IsRight new → IsSame old new → get_by_text new.known name ≡ Some known → items ≡ known.led.items → items ≡ names_led (read_led (shared_view old) false name)
+led_kept old new name known items right same is e = let read = right.known name known is in e ∙ read.led ∙ ap (λ v. names_led (read_led v false name)) (view_same old new same)
+
+pub line_kept : (old new : Shared) (name name' : List ℕ) (known : Known) → IsRight new → IsSame old new → get_by_text new.known name' ≡ Some known → name' ≡ name → IsLine known.line name (read_line (shared_view old) false name)
+line_kept old new name name' known right same is e =
+    let read = right.known name' known is in
+    subst (λ v. IsLine known.line name (read_line v false name)) (view_same old new same) (subst (λ n. IsLine known.line n (read_line (shared_view new) false n)) e read.line)
+
+pub itself : (shared : Shared) → IsSame shared shared
+itself shared = record { store = refl; task = refl; ignored = refl }
 
 -- what a task sees
 

@@ -71,19 +71,6 @@ impl Shared<'_> {
         put_value(&mut self.known, alloc, name, known)
     }
 
-    /// Finds out about a name, where it isn't known yet.
-    fn fill(&mut self, alloc: Global, name: &str) -> Result<(), Mem>
-        requires { IsRight self.old }
-        ensures right { IsRight self.new }
-        ensures same { IsSame self.old self.new }
-        ensures known { OnOk result (is_some (get_by_text self.new.known name.now) ≡ true) }
-    {
-        match self.known.get(name) {
-            Some(_) => Ok(()),
-            None => self.learn(alloc, name),
-        }
-    }
-
     /// Sees the store as it is, or as a task does, from now on. What is kept for another sight is forgotten.
     fn look_as(&mut self, alloc: Global, task: Option<Text>)
         requires { IsRight self.old }
@@ -131,7 +118,10 @@ impl Leading for Shared<'_> {
     ghost others = { named.no_others_shared };
 
     fn lead(&mut self, alloc: Global, name: &str, list: &mut Vec<Text>) -> Result<(), Mem> {
-        self.fill(alloc, name)?;
+        if let Some(known) = self.known.get(name) {
+            return push_all(list, known.led.as_slice());
+        }
+        self.learn(alloc, name)?;
         match self.known.get(name) {
             Some(known) => push_all(list, known.led.as_slice()),
             None => Ok(()),
@@ -148,7 +138,10 @@ impl Shared<'_> {
         ensures ok { OnOk result (key_behind key.old (one_line (read_line (shared_view self.old) false name.now)) ≡ Ok key.new) }
         ensures err { IfErr result (λ fault. IsFaultOf fault (read_line (shared_view self.old) false name.now)) }
     {
-        self.fill(alloc, name.as_str())?;
+        if let Some(known) = self.known.get(name.as_str()) {
+            return push_line(alloc, key, name, &known.line);
+        }
+        self.learn(alloc, name.as_str())?;
         match self.known.get(name.as_str()) {
             Some(known) => push_line(alloc, key, name, &known.line),
             None => Ok(()),
