@@ -75,14 +75,6 @@ pub fn leads_to_file<R: Files>(rt: &R, path: &str) -> io::Result<bool> {
     }
 }
 
-/// Whether all that a path has above it, inside the root, are folders and no links to folders.
-pub fn is_reached<R: Files + AllocGlobal>(rt: &R, root: &str, path: &str) -> io::Result<bool> {
-    match path.rsplit_once('/') {
-        Some((above, _)) => is_folder(rt, root, above),
-        None => Ok(true),
-    }
-}
-
 /// Whether the path and all that it has above it, inside the root, are folders and no links to folders.
 fn is_folder<R: Files + AllocGlobal>(rt: &R, root: &str, path: &str) -> io::Result<bool> {
     let mut whole = String::from_str(rt.alloc(), root)?;

@@ -2,9 +2,8 @@
 ghost use Rattle.std.specs.Prelude.{None};
 
 use crate::faults::{FirstFault, is_memory, one_more};
-use crate::folder::{
-    Part, is_reached, leads_to_file, list_items, look_through, no_memory, read_bytes,
-};
+use crate::folder::{Part, leads_to_file, list_items, look_through, no_memory, read_bytes};
+use crate::seen::SeenFolders;
 use outside_traits::{Layers, ReadFault};
 use std::alloc::Global;
 use std::io;
@@ -20,12 +19,14 @@ const BUILT: &str = "build";
 /// The files of the current folder, without those in its folder `build`.
 ///
 /// A link that leads to a file counts as that file. A linked folder isn't entered, by `read` no more than by `list`,
-/// so links can't lead round in a circle. It tells nothing.
+/// so links can't lead round in a circle. Each folder is looked at once: nobody puts another thing in its place while a run reads.
+/// It tells nothing.
 #[derive(Drop)]
 pub struct FolderLayers<R> {
     rt: R,
     faults: u64,
     first: FirstFault,
+    seen: SeenFolders,
 }
 
 impl<R: AllocGlobal> FolderLayers<R> {
@@ -34,10 +35,12 @@ impl<R: AllocGlobal> FolderLayers<R> {
 
     /// The current folder, without a fault so far.
     pub fn new(rt: R) -> Self {
+        let seen = SeenFolders::none(rt.alloc());
         FolderLayers {
             rt,
             faults: 0,
             first: FirstFault::none(),
+            seen,
         }
     }
 
@@ -69,18 +72,22 @@ impl<R: AllocGlobal> FolderLayers<R> {
     }
 }
 
-impl<R: Files + AllocGlobal + Clone + Drop> FolderLayers<R> {
-    /// The length of the file at a path, or of that to which a link there leads, or `None` where that is nothing.
-    fn try_find(&self, path: &str) -> io::Result<Option<u64>> {
-        if !is_clean(path) || is_below(BUILT, path) || !is_reached(&self.rt, HERE, path)? {
-            return Ok(None);
-        }
-        match look_through(&self.rt, path)? {
-            Some(metadata) if metadata.is_file() => Ok(Some(metadata.len())),
-            _ => Ok(None),
-        }
+/// The length of the file at a path, or of that to which a link there leads, or `None` where that is nothing.
+fn length_of<R: Files + AllocGlobal>(
+    rt: &R,
+    seen: &mut SeenFolders,
+    path: &str,
+) -> io::Result<Option<u64>> {
+    if !is_clean(path) || is_below(BUILT, path) || !seen.is_reached(rt, HERE, path)? {
+        return Ok(None);
     }
+    match look_through(rt, path)? {
+        Some(metadata) if metadata.is_file() => Ok(Some(metadata.len())),
+        _ => Ok(None),
+    }
+}
 
+impl<R: Files + AllocGlobal + Clone + Drop> FolderLayers<R> {
     fn try_list(&self, alloc: Global, prefix: &str) -> io::Result<Texts> {
         let part = Part {
             root: HERE,
@@ -108,7 +115,7 @@ impl<R: Files + AllocGlobal + Clone + Drop> Layers for FolderLayers<R> {
     ghost clean = { λ _ told. absurd told };
 
     fn read(&mut self, _alloc: Global, path: &str, max: u64) -> Result<Option<Bytes>, ReadFault> {
-        let found = self.try_find(path);
+        let found = length_of(&self.rt, &mut self.seen, path);
         let Some(length) = self.count("read", path, found)? else {
             return Ok(None);
         };
