@@ -6,6 +6,7 @@ Usage: bench/gate_minutes.py [--log FILE] [--into FILE] [--anew] [CRATE ..]
   --into FILE    puts the table between the two marks of this file, as docs/GATE.md has them, in place of printing it
   --anew         proves everything, also what an earlier run on this machine proved (a kit whose `rt ci` keeps nothing always does)
   CRATE ..       these crates and those below them alone, as `rt ci CRATE ..` does where the kit has that
+  --join FILE .. runs nothing: makes one table of those that earlier runs over other crates printed, each into a file
 
 The gate prints no times, so this looks ten times a second at the processor time of each process that `rt ci` has started, and
 counts it for a crate by the words the process was started with: its proof, its tests, the check that its must-fail edits begin
@@ -118,6 +119,35 @@ def table(sums, whole):
     yield "Edits over 40 s: " + (", ".join(f"`{crate}/{name}` {cost:.0f} s" for cost, crate, name in slow) or "none") + "."
 
 
+def joined(files):
+    """One table of several: of each crate the most that a run took for its proof, tests, seed and edits, since two runs may have done the
+    same; and the sum of what is left. The first lines come before it, one a run."""
+    heads, rows, rest, slow = [], {}, 0, {}
+    for file in files:
+        for line in open(file):
+            cells = [it.strip() for it in line.strip().strip("|").split("|")]
+            if line.startswith("Commit "):
+                heads += [line.rstrip("\n"), ""]
+            elif line.startswith("| `"):
+                was = rows.get(cells[0], cells)
+                most = [f"{max(float(one), float(other)):.1f}" for one, other in zip(was[2:6], cells[2:6])]
+                dearest = max(was[7], cells[7], key=lambda it: int(it.split()[0]) if it[0].isdigit() else -1)
+                rows[cells[0]] = [*cells[:2], *most, cells[6], dearest, f"{sum(map(float, most)):.1f}"]
+            elif line.startswith("| the rest"):
+                rest += float(cells[-1])
+            elif line.startswith("Edits over 40 s: "):
+                for name, cost in re.findall(r"(`[^`]*`) (\d+) s", line):
+                    slow[name] = min(int(cost), slow.get(name, int(cost)))
+    titles = [line.rstrip("\n") for line in open(files[0]) if line.startswith(("| Crate", "|--"))]
+    yield from heads
+    yield from titles
+    yield from ("| " + " | ".join(row) + " |" for row in sorted(rows.values(), key=lambda row: -float(row[-1])) if float(row[-1]))
+    yield f"| the rest: compiling, linking, running | | | | | | | | {rest:.1f} |"
+    yield f"| **together** | | | | | | | | **{rest + sum(float(row[-1]) for row in rows.values()):.1f}** |"
+    yield ""
+    yield "Edits over 40 s: " + (", ".join(f"{name} {cost} s" for name, cost in sorted(slow.items(), key=lambda it: -it[1]) if cost > 40) or "none") + "."
+
+
 def put(text, file):
     """Puts the text between the marks of a file."""
     before, _, rest = open(file).read().partition(MARKS[0])
@@ -133,8 +163,13 @@ def main():
     given.add_argument("--log", default=os.path.join(tempfile.gettempdir(), "gate.log"))
     given.add_argument("--into")
     given.add_argument("--anew", action="store_true")
+    given.add_argument("--join", nargs="+")
     given.add_argument("crates", nargs="*")
     given = given.parse_args()
+    if given.join:
+        text = "\n".join(joined(given.join)) + "\n"
+        put(text, given.into) if given.into else print(text, end="")
+        return 0
     began = time.time()
     commit = subprocess.run(["git", "rev-parse", "--short", "HEAD"], capture_output=True, text=True).stdout.strip()
     told = subprocess.run(["rt", "help"], stdout=subprocess.PIPE, stderr=subprocess.STDOUT, text=True).stdout
