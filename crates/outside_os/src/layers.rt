@@ -19,8 +19,8 @@ const BUILT: &str = "build";
 /// The files of the current folder, without those in its folder `build`.
 ///
 /// A link that leads to a file counts as that file. A linked folder isn't entered, by `read` no more than by `list`,
-/// so links can't lead round in a circle. Each folder is looked at once: nobody puts another thing in its place while a run reads.
-/// It tells nothing.
+/// so links can't lead round in a circle. Each folder is looked at once: a link that another program puts in its place after that is
+/// followed. It tells nothing.
 #[derive(Drop)]
 pub struct FolderLayers<R> {
     rt: R,

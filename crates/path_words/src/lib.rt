@@ -1,6 +1,7 @@
 //! Paths as metadata writes them.
 //!
-//! Contracts see texts as lists of bytes, and each call equals the definition of `load_model` (`Paths`) that it names. What takes memory fails for want of memory alone. The work is linear in the bytes of the text.
+//! Contracts see texts as lists of bytes, and each call equals the definition of `load_model` (`Paths`) that it names. What takes
+//! memory fails for want of memory alone. The work is linear in the bytes of the text.
 #![tactic(auto)]
 
 mod cuts;

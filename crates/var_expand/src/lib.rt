@@ -5,7 +5,7 @@
 //! the reading, `expand_by` and `value_by` for the expansion; `looked_up`, for the names that a text looks up, stands here.
 //!
 //! Promised: each call returns, and equals its definition, refusals included, unless memory ran out. Reading takes time and
-//! memory linear in the bytes of the text. A value without references is not copied when it is expanded.
+//! memory linear in the bytes of the text. In one call a name is expanded once, however often it is met (`going`); no clause says so.
 #![tactic(auto)]
 
 mod expansion;
