@@ -1,10 +1,9 @@
 -- Laws of what stands at the end of a line, and of the first line of a text.
-use Rattle.std.proofs.Common.{◌≡◌, ℕ, zero, suc, ◌+◌, ◌-◌, ◌<◌, ◌≤◌, Bool, true, false, cond, not, ◌==◌, List, [], ◌∷◌, ◌++◌, length, take, drop, get_or, refl, ap, sym, Some, None, position, arith, le_trans, add-one, sub-one}
+use Rattle.std.proofs.Common.{◌≡◌, ℕ, zero, suc, ◌+◌, ◌-◌, ◌<◌, ◌≤◌, Bool, true, false, ◌==◌, List, [], ◌∷◌, ◌++◌, length, take, drop, get_or, ap, Some, None, position, arith, add-one, sub-one}
 use Rattle.std.proofs.Math.Seq.{take-suc}
 use Rattle.std.proofs.lemmas.List.Quantifiers.{position-Some}
-use Rattle.std.proofs.lemmas.List.Sums.{prefix_len_passes}
-use Rattle.std.specs.List.{position_or_len}
-use Rattle.std.proofs.lemmas.Bool.{ltb-false, eqb-true}
+use Rattle.std.proofs.lemmas.Bool.{eqb-true}
+use Rattle.meta_model.proofs.Unfound.{none_before}
 use Rattle.meta_model.specs.Text.{newline, end_kept, without_end}
 use Rattle.meta_model.specs.Lines.{pieces}
 
@@ -45,21 +44,9 @@ one_line : (b : ℕ) (bs : List ℕ) → ((k : ℕ) → k < suc (length bs) → 
 one_line b [] h = rw (h 0 (omega arith))
 one_line b (c ∷ bs) h = rw (h 0 (omega arith), one_line c bs (λ k lt. h (suc k) (omega arith)))
 
-none_of_cond : (b : Bool) (n : ℕ) → cond b (Some n) None ≡ None → b ≡ false
-none_of_cond true n e = cc
-none_of_cond false n e = refl
-
-false_of_not : (b : Bool) → not b ≡ true → b ≡ false
-false_of_not true e = sym e
-false_of_not false e = refl
-
-none_before : (bs : List ℕ) → position (λ b. b == newline) bs ≡ None → (k : ℕ) → k < length bs → (get_or bs k 0 == newline) ≡ false
-none_before bs e k lt = let h = ltb-false (position_or_len (λ x. x == newline) bs) (length bs) (none_of_cond _ _ e) in
-    false_of_not (get_or bs k 0 == newline) (prefix_len_passes (λ x. not (x == newline)) bs k 0 (le_trans lt h))
-
 pub pieces-last : (bs : List ℕ) → 0 < length bs → position (λ b. b == newline) bs ≡ None → pieces bs ≡ bs ∷ []
 pieces-last [] h e = absurd (omega arith)
-pieces-last (b ∷ bs) h e = one_line b bs (none_before (b ∷ bs) e)
+pieces-last (b ∷ bs) h e = one_line b bs (none_before (λ c. c == newline) (b ∷ bs) 0 e)
 
 -- the first newline's place has a newline
 pub newline_there : (bs : List ℕ) (i : ℕ) → position (λ b. b == newline) bs ≡ Some i → (i < length bs) × (get_or bs i 0 ≡ newline)

@@ -13,7 +13,7 @@ use Rattle.meta_model.specs.declared.statement.Statement.{Statement}
 use Rattle.meta_model.specs.declared.statement.Statement.TheVariants.{Assign, Flag, Export, Unset, UnsetFlag, ExportFunctions, AddTask, DelTask}
 use Rattle.meta_model.specs.Text.{cuts, newline, is_blank, is_white, is_quote, is_empty, begins_with, skip_blanks, without_last, split_at_first, words, non_empty}
 use Rattle.meta_model.specs.Names.{is_name, is_flag, is_late}
-use Rattle.meta_model.specs.Grammar.{Fit, Quoted, ◌>>=◌, where_true, operators, operator, operation, quoted, behind_word, assignment, flag_of_name, flag_assignment, with_name, flag_unset, with_words, task_of, tasks, part, up_to_part, task_parts, task_names, fit_of, plain_fit}
+use Rattle.meta_model.specs.Grammar.{Fit, Quoted, ◌>>=◌, where_true, operators, operator, operation, quoted, behind_word, assignment, flag_of_name, flag_assignment, with_name, flag_unset, with_words, task_of, tasks, part, up_to_part, task_parts, task_names, fit_of, plain_fit, name_behind_word, words_behind_word}
 use Rattle.meta_model.specs.Statements.{statement_of, statement_of_fit, is_python, is_python_word, is_fakeroot, holds_python, statement_holds_python, has_one_inner_quote, has_reserved_name, statement_is_reserved, is_reserved, is_allowed, is_weak}
 use Rattle.bb_parser.specs.Written.{is_one_line, times_of, is_quotable, is_free_name, is_word, is_task, can_be_written}
 use Rattle.bb_parser.proofs.NameSearch.{wanted, with_char, find-map}
@@ -82,7 +82,7 @@ find-passes p (y ∷ ys) x e = by_case (p y) refl e (find-passes p ys x)
     by_case true t h f = let g : y ≡ x = cc in ap p (sym g) ∙ t
     by_case false t h f = f h
 
-map-some : {A B : Type 0} (f : A → B) (o : Option A) (y : B) → option_map f o ≡ Some y → (x : A) × (o ≡ Some x) × (f x ≡ y)
+pub map-some : {A B : Type 0} (f : A → B) (o : Option A) (y : B) → option_map f o ≡ Some y → (x : A) × (o ≡ Some x) × (f x ≡ y)
 map-some f None y e = cc
 map-some f (Some x) y e = let g : f x ≡ y = cc in (x, refl, g)
 
@@ -209,20 +209,25 @@ flagged-can kind s fit f l e =
     let q = quotable-is n.0.1 d.1.quote d.1.quotes d.1.counts (ap (λ (z : Fit). z.inner == 1) g ∙ f.inner) o (ap statement_holds_python st ∙ f.holds) in
     ap can_be_written (sym st) ∙ three (is_free_name m.0.0) (is_flag m.0.1) (is_quotable n.0.1.text) (free-is m.0.0 w.0 (ap statement_is_reserved st ∙ f.free)) w.1 q
 
+-- what stands behind a word is a name
+name-behind : (word s n : List ℕ) → name_behind_word word s ≡ Some n → is_name n ≡ true
+name-behind word s n e =
+    let m = bind-some (behind_word word s) (λ t. where_true (is_name t) t) n e in
+    let w = where-some (is_name m.0) m.0 n m.2 in
+    ap is_name (sym w.1) ∙ w.0
+
 -- the word and NAME
 pub export-can : (kind : Kind) (s : List ℕ) (fit : Fit) → Fine kind fit → with_name (codes "export") Export s ≡ Some fit → can_be_written fit.statement ≡ true
 export-can kind s fit f e =
-    let m = bind-some (behind_word (codes "export") s) (λ n. where_true (is_name n) (plain_fit (Export n))) fit e in
-    let w = where-some (is_name m.0) (plain_fit (Export m.0)) fit m.2 in
-    let st = ap (λ (z : Fit). z.statement) w.1 in
-    ap can_be_written (sym st) ∙ free-is m.0 w.0 (ap statement_is_reserved st ∙ f.free)
+    let m = map-some (λ n. plain_fit (Export n)) (name_behind_word (codes "export") s) fit e in
+    let st = ap (λ (z : Fit). z.statement) m.2 in
+    ap can_be_written (sym st) ∙ free-is m.0 (name-behind (codes "export") s m.0 m.1) (ap statement_is_reserved st ∙ f.free)
 
 pub unset-can : (kind : Kind) (s : List ℕ) (fit : Fit) → Fine kind fit → with_name (codes "unset") Unset s ≡ Some fit → can_be_written fit.statement ≡ true
 unset-can kind s fit f e =
-    let m = bind-some (behind_word (codes "unset") s) (λ n. where_true (is_name n) (plain_fit (Unset n))) fit e in
-    let w = where-some (is_name m.0) (plain_fit (Unset m.0)) fit m.2 in
-    let st = ap (λ (z : Fit). z.statement) w.1 in
-    ap can_be_written (sym st) ∙ free-is m.0 w.0 (ap statement_is_reserved st ∙ f.free)
+    let m = map-some (λ n. plain_fit (Unset n)) (name_behind_word (codes "unset") s) fit e in
+    let st = ap (λ (z : Fit). z.statement) m.2 in
+    ap can_be_written (sym st) ∙ free-is m.0 (name-behind (codes "unset") s m.0 m.1) (ap statement_is_reserved st ∙ f.free)
 
 -- unset NAME[FLAG]
 pub unset_flag-can : (kind : Kind) (s : List ℕ) (fit : Fit) → Fine kind fit → flag_unset s ≡ Some fit → can_be_written fit.statement ≡ true
@@ -257,9 +262,9 @@ words-are s = kept-words (slice_split is_white s) (pieces-unwhite s)
 
 words-behind : (word s : List ℕ) (make : List (List ℕ) → Option Statement) (fit : Fit) → with_words word make s ≡ Some fit → (t : List ℕ) × (not (is_empty (words t)) ≡ true) × (make (words t) ≡ Some fit.statement)
 words-behind word s make fit e =
-    let m = bind-some (behind_word word s) (λ t. where_true (not (is_empty (words t))) (words t) >>= λ ws. make ws >>= λ st. Some (plain_fit st)) fit e in
-    let n = bind-some (where_true (not (is_empty (words m.0))) (words m.0)) (λ ws. make ws >>= λ st. Some (plain_fit st)) fit m.2 in
-    let w = where-some (not (is_empty (words m.0))) (words m.0) n.0 n.1 in
+    let n = bind-some (words_behind_word word s) (λ ws. make ws >>= λ st. Some (plain_fit st)) fit e in
+    let m = bind-some (behind_word word s) (λ t. where_true (not (is_empty (words t))) (words t)) n.0 n.1 in
+    let w = where-some (not (is_empty (words m.0))) (words m.0) n.0 m.2 in
     let k = bind-some (make n.0) (λ st. Some (plain_fit st)) fit n.2 in
     let g : plain_fit k.0 ≡ fit = cc in
     (m.0, w.0, ap make w.1 ∙ (k.1 ∙ ap (λ (z : Fit). Some z.statement) g))

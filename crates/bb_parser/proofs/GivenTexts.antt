@@ -14,9 +14,8 @@ use Rattle.meta_model.specs.Text.{newline, equals, is_blank, is_white, is_quote,
 use Rattle.meta_model.specs.Names.{is_name}
 use Rattle.meta_model.specs.Lines.{opens_body, without_opening, OrFault, logical_lines}
 use Rattle.meta_model.specs.declared.entry.Op.{Op}
-use Rattle.meta_model.specs.Grammar.{Fit, Quoted, quoted, operator_here, ◌>>=◌, where_true, first_of_two, first_there, operator, operation, behind_word, assignment, flag_assignment, with_name, flag_unset, with_text, with_words, task_parts, task_names, function_head, fit_of, plain_fit}
+use Rattle.meta_model.specs.Grammar.{Fit, Quoted, quoted, operator_here, ◌>>=◌, where_true, first_of_two, first_there, operator, operation, behind_word, assignment, flag_assignment, with_name, flag_unset, with_text, with_words, task_parts, task_names, function_head, fit_of, plain_fit, value_forms_of, directive_forms_of, exported_assignment, text_behind_word}
 use Rattle.meta_model.specs.Statements.{AreStatements, statements, statements_of_lines, with_statement, of_lines, statement_of, body_of, ends_in_body, is_python_word, holds_python, statement_holds_python, statement_is_reserved, is_allowed, first_word, first_or_empty}
-use Rattle.bb_parser.specs.Forms.{value_forms_of, directive_forms_of, exported_assignment}
 use Rattle.bb_parser.specs.Written.{is_one_line, is_free_name, is_python_name, are_whole_lines, begins_unblank, can_follow, line_of_text, can_be_written, IsNowhere}
 use Rattle.bb_parser.proofs.Cuts.{starts-is, ends-is}
 use Rattle.bb_lexer.proofs.Ends.{without_end-stays}
@@ -212,11 +211,12 @@ text-can : (kind : Kind) (w : ℕ) (ws : List ℕ) (make : List ℕ → Statemen
 text-can kind w ws make text fit c d n f l a o e =
     let word = w ∷ ws in
     let s = skip_blanks text in
-    let m = GivenForms.bind-some (behind_word word s) (λ t. where_true (not (is_empty t)) (plain_fit (make t))) fit e in
+    let m = GivenForms.map-some (λ u. plain_fit (make u)) (text_behind_word word s) fit e in
     let t = m.0 in
-    let k = GivenForms.where-some (not (is_empty t)) (plain_fit (make t)) fit m.2 in
-    let st = ap (λ (z : Fit). z.statement) k.1 in
-    let b = behind-parts word s t m.1 in
+    let st = ap (λ (z : Fit). z.statement) m.2 in
+    let k = GivenForms.bind-some (behind_word word s) (λ u. where_true (not (is_empty u)) u) t m.1 in
+    let there = GivenForms.where-some (not (is_empty k.0)) k.0 t k.2 in
+    let b = behind-parts word s t (k.1 ∙ ap Some there.1) in
     let pre = skip-split text in
     let gap = skip-split b.rest in
     let x = pre.0 ++ (word ++ (b.gap ∷ gap.0)) in
@@ -227,7 +227,7 @@ text-can kind w ws make text fit c d n f l a o e =
     let opens = ap opens_body (sym (append_assoc word (32 ∷ []) t)) ∙ opens-behind (word ++ 32 ∷ []) x t (all-append (λ y. not (y == 40)) word (32 ∷ []) (WrittenNames.name_without 40 word refl named) refl) unsigned-x (sym (ap opens_body j) ∙ o) in
     let none = ap operation (sym b.skipped) ∙ no_operation-behind w ws b.gap b.rest n b.blank (sym (ap (assignment false) b.is) ∙ a) in
     let one = (and_parts (is_one_line x) (is_one_line t) (sym (list_all-append (λ y. not (y == newline)) x t) ∙ (sym (ap is_one_line j) ∙ l))).1 in
-    let dark = ap begins_unblank (sym b.skipped) ∙ skip-unblank b.rest (ap (λ z. not (is_empty z)) b.skipped ∙ k.0) in
+    let dark = ap begins_unblank (sym b.skipped) ∙ skip-unblank b.rest (ap (λ z. not (is_empty z)) (b.skipped ∙ sym there.1) ∙ there.0) in
     let held = sym (d t) ∙ (ap statement_holds_python st ∙ f.holds) in
     ap can_be_written (sym st) ∙ (c t ∙ five (begins_unblank t) (is_one_line t) (holds_python t) (is_some (assignment false (line_of_text word t))) (opens_body (line_of_text word t)) dark one held
     (ap is_some (WrittenNames.no_assignment false w ws t n none)) opens)

@@ -1,11 +1,8 @@
 -- What stands before a character and behind it.
-use Rattle.std.proofs.Common.{◌≡◌, ℕ, zero, suc, ◌+◌, ◌<◌, Bool, true, false, cond, not, ◌==◌, List, [], ◌∷◌, length, take, drop, get_or, refl, Some, None, position, arith, le_trans, add-one}
+use Rattle.std.proofs.Common.{◌≡◌, ℕ, zero, suc, ◌+◌, ◌<◌, true, false, ◌==◌, List, [], ◌∷◌, length, take, drop, get_or, refl, Some, None, position, arith, add-one}
 use Rattle.std.proofs.lemmas.List.Quantifiers.{position-Some}
-use Rattle.std.proofs.lemmas.List.Sums.{prefix_len_passes}
-use Rattle.std.proofs.lemmas.Bool.{ltb-false}
-use Rattle.std.specs.List.{position_or_len}
 use Rattle.meta_model.specs.Text.{split_at_first}
-use Rattle.bb_parser.proofs.Tests.{not_false}
+use Rattle.meta_model.proofs.Unfound.{none_before}
 
 first_split : (c : ℕ) (xs : List ℕ) (i : ℕ) → i < length xs → (get_or xs i 0 == c) ≡ true → ((k : ℕ) → k < i → (get_or xs k 0 == c) ≡ false)
     → split_at_first c xs ≡ Some (take i xs, drop (suc i) xs)
@@ -21,11 +18,6 @@ no_split : (c : ℕ) (xs : List ℕ) → ((k : ℕ) → k < length xs → (get_o
 no_split c [] h = refl
 no_split c (x ∷ xs) h = rw (h 0 (omega arith), no_split c xs (λ k lt. h (suc k) (omega arith)))
 
-none_of_cond : (b : Bool) (n : ℕ) → cond b (Some n) None ≡ None → b ≡ false
-none_of_cond true n e = cc
-none_of_cond false n e = refl
-
 -- or nowhere
 pub split_at_first-none : (c : ℕ) (xs : List ℕ) → position (λ b. b == c) xs ≡ None → split_at_first c xs ≡ None
-split_at_first-none c xs e = no_split c xs (λ k lt. let h = ltb-false (position_or_len (λ x. x == c) xs) (length xs) (none_of_cond _ _ e) in
-    not_false (get_or xs k 0 == c) (prefix_len_passes (λ x. not (x == c)) xs k 0 (le_trans lt h)))
+split_at_first-none c xs e = no_split c xs (none_before (λ b. b == c) xs 0 e)

@@ -11,9 +11,8 @@ use Rattle.meta_model.specs.declared.statement.Statement.{Statement}
 use Rattle.meta_model.specs.declared.statement.Statement.TheVariants.{ExportFunctions, AddTask, DelTask}
 use Rattle.meta_model.specs.Text.{newline, is_blank, is_empty, begins_with, skip_blanks, words, is_shell_name}
 use Rattle.meta_model.specs.Lines.{opens_body}
-use Rattle.meta_model.specs.Grammar.{operation, operator, assignment, task_of, tasks, is_part, up_to_part, part, task_parts, task_names}
+use Rattle.meta_model.specs.Grammar.{operation, operator, assignment, task_of, tasks, is_part, up_to_part, part, task_parts, task_names, directive_forms_of}
 use Rattle.bb_parser.specs.Tasks.{is_task_name}
-use Rattle.bb_parser.specs.Forms.{directive_forms_of}
 use Rattle.bb_parser.specs.Written.{is_word, is_task, is_one_line, words_text, part_words, task_words, exports_text}
 use Rattle.bb_parser.proofs.Cuts.{starts-is}
 use Rattle.bb_parser.proofs.WordFacts.{words-white}

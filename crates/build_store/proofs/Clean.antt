@@ -1,9 +1,9 @@
 -- The store's paths are clean, and short enough.
-use Rattle.std.proofs.Common.{◌≡◌, ◌∙◌, sym, ap, subst, refl, ℕ, zero, suc, ◌+◌, ◌*◌, ◌/◌, ◌%◌, ◌<◌, ◌≤◌, ◌⊎◌, inl, inr, List, [], ◌∷◌, ◌++◌, All, Bool, true, false, arith, length, get_or, length-append, lit<, lit≤}
+use Rattle.std.proofs.Common.{◌≡◌, ◌∙◌, sym, ap, subst, refl, ℕ, suc, ◌+◌, ◌*◌, ◌/◌, ◌%◌, ◌<◌, ◌≤◌, ◌⊎◌, inl, inr, List, [], ◌∷◌, All, Bool, true, false, arith, length, length-append, lit<, lit≤}
 use Rattle.std.specs.Prelude.{codes, Contains, slice_index_or, ◌==◌}
-use Rattle.std.specs.List.{AllByRecursion, onto_first}
+use Rattle.std.specs.List.{AllByRecursion}
 use Rattle.std.proofs.lemmas.Bool.Decides.{Decides-eqb}
-use Rattle.std.proofs.lemmas.List.Splits.{slice_split-cons_yes, slice_split-cons_no, slice_split_none, length-slice_split}
+use Rattle.std.proofs.lemmas.List.Splits.{slice_split_none}
 use Rattle.std.proofs.lemmas.List.Elements.{All-append, All-cons, All-nil, All-from_recursion}
 use Rattle.sha2.proofs.Facts256.{length-sha256}
 use Rattle.hex.specs.Hex.{IsBytes, encode_with, encode_lower}
@@ -12,6 +12,8 @@ use Rattle.tree_model.specs.declared.hash.Hash.{Hash}
 use Rattle.tree_model.specs.Hash.{IsHash, hash_text}
 use Rattle.tree_model.specs.Path.{IsClean, IsPart, inside, parts_of}
 use Rattle.tree_model.specs.Tree.{IsTree}
+use Rattle.tree_model.proofs.FolderLemmas.{parts_inside}
+use Rattle.tree_model.proofs.PathLemmas.{no_zero_in}
 use Rattle.meta_model.specs.declared.plan.PlanTask.{PlanTask}
 use Rattle.store_model.specs.Available.{object_folder, task_folder}
 use Rattle.store_model.specs.declared.signature.SigRecord.{SigRecord}
@@ -37,20 +39,6 @@ no_slash (x ∷ xs) e = by (x == 47) refl (no_slash xs)
 
 pub alone : (text : List ℕ) → slashes text ≡ 0 → parts_of text ≡ text ∷ []
 alone text e = slice_split_none (λ b. b == 47) text (All-from_recursion (λ b. (b == 47) ≡ false) text (no_slash text e))
-
-parts_inside : (folder path : List ℕ) → parts_of (inside folder path) ≡ parts_of folder ++ parts_of path
-parts_inside [] path = refl
-parts_inside (x ∷ folder) path = by (parts_inside folder path) (x == 47) refl (parts_of folder) refl
-  where
-    by : parts_of (inside folder path) ≡ parts_of folder ++ parts_of path → (t : Bool) → (x == 47) ≡ t → (ps : List (List ℕ)) → parts_of folder ≡ ps → parts_of (inside (x ∷ folder) path) ≡ parts_of (x ∷ folder) ++ parts_of path
-    by hyp true e ps f =
-        slice_split-cons_yes (λ b. b == 47) x (inside folder path) e ∙ ap (λ l. [] ∷ l) hyp
-        ∙ ap (λ l. l ++ parts_of path) (sym (slice_split-cons_yes (λ b. b == 47) x folder e))
-    by hyp false e [] f = absurd (omega (arith, ap length f, length-slice_split (λ b. b == 47) folder))
-    by hyp false e (p ∷ ps) f =
-        slice_split-cons_no (λ b. b == 47) x (inside folder path) e ∙ ap (onto_first x) (hyp ∙ ap (λ l. l ++ parts_of path) f)
-        ∙ ap (λ l. onto_first x l ++ parts_of path) (sym f)
-        ∙ ap (λ l. l ++ parts_of path) (sym (slice_split-cons_no (λ b. b == 47) x folder e))
 
 -- a clean path in a clean folder
 pub clean_inside : (folder path : List ℕ) → IsClean folder → IsClean path → length (inside folder path) ≤ 4096 → IsClean (inside folder path)
@@ -81,20 +69,6 @@ pub folder_slashes : (task : PlanTask) → HasPlace task → slashes (task_folde
 folder_slashes task has = let e = slashes_inside task.id.pn task.id.task in let a = has.pn.alone in let b = has.task.alone in omega (arith, e, a, b)
 
 -- ---- literal parts
-
-abbrev positive : List ℕ → Bool
-positive [] = true
-positive (zero ∷ xs) = false
-positive (suc x ∷ xs) = positive xs
-
-none_zero : (xs : List ℕ) (k : ℕ) → positive xs ≡ true → k < length xs → get_or xs k 0 ≡ 0 → ⊥
-none_zero [] k p lt e = omega arith
-none_zero (zero ∷ xs) k p lt e = cc
-none_zero (suc x ∷ xs) zero p lt e = let h : suc x ≡ 0 = e in omega arith
-none_zero (suc x ∷ xs) (suc k) p lt e = none_zero xs k p (omega arith) e
-
-no_zero_in : (xs : List ℕ) → positive xs ≡ true → Contains xs 0 → ⊥
-no_zero_in xs p has = none_zero xs has.0 p has.1 has.2
 
 work_clean : IsClean (codes "work")
 work_clean = one_clean (codes "work") (record { not_empty = lit< tt; short = lit≤ tt; not_here = λ e. cc; not_above = λ e. cc; no_zero = λ has. no_zero_in (codes "work") refl has }) refl

@@ -1,14 +1,8 @@
 -- The limits of an output, and what is read of a folder within them.
-use Rattle.std.proofs.Common.{◌≡◌, ◌⊎◌, inl, inr, ◌∙◌, ap, sym, refl, ℕ, zero, suc, ◌<◌, ◌≤◌, Bool, true, false, List, [], ◌∷◌, length, arith, All, get_or, Some, None}
-use Rattle.std.specs.Prelude.{◌||◌, nat_lt, slice_index_or}
+use Rattle.std.proofs.Common.{◌∙◌, ap, ℕ, ◌≤◌, Bool, List, [], ◌∷◌, length, arith, All, Some, None}
+use Rattle.std.specs.Prelude.{◌||◌}
 use Rattle.std.specs.List.{list_any}
-use Rattle.std.specs.Bool.{Decides}
-use Rattle.std.proofs.lemmas.Bool.{false≢true}
-use Rattle.std.proofs.lemmas.Bool.Decides.{Decides-ltb}
-use Rattle.std.proofs.lemmas.List.Folds.{list_any_none}
-use Rattle.tree_model.specs.declared.entry.Entry.{Entry}
-use Rattle.tree_model.specs.declared.tree.Size.{Size}
-use Rattle.tree_model.specs.Size.{Exceeds, size_of}
+use Rattle.tree_model.specs.Size.{size_of}
 use Rattle.outside_traits.specs.Reading.{IsReading}
 use Rattle.outside_traits.specs.Store.{Store}
 use Rattle.meta_model.proofs.Bools.{or_first, or_later}

@@ -1,7 +1,6 @@
 -- What a fault of loading says of what was meant.
 use Rattle.std.specs.Prelude.{◌≡◌, Bool, true, false, [], Option, Some, None, Result, Ok, Err, MatchOption, ⊤}
 use Rattle.std.specs.Option.{option_map}
-use Rattle.datastore.specs.declared.fault.DataFault.{DataFault}
 use Rattle.datastore.specs.Faults.{data_refusal}
 use Rattle.load_model.specs.LoadRefusal.{LoadCause, missing_required, missing_class, include_depth, syntax, no_value, file_bytes, LoadRefusal, refused_at, Place as Where}
 use Rattle.class_inherit.specs.declared.fault.Place.{Place}

@@ -1,6 +1,6 @@
 -- Names, conditions and lines, one after another.
-use Rattle.std.proofs.Common.{◌≡◌, refl, sym, ◌∙◌, ap, subst, ℕ, ◌+◌, ◌<◌, Bool, true, false, not, map, List, [], ◌∷◌, ◌++◌, length, get_or, take, drop, flat_map, filter, Option, Some, None, bytes_eq, Result, Ok, Err, IfErr, append_assoc, append-nil}
-use Rattle.std.proofs.lemmas.List.{drop_more, take_more}
+use Rattle.std.proofs.Common.{◌≡◌, refl, sym, ◌∙◌, ap, subst, ℕ, ◌+◌, ◌<◌, Bool, true, false, not, map, List, [], ◌∷◌, ◌++◌, length, get_or, take, drop, flat_map, filter, Option, Some, None, bytes_eq, Result, Ok, Err, append_assoc, append-nil}
+use Rattle.std.proofs.lemmas.List.{take_more}
 use Rattle.std.proofs.lemmas.List.Concat.{flat_map-append}
 use Rattle.meta_model.specs.declared.entry.EntryLine.{EntryLine}
 use Rattle.meta_model.specs.declared.entry.EntryLine.TheVariants.{Set, Later}
@@ -15,7 +15,9 @@ use Rattle.var_expand.specs.Faults.{IsFaultOf}
 use Rattle.datastore.specs.declared.fault.DataFault.{DataFault}
 use Rattle.datastore.specs.declared.fault.DataFault.TheVariants.{Unstable, Expand, Memory}
 use Rattle.datastore.specs.Faults.{IsDataFault}
-use Rattle.datastore.specs.Telling.{move_of, IsPushed, named_lines, value_lines, flag_lines, flag_told, told_kept, behind, parted}
+use Rattle.datastore.specs.Telling.{move_of, IsPushed, named_lines, value_lines, flag_lines, flag_told, told_kept, parted}
+use Rattle.meta_model.specs.Passing.{behind}
+use Rattle.meta_model.proofs.Passing.{next_of}
 use Rattle.std.specs.BTreeMap.{get_by_text, IsOrdered}
 use Rattle.std.specs.String.{string_cmp}
 use Rattle.meta_model.proofs.Bools.{not_both, or_first, or_later, text_itself}
@@ -88,48 +90,34 @@ fault_same fault m n e h = subst (IsDataFault fault) (sym e) h
 
 -- a list that goes on behind what is there
 
-abbrev pub onto : {A : Type 0} → List A → Result (List A) Refusal → Result (List A) Refusal
-onto before more = more >>= (λ rest. Ok (before ++ rest))
-
-pub onto_begins : {A : Type 0} (more : Result (List A) Refusal) → more ≡ onto [] more
-onto_begins (Ok rest) = refl
-onto_begins (Err refusal) = refl
-
-onto_next : {A : Type 0} (before : List A) (x : A) (more : Result (List A) Refusal) → onto before (more >>= (λ rest. Ok (x ∷ rest))) ≡ onto (before ++ x ∷ []) more
-onto_next before x (Ok rest) = ap Ok (sym (append_assoc before (x ∷ []) rest))
-onto_next before x (Err refusal) = refl
-
-pub onto_ends : {A : Type 0} (before : List A) → onto before (Ok []) ≡ Ok before
-onto_ends before = ap Ok (append-nil before)
+behind_next : {A : Type 0} (before : List A) (x : A) (more : Result (List A) Refusal) → behind before (more >>= (λ rest. Ok (x ∷ rest))) ≡ behind (before ++ x ∷ []) more
+behind_next before x (Ok rest) = ap Ok (sym (append_assoc before (x ∷ []) rest))
+behind_next before x (Err refusal) = refl
 
 -- one more of such a list, which is made of the first of what is left
 pub one_more : {A B : Type 0} (make : B → Result A Refusal) (all : List B → Result (List A) Refusal) → ((b : B) (rest : List B) → all (b ∷ rest) ≡ (make b >>= (λ a. all rest >>= (λ more. Ok (a ∷ more)))))
-    → (before : List A) (b : B) (rest : List B) (a : A) → make b ≡ Ok a → onto before (all (b ∷ rest)) ≡ onto (before ++ a ∷ []) (all rest)
-one_more make all is before b rest a e = ap (onto before) (is b rest ∙ ap (λ m. m >>= (λ x. all rest >>= (λ more. Ok (x ∷ more)))) e) ∙ onto_next before a (all rest)
+    → (before : List A) (b : B) (rest : List B) (a : A) → make b ≡ Ok a → behind before (all (b ∷ rest)) ≡ behind (before ++ a ∷ []) (all rest)
+one_more make all is before b rest a e = ap (behind before) (is b rest ∙ ap (λ m. m >>= (λ x. all rest >>= (λ more. Ok (x ∷ more)))) e) ∙ behind_next before a (all rest)
 
 -- a fault of the first of what is left is one of all
 pub one_fault : {A B : Type 0} (make : B → Result A Refusal) (all : List B → Result (List A) Refusal) → ((b : B) (rest : List B) → all (b ∷ rest) ≡ (make b >>= (λ a. all rest >>= (λ more. Ok (a ∷ more)))))
-    → (whole : Result (List A) Refusal) (before : List A) (b : B) (rest : List B) (fault : DataFault) → whole ≡ onto before (all (b ∷ rest)) → IsDataFault fault (make b) → IsDataFault fault whole
+    → (whole : Result (List A) Refusal) (before : List A) (b : B) (rest : List B) (fault : DataFault) → whole ≡ behind before (all (b ∷ rest)) → IsDataFault fault (make b) → IsDataFault fault whole
 one_fault make all is whole before b rest fault e h =
-    fault_same fault whole (onto before (all (b ∷ rest))) e
+    fault_same fault whole (behind before (all (b ∷ rest))) e
     (fault_on fault (all (b ∷ rest)) (λ more. Ok (before ++ more)) (fault_same fault (all (b ∷ rest)) (make b >>= (λ a. all rest >>= (λ more. Ok (a ∷ more)))) (is b rest) (fault_on fault (make b) (λ a. all rest >>= (λ more. Ok (a ∷ more))) h)))
 
--- what is left of a list
-pub next_of : {B C : Type 0} (all : List B → C) (xs : List B) (i : ℕ) (x : B) → x ≡ get_or xs i x → i < length xs → all (drop i xs) ≡ all (x ∷ drop (i + 1) xs)
-next_of all xs i x is lt = ap all (drop_more xs i x lt ∙ ap (λ y. y ∷ drop (i + 1) xs) (sym is))
-
 -- a fault of the first name that moves is one of all
-pub move_fault : (list : List EntryLine) (whole : Result (List Move) Refusal) (before : List Move) (name : List ℕ) (rest : List (List ℕ)) (fault : DataFault) → whole ≡ onto before (moves list (name ∷ rest))
+pub move_fault : (list : List EntryLine) (whole : Result (List Move) Refusal) (before : List Move) (name : List ℕ) (rest : List (List ℕ)) (fault : DataFault) → whole ≡ behind before (moves list (name ∷ rest))
     → IsDataFault fault (target_of list name (holds_reference name)) → IsDataFault fault whole
 move_fault list whole before name rest fault e h =
-    fault_same fault whole (onto before (moves list (name ∷ rest))) e
+    fault_same fault whole (behind before (moves list (name ∷ rest))) e
     (fault_on fault (moves list (name ∷ rest)) (λ more. Ok (before ++ more)) (fault_on fault (target_of list name (holds_reference name)) (λ target. moves list rest >>= (λ others. Ok (record { source = name; target = target } ∷ others))) h))
 
 -- one more name that moves
 pub move_more : (list : List EntryLine) (before : List Move) (name : List ℕ) (rest : List (List ℕ)) (target : List ℕ) → target_of list name (holds_reference name) ≡ Ok target
-    → onto before (moves list (name ∷ rest)) ≡ onto (before ++ record { source = name; target = target } ∷ []) (moves list rest)
+    → behind before (moves list (name ∷ rest)) ≡ behind (before ++ record { source = name; target = target } ∷ []) (moves list rest)
 move_more list before name rest target e =
-    ap (λ m. onto before (m >>= (λ t. moves list rest >>= (λ others. Ok (record { source = name; target = t } ∷ others))))) e ∙ onto_next before (record { source = name; target = target }) (moves list rest)
+    ap (λ m. behind before (m >>= (λ t. moves list rest >>= (λ others. Ok (record { source = name; target = t } ∷ others))))) e ∙ behind_next before (record { source = name; target = target }) (moves list rest)
 
 -- one more of lists that are put together
 pub flat_turn : {A B : Type 0} (f : A → List B) (xs : List A) (i : ℕ) (x : A) → x ≡ get_or xs i x → i < length xs → flat_map f (take i xs) ++ f x ≡ flat_map f (take (i + 1) xs)
@@ -160,10 +148,6 @@ pub told_ok : (list : List EntryLine) (move : Move) (old middle new : List Entry
 told_ok list move old middle new late e f h =
     behind_at (told_lates list move.target (lates list move.source)) old (named_lines list move) new
     (subst (λ l. behind l (told_lates list move.target (lates list move.source)) ≡ Ok new) e (subst (λ l. behind middle (told_lates list move.target l) ≡ Ok new) f h))
-
-pub if_err_weaker : {T : Type 0} (r : Result T DataFault) (P Q : DataFault → Type 0) → ((fault : DataFault) → P fault → Q fault) → IfErr r P → IfErr r Q
-if_err_weaker (Ok a) P Q f h = tt
-if_err_weaker (Err fault) P Q f h = f fault h
 
 pub told_fault : (list : List EntryLine) (move : Move) (fault : DataFault) → IsDataFault fault (told_lates list move.target (lates list move.source)) → IsDataFault fault (told list move)
 told_fault list move fault h = fault_on fault (told_lates list move.target (lates list move.source)) (λ late. Ok (given (Set move.target Assign) (value_slot list move.source).value ++ given (Set move.target Weak) (value_slot list move.source).weak ++ flat_map (told_flag list move) (flags_of list move.source) ++ late)) h

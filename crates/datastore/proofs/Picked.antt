@@ -1,22 +1,16 @@
 -- Keys of maps in byte order.
-use Rattle.std.proofs.Common.{◌≡◌, refl, sym, ◌∙◌, ap, subst, ℕ, List, [], ◌∷◌, fold, filter, Bool, true, false, ◌||◌, ◌⊎◌, inl, inr, bytes_eq, String, BTreeMap, string_bytes}
+use Rattle.std.proofs.Common.{◌≡◌, refl, sym, ◌∙◌, subst, ℕ, List, [], ◌∷◌, filter, Bool, true, false, inl, inr, bytes_eq, String, BTreeMap, string_bytes}
 use Rattle.std.specs.Global.{Global}
-use Rattle.std.specs.Cmp.Lexicographic.{slice_cmp}
-use Rattle.std.specs.Ordering.{nat_cmp, is_eq, ordering_reverse}
 use Rattle.std.specs.String.{string_cmp}
 use Rattle.std.specs.Map.{lookup, keys_of}
 use Rattle.std.specs.BTreeMap.{is_at, get_by_text, IsOrdered}
 use Rattle.std.specs.List.{AllByRecursion}
 use Rattle.std.specs.List.Sorted.{IsStrictlySortedBy}
-use Rattle.std.specs.declared.cmp.Ordering.{Ordering}
-use Rattle.std.specs.declared.cmp.Ordering.TheVariants.{Less, Equal, Greater}
-use Rattle.std.proofs.lemmas.Cmp.{nat_list_cmp_total}
+use Rattle.std.specs.declared.cmp.Ordering.TheVariants.{Less}
 use Rattle.std.proofs.lemmas.Map.Keys.{sorted_head, sorted_tail}
-use Rattle.std.proofs.lemmas.Map.Lookups.{exact_bytes}
 use Rattle.std.proofs.lemmas.Map.Text.{is_eq-slice_cmp, text_cmp}
-use Rattle.meta_model.proofs.Bools.{not_both, either_way, or_first, same_text, text_itself}
-use Rattle.meta_model.proofs.Winner.{in_filter, filter_passes}
-use Rattle.meta_model.specs.Text.{is_in, is_less, is_before, into_order, in_byte_order}
+use Rattle.meta_model.proofs.Bools.{either_way, or_first, same_text}
+use Rattle.meta_model.specs.Text.{is_in, in_byte_order}
 use Rattle.datastore.specs.Picked.{picked, passes}
 use Rattle.meta_model.specs.Ascending.{Above, Ascending}
 use Rattle.meta_model.proofs.Ordered.{above_not_in, ordered_is}

@@ -5,7 +5,8 @@ use Rattle.std.specs.BTreeMap.{BTreeMap, get_by_text}
 use Rattle.meta_model.specs.declared.entry.EntryLine.{EntryLine}
 use Rattle.meta_model.specs.declared.entry.EntryLine.TheVariants.{Set, Flag, UnsetFlag}
 use Rattle.meta_model.specs.declared.entry.Op.TheVariants.{Set as Assign, Weak}
-use Rattle.meta_model.specs.Refusal.{Refusal, ◌>>=◌}
+use Rattle.meta_model.specs.Passing.{◌>>=◌, behind}
+use Rattle.meta_model.specs.Refusal.{Refusal}
 use Rattle.meta_model.specs.Slot.{Slot}
 use Rattle.meta_model.specs.Frozen.{Move, stays, given, told_flag, lines_where}
 use Rattle.meta_model.specs.Base.{value_slot, flags_of}
@@ -35,10 +36,6 @@ told_kept target flags flag = flag_told target flag (get_by_text flags flag)
 -- the value and the flags of a name as lines of another
 abbrev pub named_lines : List EntryLine → Move → List EntryLine
 named_lines list move = value_lines move.target (value_slot list move.source) ++ flat_map (told_flag list move) (flags_of list move.source)
-
--- more lines, behind those so far
-abbrev pub behind : List EntryLine → Result (List EntryLine) Refusal → Result (List EntryLine) Refusal
-behind before more = more >>= λ lines. Ok (before ++ lines)
 
 -- the lines of names that stay, and of those that move, behind those so far
 abbrev pub parted : List EntryLine → List EntryLine → Result (List (Move × List EntryLine)) Refusal → Result (List EntryLine × List EntryLine) Refusal

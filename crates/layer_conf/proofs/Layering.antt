@@ -4,16 +4,17 @@ use Rattle.std.specs.Option.{option_map}
 use Rattle.meta_model.specs.declared.line.Kind.TheVariants.{Conf}
 use Rattle.load_model.specs.LoadRefusal.{LoadCause, LoadRefusal, Place, refused_at, ◌>>=◌, refused_as}
 use Rattle.load_model.specs.Loading.{Sources, Loaded, entries}
-use Rattle.load_model.specs.Layers.{LayerRefusal, load, no_list, layer_file, layer_at, layers_after, sources_in_layer, starting_with, built_in, configured, layered, flat, Configured, patterns, words_of, config, named_files, in_layer_order}
+use Rattle.load_model.specs.Layers.{LayerRefusal, load, no_list, layer_file, layer_at, layers_after, sources_in_layer, starting_with, built_in, configured, layered, flat, Configured, config, named_files, in_layer_order, layered_from, lists_over, patterns_over, with_lists}
 use Rattle.meta_model.specs.Refusal.{Refusal}
 use Rattle.datastore.specs.declared.fault.DataFault.{DataFault}
 use Rattle.datastore.specs.Faults.{IsDataFault, data_refusal}
-use Rattle.layer_conf.specs.Config.{configured_meant, layered_from, listed_meant, patterns_over, lists_over, with_lists}
+use Rattle.layer_conf.specs.Config.{configured_meant, listed_meant}
 use Rattle.layer_conf.specs.declared.reads.Configured.{Configured as Made}
 use Rattle.class_inherit.specs.declared.fault.LoadFault.{LoadFault}
 use Rattle.class_inherit.specs.Faults.{cause_of, place_of, load_refusal, IsLoadFault}
-use Rattle.recipe_facts.specs.Said.{IsRefused}
-use Rattle.recipe_facts.proofs.Binding.{refused_on, refused_same, goes_on, next_of, said}
+use Rattle.meta_model.specs.Passing.{IsRefused}
+use Rattle.meta_model.proofs.Passing.{refused_on, refused_same, goes_on, next_of}
+use Rattle.recipe_facts.proofs.Binding.{said}
 use Rattle.layer_conf.specs.declared.fault.LayerFault.{LayerFault}
 use Rattle.layer_conf.specs.Faults.{layer_refusal, IsLayerFault}
 
@@ -107,20 +108,14 @@ configured_fault sources start fault made s e h f =
 
 -- the lists
 
-bind_assoc : {A B C E : Type 0} (m : Result A E) (f : A → Result B E) (g : B → Result C E) → ((m >>= f) >>= g) ≡ (m >>= (λ a. f a >>= g))
-bind_assoc (Ok a) f g = refl
-bind_assoc (Err r) f g = refl
-
 pub config_behind : (sources : Sources) (paths : List (List ℕ)) (made : Configured) → configured sources ≡ Ok made → config sources paths ≡ with_lists paths made
-config_behind sources paths made e =
-    goes_on (configured sources) made (λ k. refused_as no_list (words_of k.lines (codes "BBFILES")) >>= λ named. patterns named >>= λ words. Ok (lists_over k words paths)) e
-    ∙ sym (bind_assoc (refused_as no_list (words_of made.lines (codes "BBFILES"))) patterns (λ words. Ok (lists_over made words paths)))
+config_behind sources paths made e = goes_on (configured sources) made (with_lists paths) e
 
 pub lists_are : (paths words : List (List ℕ)) (made : Configured) → patterns_over made.lines ≡ Ok words → with_lists paths made ≡ Ok (lists_over made words paths)
 lists_are paths words made w = goes_on (patterns_over made.lines) words (λ ws. Ok (lists_over made ws paths)) w
 
 pub config_first : (sources : Sources) (paths : List (List ℕ)) (fault : LayerFault) → IsLayerFault fault (configured sources) → IsLayerFault fault (config sources paths)
-config_first sources paths fault h = layer_on fault (configured sources) (λ k. refused_as no_list (words_of k.lines (codes "BBFILES")) >>= λ named. patterns named >>= λ words. Ok (lists_over k words paths)) h
+config_first sources paths fault h = layer_on fault (configured sources) (with_lists paths) h
 
 pub lists_fault : (paths : List (List ℕ)) (made : Configured) (fault : LayerFault) → IsLayerFault fault (patterns_over made.lines) → IsLayerFault fault (with_lists paths made)
 lists_fault paths made fault h = layer_on fault (patterns_over made.lines) (λ words. Ok (lists_over made words paths)) h

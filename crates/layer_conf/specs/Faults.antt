@@ -3,7 +3,7 @@ use Rattle.std.specs.Prelude.{◌≡◌, ◌⊎◌, Bool, true, false, Option, S
 use Rattle.std.specs.Option.{option_map}
 use Rattle.load_model.specs.Layers.{LayerRefusal, no_such_layer, bad_pattern, load, no_list}
 use Rattle.class_inherit.specs.Faults.{is_read, load_refusal}
-use Rattle.recipe_facts.specs.Said.{IsRefused}
+use Rattle.meta_model.specs.Passing.{IsRefused}
 use Rattle.datastore.specs.Faults.{data_refusal}
 use Rattle.layer_conf.specs.declared.fault.LayerFault.{LayerFault}
 use Rattle.layer_conf.specs.declared.fault.LayerFault.TheVariants.{NoSuchLayer, BadPattern, Load, Data, List, Memory}

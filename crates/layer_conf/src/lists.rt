@@ -9,7 +9,8 @@ ghost use Rattle.load_model.specs.Paths.{path_named};
 ghost use Rattle.load_model.specs.Loading.{sources_of};
 ghost use Rattle.load_model.specs.Layers as meant;
 ghost use Rattle.layer_conf.specs.Faults.{layer_refusal, IsLayerFault, layers_failed};
-ghost use Rattle.layer_conf.specs.Config.{config_meant, configured_meant, listed_meant, patterns_over, with_lists, AreGlobs};
+ghost use Rattle.layer_conf.specs.Config.{config_meant, configured_meant, listed_meant, AreGlobs};
+ghost use Rattle.load_model.specs.Layers.{patterns_over, with_lists};
 
 use crate::fault::{LayerFault, data_told};
 use crate::files::named_files;

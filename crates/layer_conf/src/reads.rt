@@ -5,7 +5,8 @@ ghost use Rattle.outside_traits.specs.Fault.{Counts};
 ghost use Rattle.load_model.specs.Loading.{sources_of};
 ghost use Rattle.load_model.specs.Layers as meant;
 ghost use Rattle.layer_conf.specs.Faults.{IsLayerFault, layers_failed};
-ghost use Rattle.layer_conf.specs.Config.{configured_meant, layered_from, layered_over};
+ghost use Rattle.layer_conf.specs.Config.{configured_meant};
+ghost use Rattle.load_model.specs.Layers.{layered_from, layered_over};
 
 use crate::fault::{LayerFault, data_told, load_told, no_such_layer};
 use crate::order::layer_file;

@@ -21,7 +21,7 @@ use Rattle.load_model.specs.Paths.{has_ending}
 use Rattle.load_model.specs.LoadRefusal.{◌>>=◌, require}
 use Rattle.load_model.specs.Loading.{Sources}
 use Rattle.load_model.specs.Layers.{words_of}
-use Rattle.load_model.specs.Recipes.{Recipe, SetRefusal, too_many, asked_of, recipes_read, names_of_files, all_belong}
+use Rattle.load_model.specs.Recipes.{FileName, Recipe, SetRefusal, too_many, asked_of, recipes_read, names_of_files, all_belong}
 
 -- The names that may have a value: those of the entries, and what stands before a colon of one, since a name may have a value
 -- through a form alone. They are in byte order, and the empty name is left out.
@@ -57,13 +57,16 @@ pub record Wishes : Type 0 where
   pub providers : List (List ℕ × List ℕ)
   pub versions : List (List ℕ × List ℕ)
 
-abbrev pub wishes : List EntryLine → Result Wishes Refusal
-wishes config = do
-  lines ← frozen config
+-- what entries say whose names are moved
+abbrev pub wishes_over : List EntryLine → Result Wishes Refusal
+wishes_over lines = do
   assumed ← words_of lines (codes "ASSUME_PROVIDED")
   providers ← family lines (codes "PREFERRED_PROVIDER_")
   versions ← family lines (codes "PREFERRED_VERSION_")
   Ok (record { assumed = assumed; providers = providers; versions = versions })
+
+abbrev pub wishes : List EntryLine → Result Wishes Refusal
+wishes config = frozen config >>= wishes_over
 
 -- The order of recipes of one PN: by version, then by PR, which is compared as a version, then by the bytes of the path (own
 -- rule; the manual's section is "Preferences").
@@ -206,19 +209,33 @@ pub record RecipeSet : Type 0 where
 abbrev pub most_recipes : ℕ
 most_recipes = 2000
 
+-- what some chosen recipes say, with their entries
+abbrev pub set_over : Wishes → List Recipe → Result RecipeSet SetRefusal
+set_over wished picked = do
+  facts ← all_facts picked
+  Ok (record {
+    facts = record { recipes = facts; preferred = wished.providers; assumed = wished.assumed };
+    stores = map (λ r. r.lines) picked;
+  })
+
+-- the set of those that are chosen among some files' recipes
+abbrev pub read_over : Sources → List EntryLine → Wishes → List (List ℕ × FileName) → List (List ℕ) → Result RecipeSet SetRefusal
+read_over sources config wished files appends = recipes_read sources config appends files >>= λ read. set_over wished (all_chosen wished.versions read)
+
+-- the named files of recipes, of which there may not be too many, and to which each append belongs
+abbrev pub files_over : List (List ℕ) → List (List ℕ) → Result (List (List ℕ × FileName)) SetRefusal
+files_over recipes appends = do
+  few ← require (nat_le (length recipes) most_recipes) too_many
+  files ← names_of_files recipes
+  belonging ← all_belong recipes appends
+  Ok files
+
+-- the set under what the configuration says of recipes
+abbrev pub set_under : Sources → List EntryLine → List (List ℕ) → List (List ℕ) → Wishes → Result RecipeSet SetRefusal
+set_under sources config recipes appends wished = files_over recipes appends >>= λ files. read_over sources config wished files appends
+
 -- All recipes, over the configuration, the recipe files in byte order, and the appends in their order. Of several refusals
 -- the first in this order is given: the configuration, the number of files, their names, the appends, each recipe in order,
 -- each chosen recipe in order (own rule).
 abbrev pub recipe_set : Sources → List EntryLine → List (List ℕ) → List (List ℕ) → Result RecipeSet SetRefusal
-recipe_set sources config recipes appends = do
-  wished ← asked_of [] (wishes config)
-  few ← require (nat_le (length recipes) most_recipes) too_many
-  files ← names_of_files recipes
-  belonging ← all_belong recipes appends
-  read ← recipes_read sources config belonging files
-  let picked = all_chosen wished.versions read in do
-    facts ← all_facts picked
-    Ok (record {
-      facts = record { recipes = facts; preferred = wished.providers; assumed = wished.assumed };
-      stores = map (λ r. r.lines) picked;
-    })
+recipe_set sources config recipes appends = asked_of [] (wishes config) >>= set_under sources config recipes appends

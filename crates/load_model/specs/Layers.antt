@@ -96,15 +96,21 @@ pub record Configured : Type 0 where
   pub lines : List EntryLine
   pub layers : List (List ℕ)
 
--- With layers: `conf/bblayers.conf`, then each layer's `conf/layer.conf` in the order of BBLAYERS, then `conf/bitbake.conf`,
--- which has to be there (BitBake User Manual, "Execution", section "Parsing the Base Configuration Metadata").
-abbrev pub layered : Sources → Result Configured LayerRefusal
-layered sources = do
-  first ← refused_as load (entries sources Conf (codes "conf/bblayers.conf") (starting_with built_in))
-  layers ← refused_as no_list (words_of first.lines (codes "BBLAYERS"))
+-- the configuration behind its first file, with these layers
+abbrev pub layered_over : Sources → Loaded → List (List ℕ) → Result Configured LayerRefusal
+layered_over sources first layers = do
   all ← layers_after sources layers first
   last ← bitbake_conf sources true all
   Ok (record { lines = last.lines; layers = layers })
+
+-- the configuration behind its first file
+abbrev pub layered_from : Sources → Loaded → Result Configured LayerRefusal
+layered_from sources first = refused_as no_list (words_of first.lines (codes "BBLAYERS")) >>= λ layers. layered_over sources first layers
+
+-- With layers: `conf/bblayers.conf`, then each layer's `conf/layer.conf` in the order of BBLAYERS, then `conf/bitbake.conf`,
+-- which has to be there (BitBake User Manual, "Execution", section "Parsing the Base Configuration Metadata").
+abbrev pub layered : Sources → Result Configured LayerRefusal
+layered sources = refused_as load (entries sources Conf (codes "conf/bblayers.conf") (starting_with built_in)) >>= layered_from sources
 
 -- Without layers `conf/bitbake.conf` may be missing (own rule).
 abbrev pub flat : Sources → Result Configured LayerRefusal
@@ -167,15 +173,22 @@ pub record Config : Type 0 where
   pub recipes : List (List ℕ)
   pub appends : List (List ℕ)
 
--- Over the paths of all files: those that the words of BBFILES name.
+-- the words of BBFILES, none of which holds a `[`
+abbrev pub patterns_over : List EntryLine → Result (List (List ℕ)) LayerRefusal
+patterns_over lines = refused_as no_list (words_of lines (codes "BBFILES")) >>= patterns
+
+-- the configuration with its lists: of the paths of all files those that these words name
+abbrev pub lists_over : Configured → List (List ℕ) → List (List ℕ) → Config
+lists_over made words paths = record {
+  lines = made.lines;
+  layers = made.layers;
+  recipes = named_files words (codes ".bb") paths;
+  appends = in_layer_order made.layers (named_files words (codes ".bbappend") paths);
+}
+
+-- the configuration with its lists over the paths of all files
+abbrev pub with_lists : List (List ℕ) → Configured → Result Config LayerRefusal
+with_lists paths made = patterns_over made.lines >>= λ words. Ok (lists_over made words paths)
+
 abbrev pub config : Sources → List (List ℕ) → Result Config LayerRefusal
-config sources paths = do
-  made ← configured sources
-  named ← refused_as no_list (words_of made.lines (codes "BBFILES"))
-  globs ← patterns named
-  Ok (record {
-    lines = made.lines;
-    layers = made.layers;
-    recipes = named_files globs (codes ".bb") paths;
-    appends = in_layer_order made.layers (named_files globs (codes ".bbappend") paths);
-  })
+config sources paths = configured sources >>= with_lists paths

@@ -1,5 +1,6 @@
 -- Why files can't be loaded, and how refusals are passed on.
-use Rattle.std.specs.Prelude.{ℕ, Bool, true, false, List, [], Option, Some, None, Result, Ok, Err, ⊤}
+use Rattle.std.specs.Prelude.{ℕ, List, [], Option, Some, None, Result, Ok, Err}
+pub use Rattle.meta_model.specs.Passing.{◌>>=◌, require}
 use Rattle.meta_model.specs.declared.line.SyntaxFault.{SyntaxFault}
 use Rattle.meta_model.specs.Refusal.{Refusal}
 
@@ -30,12 +31,6 @@ pub record LoadRefusal : Type 0 where
 abbrev pub refused_at : Place → LoadCause → LoadRefusal
 refused_at place cause = record { file = place.file; line = place.line; cause = cause }
 
--- what follows, where this is no refusal
-infixl 20 ◌>>=◌
-abbrev pub ◌>>=◌ : {A B E : Type 0} → Result A E → (A → Result B E) → Result B E
-Ok a >>= f = f a
-Err refusal >>= f = Err refusal
-
 -- the same with another refusal
 abbrev pub refused_as : {A E F : Type 0} → (E → F) → Result A E → Result A F
 refused_as f (Ok a) = Ok a
@@ -44,11 +39,6 @@ refused_as f (Err refusal) = Err (f refusal)
 -- a value that is asked for at a place
 abbrev pub asked_at : {A : Type 0} → Place → Result A Refusal → Result A LoadRefusal
 asked_at place result = refused_as (λ refusal. refused_at place (no_value refusal)) result
-
--- a refusal, unless the test passes
-abbrev pub require : {E : Type 0} → Bool → E → Result ⊤ E
-require true refusal = Ok tt
-require false refusal = Err refusal
 
 -- what is there, or a refusal
 abbrev pub there : {A E : Type 0} → E → Option A → Result A E

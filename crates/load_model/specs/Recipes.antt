@@ -72,16 +72,25 @@ with_inherit sources loaded = do
   names ← asked_at nowhere (words_of loaded.lines (codes "INHERIT"))
   classes_after (read_first sources) sources nowhere true names loaded
 
--- The entries of a recipe, in this order (own rule): the configuration; PN, PV, PR, FILE and THISDIR; class `base`, where it is
--- there; the classes of INHERIT; the recipe; its appends; FILE and THISDIR of the recipe again (BitBake User Manual,
--- "Execution", section "Locating and Parsing Recipes").
-abbrev pub recipe_entries : Sources → List EntryLine → List ℕ → FileName → List (List ℕ) → Result Loaded LoadRefusal
-recipe_entries sources config path name appends = do
-  based ← class_entries sources false (codes "base") (starting_with (config ++ (name_lines name ++ file_lines path)))
-  inherited ← with_inherit sources based
-  own ← entries sources RecipeFile path inherited
-  whole ← appended sources (appends_of path appends) own
+-- class `base`, where it is there, and the classes of INHERIT
+abbrev pub classes_read : Sources → Loaded → Result Loaded LoadRefusal
+classes_read sources loaded = class_entries sources false (codes "base") loaded >>= λ based. with_inherit sources based
+
+-- the recipe's file, these appends, and the recipe's FILE and THISDIR again
+abbrev pub files_read : Sources → List ℕ → List (List ℕ) → Loaded → Result Loaded LoadRefusal
+files_read sources path appends loaded = do
+  own ← entries sources RecipeFile path loaded
+  whole ← appended sources appends own
   Ok (with_lines (file_lines path) whole)
+
+-- The entries of a recipe with these appends, in this order (own rule): the configuration; PN, PV, PR, FILE and THISDIR; the
+-- classes; the files (BitBake User Manual, "Execution", section "Locating and Parsing Recipes").
+abbrev pub entries_with : Sources → List EntryLine → List ℕ → FileName → List (List ℕ) → Result Loaded LoadRefusal
+entries_with sources config path name appends =
+    classes_read sources (starting_with (config ++ (name_lines name ++ file_lines path))) >>= λ inherited. files_read sources path appends inherited
+
+abbrev pub recipe_entries : Sources → List EntryLine → List ℕ → FileName → List (List ℕ) → Result Loaded LoadRefusal
+recipe_entries sources config path name appends = entries_with sources config path name (appends_of path appends)
 
 -- Why recipes can't be read: a file's name or the PN is none; an append belongs to no recipe; a file can't be loaded; there
 -- are more than 2,000 recipe files; a value of the file, or, without a file, of the configuration, is refused.
@@ -107,20 +116,35 @@ pub record Recipe : Type 0 where
 abbrev pub text_of : List EntryLine → List ℕ → Result (List ℕ) Refusal
 text_of lines name = value lines name >>= λ text. Ok (unwrap_or text [])
 
--- The name counts as it is after all files (own rule).
-abbrev pub recipe_of : List ℕ → List EntryLine → Result Recipe SetRefusal
-recipe_of path lines = do
+-- the three values of a recipe's name
+abbrev pub three_values : List ℕ → List EntryLine → Result FileName SetRefusal
+three_values path lines = do
   pn ← asked_of path (text_of lines (codes "PN"))
   pv ← asked_of path (text_of lines (codes "PV"))
   pr ← asked_of path (text_of lines (codes "PR"))
-  good ← require (is_pn pn) (bad_name path)
-  Ok (record { file = path; pn = pn; pv = pv; pr = pr; lines = lines })
+  Ok (record { pn = pn; pv = pv; pr = pr })
+
+-- a name whose PN is one
+abbrev pub good_name : List ℕ → FileName → Result FileName SetRefusal
+good_name path name = require (is_pn name.pn) (bad_name path) >>= λ good. Ok name
+
+-- The name of a recipe with these entries. It counts as it is after all files (own rule).
+abbrev pub name_in : List ℕ → List EntryLine → Result FileName SetRefusal
+name_in path lines = three_values path lines >>= good_name path
+
+-- a recipe of this name
+abbrev pub recipe_with : List ℕ → List EntryLine → FileName → Recipe
+recipe_with path lines name = record { file = path; pn = name.pn; pv = name.pv; pr = name.pr; lines = lines }
+
+abbrev pub recipe_of : List ℕ → List EntryLine → Result Recipe SetRefusal
+recipe_of path lines = name_in path lines >>= λ name. Ok (recipe_with path lines name)
+
+-- the recipe of what was read for it
+abbrev pub recipe_over : List ℕ → Loaded → Result Recipe SetRefusal
+recipe_over path loaded = asked_of path (frozen loaded.lines) >>= λ lines. recipe_of path lines
 
 abbrev pub recipe_read : Sources → List EntryLine → List (List ℕ) → List ℕ → FileName → Result Recipe SetRefusal
-recipe_read sources config appends path name = do
-  loaded ← refused_as load (recipe_entries sources config path name appends)
-  lines ← asked_of path (frozen loaded.lines)
-  recipe_of path lines
+recipe_read sources config appends path name = refused_as load (recipe_entries sources config path name appends) >>= λ loaded. recipe_over path loaded
 
 abbrev pub recipes_read : Sources → List EntryLine → List (List ℕ) → List (List ℕ × FileName) → Result (List Recipe) SetRefusal
 recipes_read sources config appends [] = Ok []
@@ -129,13 +153,16 @@ recipes_read sources config appends (file ∷ rest) = do
   others ← recipes_read sources config appends rest
   Ok (first ∷ others)
 
--- the files' names, each of which has to be one
+-- a file's path with what its name says, which has to be a name
+abbrev pub file_named : List ℕ → Result (List ℕ × FileName) SetRefusal
+file_named path = there (bad_name path) (name_of_file path) >>= λ name. Ok (path, name)
+
 abbrev pub names_of_files : List (List ℕ) → Result (List (List ℕ × FileName)) SetRefusal
 names_of_files [] = Ok []
 names_of_files (path ∷ paths) = do
-  name ← there (bad_name path) (name_of_file path)
+  file ← file_named path
   others ← names_of_files paths
-  Ok ((path, name) ∷ others)
+  Ok (file ∷ others)
 
 -- An append that belongs to no recipe is refused (own rule).
 abbrev pub all_belong : List (List ℕ) → List (List ℕ) → Result (List (List ℕ)) SetRefusal

@@ -1,9 +1,7 @@
 -- Where a text is cut at its first byte that doesn't stand as it is, in any way of escaping.
-use Rattle.std.proofs.Common.{◌≡◌, sym, refl, ◌∙◌, ap, arith, ℕ, zero, suc, ◌+◌, ◌<◌, Bool, true, false, cond, not, List, [], ◌∷◌, ◌++◌, length, take, drop, get_or, Some, None, position, le_trans, append_assoc, add-one, flat_map}
-use Rattle.std.specs.List.{position_or_len}
+use Rattle.std.proofs.Common.{◌≡◌, sym, refl, ◌∙◌, ap, arith, ℕ, zero, suc, ◌+◌, ◌<◌, Bool, false, List, [], ◌∷◌, ◌++◌, length, take, drop, get_or, Some, None, position, append_assoc, add-one, flat_map}
 use Rattle.std.proofs.lemmas.List.Quantifiers.{position-Some}
-use Rattle.std.proofs.lemmas.List.Sums.{prefix_len_passes}
-use Rattle.std.proofs.lemmas.Bool.{ltb-false}
+use Rattle.meta_model.proofs.Unfound.{none_before}
 
 module _ (is_special : ℕ → Bool) (escape : ℕ → List ℕ) (plain : (c : ℕ) → is_special c ≡ false → escape c ≡ c ∷ []) where
   escaped_before : (bs : List ℕ) (i : ℕ) → i < length bs → ((k : ℕ) → k < i → is_special (get_or bs k 0) ≡ false) → flat_map escape bs ≡ take i bs ++ (escape (get_or bs i 0) ++ flat_map escape (drop (suc i) bs))
@@ -13,25 +11,13 @@ module _ (is_special : ℕ → Bool) (escape : ℕ → List ℕ) (plain : (c : �
       ap (λ l. l ++ flat_map escape bs) (plain b (before 0 (omega arith)))
       ∙ ap (λ l. b ∷ l) (escaped_before bs i (omega arith) (λ k h. before (suc k) (omega arith)))
 
-  none_of_cond : (b : Bool) (n : ℕ) → cond b (Some n) None ≡ None → b ≡ false
-  none_of_cond true n e = cc
-  none_of_cond false n e = refl
-
-  false_of_not : (b : Bool) → not b ≡ true → b ≡ false
-  false_of_not true e = sym e
-  false_of_not false e = refl
-
-  none_before : (bs : List ℕ) → position is_special bs ≡ None → (k : ℕ) → k < length bs → is_special (get_or bs k 0) ≡ false
-  none_before bs e k lt = let h = ltb-false (position_or_len is_special bs) (length bs) (none_of_cond _ _ e) in
-      false_of_not (is_special (get_or bs k 0)) (prefix_len_passes (λ x. not (is_special x)) bs k 0 (le_trans lt h))
-
   escaped_plain : (bs : List ℕ) → ((k : ℕ) → k < length bs → is_special (get_or bs k 0) ≡ false) → flat_map escape bs ≡ bs
   escaped_plain [] h = refl
   escaped_plain (b ∷ bs) h = ap (λ l. l ++ flat_map escape bs) (plain b (h 0 (omega arith))) ∙ ap (λ l. b ∷ l) (escaped_plain bs (λ k lt. h (suc k) (omega arith)))
 
   -- the last piece
   pub escaped_last : (bs made old new whole : List ℕ) → None ≡ position is_special bs → made ++ flat_map escape bs ≡ old ++ flat_map escape whole → new ≡ made ++ bs → new ≡ old ++ flat_map escape whole
-  escaped_last bs made old new whole e i n = n ∙ ap (λ l. made ++ l) (sym (escaped_plain bs (none_before bs (sym e)))) ∙ i
+  escaped_last bs made old new whole e i n = n ∙ ap (λ l. made ++ l) (sym (escaped_plain bs (none_before is_special bs 0 (sym e)))) ∙ i
 
   -- one piece and the byte behind it
   pub escaped_step : (rest piece byte after made next new : List ℕ) (i : ℕ) → Some i ≡ position is_special rest → piece ≡ take i rest → next ≡ made ++ piece → byte ≡ escape (get_or rest i 0) → new ≡ next ++ byte → after ≡ drop (i + 1) rest

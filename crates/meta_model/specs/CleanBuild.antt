@@ -9,13 +9,7 @@ use Rattle.meta_model.specs.declared.event.Why.{Why}
 use Rattle.meta_model.specs.declared.event.Why.TheVariants as why
 use Rattle.meta_model.specs.declared.plan.PlanTask.{PlanTask}
 use Rattle.meta_model.specs.Layout as laid
-
-abbrev pub Entries : Type 0
-Entries = List (List ℕ × Entry)
-
--- what each script makes of each tree: another tree, or the status with which it fails
-abbrev pub Gives : Type 0
-Gives = List ℕ → Entries → Result Entries ℕ
+pub use Rattle.tree_model.specs.Entries.{Entries, Gives}
 
 -- the most entries of an output, the most bytes of one of them, and of all together
 abbrev pub output_limit : Size

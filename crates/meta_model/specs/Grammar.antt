@@ -1,5 +1,5 @@
 -- The forms of a logical line.
-use Rattle.std.specs.Prelude.{ℕ, Bool, true, false, not, ◌&&◌, ◌||◌, List, [], ◌∷◌, ◌++◌, map, length, take, drop, Option, Some, None, ◌==◌, nat_le, if◌then◌else◌, is_some, count_by, find, take_while, codes, bytes_eq}
+use Rattle.std.specs.Prelude.{ℕ, Bool, true, false, not, ◌&&◌, ◌||◌, List, [], ◌∷◌, ◌++◌, map, length, take, drop, Option, Some, None, ◌==◌, nat_le, if◌then◌else◌, is_some, count_by, find, take_while, codes, bytes_eq, option_map}
 use Rattle.std.specs.List.{list_any, list_all, after_first}
 use Rattle.meta_model.specs.declared.entry.Op.{Op}
 use Rattle.meta_model.specs.declared.entry.Op.TheVariants.{Set, Now, Soft, Weak, AddBlank, PutBlank, Add, Put}
@@ -94,9 +94,13 @@ flag_assignment s = do
   o ← operation n.2
   Some (record { statement = Flag n.0 n.1 o.0 o.1.text; inner = o.1.inner })
 
+-- the name behind a word
+abbrev pub name_behind_word : List ℕ → List ℕ → Option (List ℕ)
+name_behind_word word s = behind_word word s >>= λ n. where_true (is_name n) n
+
 -- the word and NAME: `export NAME` ("Exporting Variables to the Environment"), `unset NAME` ("Unsetting variables")
 abbrev pub with_name : List ℕ → (List ℕ → Statement) → List ℕ → Option Fit
-with_name word make s = behind_word word s >>= λ n. where_true (is_name n) (plain_fit (make n))
+with_name word make s = option_map (λ n. plain_fit (make n)) (name_behind_word word s)
 
 -- unset NAME[FLAG]
 abbrev pub flag_unset : List ℕ → Option Fit
@@ -105,18 +109,22 @@ flag_unset s = do
   n ← flag_of_name rest
   where_true (is_empty n.2) (plain_fit (UnsetFlag n.0 n.1))
 
--- the word and TEXT, which has at least one character: `include`, `require` and `inherit` ("include Directive",
+-- the text behind a word, which has at least one character
+abbrev pub text_behind_word : List ℕ → List ℕ → Option (List ℕ)
+text_behind_word word s = behind_word word s >>= λ t. where_true (not (is_empty t)) t
+
+-- the word and TEXT: `include`, `require` and `inherit` ("include Directive",
 -- "require Directive", "inherit Directive")
 abbrev pub with_text : List ℕ → (List ℕ → Statement) → List ℕ → Option Fit
-with_text word make s = behind_word word s >>= λ t. where_true (not (is_empty t)) (plain_fit (make t))
+with_text word make s = option_map (λ t. plain_fit (make t)) (text_behind_word word s)
 
--- the word and WORDS, of which there is at least one
+-- the words behind a word, of which there is at least one
+abbrev pub words_behind_word : List ℕ → List ℕ → Option (List (List ℕ))
+words_behind_word word s = behind_word word s >>= λ t. where_true (not (is_empty (words t))) (words t)
+
+-- the word and WORDS
 abbrev pub with_words : List ℕ → (List (List ℕ) → Option Statement) → List ℕ → Option Fit
-with_words word make s = do
-  t ← behind_word word s
-  ws ← where_true (not (is_empty (words t))) (words t)
-  statement ← make ws
-  Some (plain_fit statement)
+with_words word make s = words_behind_word word s >>= λ ws. make ws >>= λ statement. Some (plain_fit statement)
 
 -- A task's name gets `do_` in front where it lacks it, and must then be a shell name of at most 255 bytes (own rule).
 abbrev pub task_of : List ℕ → List ℕ
@@ -161,21 +169,32 @@ function_head body s = do
   n ← where_true (is_name (without_end is_blank head)) (without_end is_blank head)
   Some (plain_fit (Function n body))
 
--- The statement of a line, whatever the file's kind: the first of these forms that the line fits, inner quotes aside.
--- A line that opens a body can be a function's head alone. Blanks before a line are skipped (own rules).
-unfoldable pub fit_of : List ℕ → List ℕ → Option Fit
-fit_of text body = let s = skip_blanks text in
-    if opens_body text then function_head body s
-    else first_there (assignment false s
-    ∷ (behind_word (codes "export") s >>= assignment true)
+-- `export` and an assignment
+abbrev pub exported_assignment : List ℕ → Option Fit
+exported_assignment s = behind_word (codes "export") s >>= assignment true
+
+-- the first form that fits, of those that give something to a name
+abbrev pub value_forms_of : List ℕ → Option Fit
+value_forms_of s = first_there (assignment false s
+    ∷ exported_assignment s
     ∷ flag_assignment s
     ∷ with_name (codes "export") Export s
     ∷ with_name (codes "unset") Unset s
     ∷ flag_unset s
-    ∷ with_text (codes "include") Include s
+    ∷ [])
+
+-- the first form that fits, of those with a text or words behind a word of the language
+abbrev pub directive_forms_of : List ℕ → Option Fit
+directive_forms_of s = first_there (with_text (codes "include") Include s
     ∷ with_text (codes "require") Require s
     ∷ with_text (codes "inherit") Inherit s
     ∷ with_words (codes "EXPORT_FUNCTIONS") (λ ws. Some (ExportFunctions ws)) s
     ∷ with_words (codes "addtask") task_parts s
     ∷ with_words (codes "deltask") task_names s
     ∷ [])
+
+-- The statement of a line, whatever the file's kind: the first of these forms that the line fits, inner quotes aside.
+-- A line that opens a body can be a function's head alone. Blanks before a line are skipped (own rules).
+unfoldable pub fit_of : List ℕ → List ℕ → Option Fit
+fit_of text body = let s = skip_blanks text in
+    if opens_body text then function_head body s else first_of_two (value_forms_of s) (directive_forms_of s)

@@ -1,5 +1,6 @@
--- Why a value is refused, and how refusals are passed on.
-use Rattle.std.specs.Prelude.{ℕ, Bool, true, false, List, Result, Ok, Err, ⊤}
+-- Why a value is refused.
+use Rattle.std.specs.Prelude.{ℕ, List}
+pub use Rattle.meta_model.specs.Passing.{◌>>=◌, require}
 
 -- There are four causes (own rules): a name is met in its own expansion; more than 64 names would be in expansion at
 -- once, or a text nests references more than 64 deep; an expanded text would have more than 1,048,576 bytes; the passes of
@@ -10,14 +11,3 @@ pub data Refusal : Type 0 where
   too_deep : (name : List ℕ) → Refusal
   too_long : (name : List ℕ) → Refusal
   unstable : (before last : List (List ℕ)) → Refusal
-
--- what follows, where this is no refusal
-infixl 20 ◌>>=◌
-abbrev pub ◌>>=◌ : {A B : Type 0} → Result A Refusal → (A → Result B Refusal) → Result B Refusal
-Ok a >>= f = f a
-Err refusal >>= f = Err refusal
-
--- a refusal, unless the test passes
-abbrev pub require : Bool → Refusal → Result ⊤ Refusal
-require true refusal = Ok tt
-require false refusal = Err refusal

@@ -29,6 +29,7 @@ mod event;
 mod facts;
 mod grammar_examples;
 mod graph_examples;
+mod in_order;
 mod laws;
 mod line;
 mod list;
@@ -40,6 +41,7 @@ mod value_examples;
 pub use entry::{EntryLine, Late, LateLine, Op};
 pub use event::{Avail, Cut, Event, Logged, Status, Why};
 pub use facts::{FactSet, Graph, Node, Package, RecipeFacts, Target, TaskFacts, TaskId};
+pub use in_order::put_in_order;
 pub use laws::{
     build_laws, entry_laws, expansion_laws, one_meaning, reading_laws, step_laws, winning_laws,
 };

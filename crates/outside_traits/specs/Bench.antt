@@ -9,13 +9,7 @@ use Rattle.outside_traits.specs.declared.bench.Taken.TheVariants.{Tree, TooLarge
 use Rattle.outside_traits.specs.declared.fault.BenchFault.{BenchFault}
 use Rattle.outside_traits.specs.declared.fault.BenchFault.TheVariants.{Failed, Memory}
 use Rattle.outside_traits.specs.Store.{put, IsFree}
-
-abbrev pub Entries : Type 0
-Entries = List (List ℕ × Entry)
-
--- What a script makes of a tree: another tree, or the status with which it fails.
-abbrev pub Gives : Type 0
-Gives = List ℕ → Entries → Result Entries ℕ
+pub use Rattle.tree_model.specs.Entries.{Entries, Gives}
 
 -- The tree that is laid so far, whether the bench was cleared since its last run, the tree of the last run since it was
 -- cleared, where that run answered 0, and the runs so far, each a script with the tree that was laid for it.

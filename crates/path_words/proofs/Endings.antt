@@ -1,9 +1,9 @@
 -- Texts without their endings.
-use Rattle.std.proofs.Common.{◌≡◌, refl, sym, ◌∙◌, ap, subst, ℕ, ◌+◌, ◌-◌, ◌≤◌, arith, List, length, take, Bool, true, false, Option, Some, None, MatchOption, Bor}
+use Rattle.std.proofs.Common.{◌≡◌, refl, sym, ◌∙◌, ap, subst, ℕ, ◌+◌, ◌-◌, ◌≤◌, arith, List, length, take, true, false, Option, Some, None, MatchOption, Bor}
 use Rattle.std.specs.Str.{IsCharBoundary}
 use Rattle.std.specs.Str.Pattern.{FindsTextSuffix}
 use Rattle.std.proofs.lemmas.Str.Pattern.{ends_text}
-use Rattle.load_model.specs.Paths.{has_ending, without_ending}
+use Rattle.load_model.specs.Paths.{without_ending}
 
 -- what is left of a text where its ending is stripped, or where it isn't there
 abbrev pub left_of : List ℕ → Option (Bor (List ℕ)) → List ℕ

@@ -1,11 +1,10 @@
 -- Where a path is cut at its slashes.
-use Rattle.std.proofs.Common.{◌≡◌, ◌≢◌, refl, ap, sym, ◌∙◌, ℕ, ◌<◌, ◌-◌, ◌≤◌, suc, arith, List, [], ◌∷◌, ◌++◌, length, get_or, Some, None, Option, MatchOption, Bor, ne_eqb, reverse, take, drop, fold, Bool, true, false, not, ◌||◌, append_assoc}
-use Rattle.std.specs.List.{slice_split, after_first, list_any, join_with_byte, suffix_len}
-use Rattle.std.proofs.lemmas.List.{reverse-append}
+use Rattle.std.proofs.Common.{◌≡◌, ◌≢◌, refl, ap, sym, ◌∙◌, ℕ, ◌<◌, ◌≤◌, suc, arith, List, [], ◌∷◌, ◌++◌, length, get_or, Some, None, Option, MatchOption, Bor, ne_eqb, fold, Bool, true, false, not, ◌||◌, append_assoc}
+use Rattle.std.specs.List.{after_first, list_any, join_with_byte}
 use Rattle.std.proofs.lemmas.List.Splits.{slice_split_first}
 use Rattle.std.proofs.lemmas.Str.Pattern.{IsSplitOnceResult, split_once_first, split_parts}
 use Rattle.tree_model.specs.Path.{parts_of}
-use Rattle.load_model.specs.Paths.{slash, is_slash, further, above}
+use Rattle.load_model.specs.Paths.{slash, is_slash, further}
 
 uncut : (bs : List ℕ) → ((k : ℕ) → k < length bs → get_or bs k 0 ≢ slash) → parts_of bs ≡ bs ∷ []
 uncut [] h = refl

@@ -7,7 +7,7 @@ use Rattle.meta_model.specs.declared.statement.Statement.{Statement}
 use Rattle.meta_model.specs.declared.statement.Statement.TheVariants.{Assign, Flag, Export, Unset, UnsetFlag, Include, Require, Inherit, Function, ExportFunctions, AddTask, DelTask}
 use Rattle.load_model.specs.LoadRefusal.{◌>>=◌, refused_as}
 use Rattle.load_model.specs.Loading.{Sources, Contents, Loaded, sources_of, entries, searched_entries}
-use Rattle.load_model.specs.Layers.{LayerRefusal, no_such_layer, load, no_list, built_in, flat_files, statement_in_layer, contents_in_layer, sources_in_layer, layer_file, layer_at, layers_after, words_of, starting_with, bitbake_conf, Configured, layered, flat, configured, patterns, named_files, in_layer_order, Config, config}
+use Rattle.load_model.specs.Layers.{LayerRefusal, no_such_layer, load, no_list, built_in, flat_files, statement_in_layer, contents_in_layer, sources_in_layer, layer_file, layer_at, layers_after, words_of, starting_with, bitbake_conf, Configured, layered, flat, configured, patterns_over, lists_over, with_lists, Config, config}
 use Rattle.plan_model.specs.Names.{AddsGoodTasks, HaveGoodTasks, AddGoodTasks}
 use Rattle.plan_model.specs.Sound.{ProjectHasGoodNames}
 use Rattle.plan_model.proofs.Planning.{ok_parts, ok_as, same_ok}
@@ -94,14 +94,9 @@ module _ (sources : Sources) (adds : AddGoodTasks sources) where
 
   config_good : (paths : List (List ℕ)) (made : Config) → config sources paths ≡ Ok made → HaveGoodTasks made.lines
   config_good paths made e =
-      let third = λ (c : Configured) (globs : List (List ℕ)). let r : Result Config LayerRefusal = Ok (record { lines = c.lines; layers = c.layers; recipes = named_files globs (codes ".bb") paths; appends = in_layer_order c.layers (named_files globs (codes ".bbappend") paths) }) in r in
-      let second = λ (c : Configured) (words : List (List ℕ)). patterns words >>= third c in
-      let first = λ (c : Configured). refused_as no_list (words_of c.lines (codes "BBFILES")) >>= second c in
-      let c = ok_parts (configured sources) first made e in
-      let words = ok_parts (refused_as no_list (words_of c.0.lines (codes "BBFILES"))) (second c.0) made c.2 in
-      let globs = ok_parts (patterns words.0) (third c.0) made words.2 in
-      let same = same_ok {E = LayerRefusal} (record { lines = c.0.lines; layers = c.0.layers; recipes = named_files globs.0 (codes ".bb") paths; appends = in_layer_order c.0.layers (named_files globs.0 (codes ".bbappend") paths) }) made globs.2 in
-      subst HaveGoodTasks (ap (λ (k : Config). k.lines) same) (configured_good c.0 c.1)
+      let c = ok_parts (configured sources) (with_lists paths) made e in
+      let words = ok_parts (patterns_over c.0.lines) (λ words. let r : Result Config LayerRefusal = Ok (lists_over c.0 words paths) in r) made c.2 in
+      subst HaveGoodTasks (ap (λ (k : Config). k.lines) (same_ok {E = LayerRefusal} (lists_over c.0 words.0 paths) made words.2)) (configured_good c.0 c.1)
 
 pub project_has_good_names : ProjectHasGoodNames
 project_has_good_names files paths made set e f =

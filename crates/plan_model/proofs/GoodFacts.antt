@@ -1,5 +1,5 @@
 -- Recipes and tasks of a project have good names.
-use Rattle.std.proofs.Common.{◌≡◌, ◌≢◌, ◌∙◌, refl, sym, ap, subst, ℕ, arith, List, [], ◌∷◌, ◌++◌, map, filter, length, Bool, true, false, not, Option, Some, None, Result, Ok, Err, All, bytes_eq, codes, nat_le, if◌then◌else◌}
+use Rattle.std.proofs.Common.{◌≡◌, ◌≢◌, ◌∙◌, refl, sym, ap, subst, ℕ, arith, List, [], ◌∷◌, ◌++◌, map, filter, Bool, true, false, not, Option, Some, None, Result, Ok, Err, All, bytes_eq, codes, if◌then◌else◌}
 use Rattle.std.specs.Prelude.{AllPairs, IfSome, filter_map, flat_map, fold}
 use Rattle.std.specs.List.{AllByRecursion, cons_option}
 use Rattle.std.specs.Map.{lookup}
@@ -26,8 +26,8 @@ use Rattle.meta_model.specs.Frozen.{Move, moves, told_all, told, told_flag, told
 use Rattle.load_model.specs.LoadRefusal.{LoadRefusal, nowhere, ◌>>=◌, refused_as, asked_at, require}
 use Rattle.load_model.specs.Loading.{Sources, Loaded, with_lines, read_first, classes_after, class_entries, entries}
 use Rattle.load_model.specs.Layers.{words_of, starting_with}
-use Rattle.load_model.specs.Recipes.{FileName, Recipe, SetRefusal, load, no_value, bad_name, asked_of, too_many, is_pn, appends_of, file_lines, name_lines, appended, with_inherit, recipe_entries, text_of, recipe_of, recipe_read, recipes_read, names_of_files, all_belong}
-use Rattle.load_model.specs.Facts.{flag_words, named_task, task_facts, all_tasks, facts_of, all_facts, needed_words, all_packages, RecipeSet, Wishes, wishes, recipe_cmp, greater, chosen, that_count, fits, all_chosen, most_recipes, recipe_set}
+use Rattle.load_model.specs.Recipes.{FileName, Recipe, SetRefusal, load, no_value, bad_name, asked_of, is_pn, appends_of, file_lines, name_lines, appended, with_inherit, recipe_entries, name_in, three_values, good_name, recipe_with, classes_read, files_read, recipe_of, recipe_read, recipes_read}
+use Rattle.load_model.specs.Facts.{flag_words, named_task, task_facts, all_tasks, facts_of, all_facts, needed_words, all_packages, RecipeSet, wishes, recipe_cmp, greater, chosen, that_count, fits, all_chosen, recipe_set, set_under, files_over, read_over, set_over}
 use Rattle.meta_model.specs.Ascending.{Before, Above, Ascending}
 use Rattle.meta_model.proofs.Ordered.{ordered_ascending}
 use Rattle.plan_model.specs.Names.{is_task_name, AddsGoodTask, HaveGoodTasks, AddGoodTasks}
@@ -226,17 +226,16 @@ require_ok : {E : Type 0} (b : Bool) (refusal : E) (u : Unit {0}) → require b 
 require_ok true refusal u e = refl
 require_ok {E} false refusal u e = absurd (let n : ◌≡◌ {A = Result (Unit {0}) E} (Err refusal) (Ok u) = e in cc)
 
+named : (path : List ℕ) (lines : List EntryLine) (name : FileName) → name_in path lines ≡ Ok name → is_pn name.pn ≡ true
+named path lines name e =
+    let three = ok_parts (three_values path lines) (good_name path) name e in
+    let good = ok_parts (require (is_pn three.0.pn) (bad_name path)) (λ (good : Unit {0}). let r : Result FileName SetRefusal = Ok three.0 in r) name three.2 in
+    subst (λ (n : FileName). is_pn n.pn ≡ true) (same_ok {E = SetRefusal} three.0 name good.2) (require_ok (is_pn three.0.pn) (bad_name path) good.0 good.1)
+
 of_lines : (path : List ℕ) (lines : List EntryLine) (made : Recipe) → Good lines → recipe_of path lines ≡ Ok made → IsRead made
 of_lines path lines made h e =
-    let last = λ (pn pv pr : List ℕ) (good : Unit {0}). let r : Result Recipe SetRefusal = Ok (record { file = path; pn = pn; pv = pv; pr = pr; lines = lines }) in r in
-    let third = λ (pn pv pr : List ℕ). require (is_pn pn) (bad_name path) >>= last pn pv pr in
-    let second = λ (pn pv : List ℕ). asked_of path (text_of lines (codes "PR")) >>= third pn pv in
-    let first = λ (pn : List ℕ). asked_of path (text_of lines (codes "PV")) >>= second pn in
-    let pn = ok_parts (asked_of path (text_of lines (codes "PN"))) first made e in
-    let pv = ok_parts (asked_of path (text_of lines (codes "PV"))) (second pn.0) made pn.2 in
-    let pr = ok_parts (asked_of path (text_of lines (codes "PR"))) (third pn.0 pv.0) made pv.2 in
-    let good = ok_parts (require (is_pn pn.0) (bad_name path)) (last pn.0 pv.0 pr.0) made pr.2 in
-    subst IsRead (same_ok {E = SetRefusal} (record { file = path; pn = pn.0; pv = pv.0; pr = pr.0; lines = lines }) made good.2) (record { pn = require_ok (is_pn pn.0) (bad_name path) good.0 good.1; lines = h })
+    let name = ok_parts (name_in path lines) (λ name. Ok (recipe_with path lines name)) made e in
+    subst IsRead (same_ok {E = SetRefusal} (recipe_with path lines name.0) made name.2) (record { pn = named path lines name.0 name.1; lines = h })
 
 module _ (sources : Sources) (adds : AddGoodTasks sources) (config : List EntryLine) (have : HaveGoodTasks config) where
   appended_good : (appends : List (List ℕ)) (old new : Loaded) → HaveGoodTasks old.lines → appended sources appends old ≡ Ok new → HaveGoodTasks new.lines
@@ -245,23 +244,26 @@ module _ (sources : Sources) (adds : AddGoodTasks sources) (config : List EntryL
       let next = ok_parts (entries sources RecipeFile append (with_lines (file_lines append) old)) (λ next. appended sources rest next) new e in
       appended_good rest next.0 new (entries_good sources adds RecipeFile append (with_lines (file_lines append) old) next.0 (lines_behind old.lines (file_lines append) h (tt, (tt, tt))) next.1) next.2
 
+  classes_read_good : (old new : Loaded) → HaveGoodTasks old.lines → classes_read sources old ≡ Ok new → HaveGoodTasks new.lines
+  classes_read_good old new h e =
+      let based = ok_parts (class_entries sources false (codes "base") old) (λ based. with_inherit sources based) new e in
+      let words = ok_parts (asked_at nowhere (words_of based.0.lines (codes "INHERIT"))) (λ names. classes_after (read_first sources) sources nowhere true names based.0) new based.2 in
+      all_classes_good sources adds nowhere true words.0 based.0 new (class_entries_good sources adds false (codes "base") old based.0 h based.1) words.2
+
+  files_read_good : (path : List ℕ) (appends : List (List ℕ)) (old new : Loaded) → HaveGoodTasks old.lines → files_read sources path appends old ≡ Ok new → HaveGoodTasks new.lines
+  files_read_good path appends old new h e =
+      let last = λ (whole : Loaded). let r : Result Loaded LoadRefusal = Ok (with_lines (file_lines path) whole) in r in
+      let own = ok_parts (entries sources RecipeFile path old) (λ own. appended sources appends own >>= last) new e in
+      let whole = ok_parts (appended sources appends own.0) last new own.2 in
+      let good = appended_good appends own.0 whole.0 (entries_good sources adds RecipeFile path old own.0 h own.1) whole.1 in
+      subst (λ (l : Loaded). HaveGoodTasks l.lines) (same_ok {E = LoadRefusal} (with_lines (file_lines path) whole.0) new whole.2) (lines_behind whole.0.lines (file_lines path) good (tt, (tt, tt)))
+
   recipe_good : (path : List ℕ) (name : FileName) (appends : List (List ℕ)) (new : Loaded) → recipe_entries sources config path name appends ≡ Ok new → HaveGoodTasks new.lines
   recipe_good path name appends new e =
       let start = starting_with (config ++ (name_lines name ++ file_lines path)) in
-      let last = λ (whole : Loaded). let r : Result Loaded LoadRefusal = Ok (with_lines (file_lines path) whole) in r in
-      let third = λ (own : Loaded). appended sources (appends_of path appends) own >>= last in
-      let second = λ (inherited : Loaded). entries sources RecipeFile path inherited >>= third in
-      let first = λ (based : Loaded). with_inherit sources based >>= second in
-      let based = ok_parts (class_entries sources false (codes "base") start) first new e in
-      let inherited = ok_parts (with_inherit sources based.0) second new based.2 in
-      let own = ok_parts (entries sources RecipeFile path inherited.0) third new inherited.2 in
-      let whole = ok_parts (appended sources (appends_of path appends) own.0) last new own.2 in
-      let words = ok_parts (asked_at nowhere (words_of based.0.lines (codes "INHERIT"))) (λ names. classes_after (read_first sources) sources nowhere true names based.0) inherited.0 inherited.1 in
-      let a = class_entries_good sources adds false (codes "base") start based.0 (lines_behind config (name_lines name ++ file_lines path) have (tt, (tt, (tt, (tt, (tt, tt)))))) based.1 in
-      let b = all_classes_good sources adds nowhere true words.0 based.0 inherited.0 a words.2 in
-      let c = entries_good sources adds RecipeFile path inherited.0 own.0 b own.1 in
-      let d = appended_good (appends_of path appends) own.0 whole.0 c whole.1 in
-      subst (λ (l : Loaded). HaveGoodTasks l.lines) (same_ok {E = LoadRefusal} (with_lines (file_lines path) whole.0) new whole.2) (lines_behind whole.0.lines (file_lines path) d (tt, (tt, tt)))
+      let inherited = ok_parts (classes_read sources start) (λ inherited. files_read sources path (appends_of path appends) inherited) new e in
+      files_read_good path (appends_of path appends) inherited.0 new
+      (classes_read_good start inherited.0 (lines_behind config (name_lines name ++ file_lines path) have (tt, (tt, (tt, (tt, (tt, tt)))))) inherited.1) inherited.2
 
   one_read : (appends : List (List ℕ)) (path : List ℕ) (name : FileName) (made : Recipe) → recipe_read sources config appends path name ≡ Ok made → IsRead made
   one_read appends path name made e =
@@ -385,21 +387,14 @@ lines_only (r ∷ rs) h = (h.0.lines, lines_only rs h.1)
 
 pub set_has_good_names : (sources : Sources) (config : List EntryLine) (recipes appends : List (List ℕ)) (set : RecipeSet) → AddGoodTasks sources → HaveGoodTasks config → recipe_set sources config recipes appends ≡ Ok set → HasGoodNames set.facts
 set_has_good_names sources config recipes appends set adds have e =
-    let made_with = λ (wished : Wishes) (picked : List Recipe) (facts : List RecipeFacts). let r : Result RecipeSet SetRefusal = Ok (record { facts = record { recipes = facts; preferred = wished.providers; assumed = wished.assumed }; stores = map (λ r. r.lines) picked }) in r in
-    let fifth = λ (wished : Wishes) (read : List Recipe). all_facts (all_chosen wished.versions read) >>= made_with wished (all_chosen wished.versions read) in
-    let fourth = λ (wished : Wishes) (files : List (List ℕ × FileName)) (belonging : List (List ℕ)). recipes_read sources config belonging files >>= fifth wished in
-    let third = λ (wished : Wishes) (files : List (List ℕ × FileName)). all_belong recipes appends >>= fourth wished files in
-    let second = λ (wished : Wishes) (few : Unit {0}). names_of_files recipes >>= third wished in
-    let first = λ (wished : Wishes). require (nat_le (length recipes) most_recipes) too_many >>= second wished in
-    let wished = ok_parts (asked_of [] (wishes config)) first set e in
-    let few = ok_parts (require (nat_le (length recipes) most_recipes) too_many) (second wished.0) set wished.2 in
-    let files = ok_parts (names_of_files recipes) (third wished.0) set few.2 in
-    let belonging = ok_parts (all_belong recipes appends) (fourth wished.0 files.0) set files.2 in
-    let read = ok_parts (recipes_read sources config belonging.0 files.0) (fifth wished.0) set belonging.2 in
+    let wished = ok_parts (asked_of [] (wishes config)) (set_under sources config recipes appends) set e in
+    let files = ok_parts (files_over recipes appends) (λ files. read_over sources config wished.0 files appends) set wished.2 in
+    let read = ok_parts (recipes_read sources config appends files.0) (λ read. set_over wished.0 (all_chosen wished.0.versions read)) set files.2 in
     let picked = all_chosen wished.0.versions read.0 in
-    let facts = ok_parts (all_facts picked) (made_with wished.0 picked) set read.2 in
+    let made = λ (facts : List RecipeFacts). let r : Result RecipeSet SetRefusal = Ok (record { facts = record { recipes = facts; preferred = wished.0.providers; assumed = wished.0.assumed }; stores = map (λ r. r.lines) picked }) in r in
+    let facts = ok_parts (all_facts picked) made set read.2 in
     let names = in_byte_order (map (λ r. r.pn) read.0) in
-    let good = all_read sources adds config have belonging.0 files.0 read.0 read.1 in
+    let good = all_read sources adds config have appends files.0 read.0 read.1 in
     let picked_read : AllByRecursion IsRead picked = picks_read wished.0.versions read.0 good names in
     let rising : Rising picked = picks_rise wished.0.versions read.0 good names (ordered_ascending (map (λ r. r.pn) read.0)) in
     let are : AreOf picked facts.0 = all_are_of picked facts.0 (lines_only picked picked_read) facts.1 in

@@ -11,13 +11,13 @@ use Rattle.meta_model.specs.declared.line.SyntaxFault.{SyntaxFault}
 use Rattle.meta_model.specs.declared.line.SyntaxFault.TheVariants.{Python, Fakeroot, OneInnerQuote, ReservedName, BadLine, OpenFunction}
 use Rattle.meta_model.specs.declared.statement.Statement.{Statement}
 use Rattle.meta_model.specs.declared.statement.Statement.TheVariants.{Assign, Flag, Export, Unset, UnsetFlag, Include, Require, Inherit, Function, ExportFunctions, AddTask, DelTask}
-use Rattle.meta_model.specs.Text.{begins_with, is_shell_name, skip_blanks, is_empty, words, cuts}
+use Rattle.meta_model.specs.Text.{begins_with, is_shell_name, skip_blanks, is_empty, cuts}
 use Rattle.meta_model.specs.Names.{is_name}
 use Rattle.meta_model.specs.Text.{is_blank, without_end}
 use Rattle.meta_model.specs.Lines.{OrFault, with_first, logical_lines, opens_body, without_opening}
 use Rattle.load_model.specs.LoadRefusal.{file_bytes}
 use Rattle.load_model.specs.Loading.{Contents, with_cause, most_bytes, contents_of, sources_of}
-use Rattle.meta_model.specs.Grammar.{Fit, ◌>>=◌, where_true, first_of_two, first_there, operator, operation, assignment, flag_assignment, flag_of_name, behind_word, with_name, flag_unset, with_text, with_words, plain_fit, task_of, tasks, up_to_part, part, task_parts, task_names, function_head, fit_of}
+use Rattle.meta_model.specs.Grammar.{Fit, ◌>>=◌, where_true, first_of_two, first_there, operator, operation, assignment, flag_assignment, flag_of_name, behind_word, with_name, flag_unset, with_text, with_words, plain_fit, task_of, tasks, up_to_part, part, task_parts, task_names, function_head, fit_of, words_behind_word, text_behind_word, name_behind_word, value_forms_of, directive_forms_of, exported_assignment}
 use Rattle.meta_model.specs.Statements.{statement_of, statement_of_fit, is_allowed, is_python, is_fakeroot, has_one_inner_quote, has_reserved_name, statements_of_lines, with_statement, body_of, ends_in_body, of_lines, statements}
 use Rattle.plan_model.specs.Names.{is_task_name, AddsGoodTasks, AddGoodTasks}
 
@@ -80,15 +80,18 @@ parts_good ws =
 
 words_good : (word : List ℕ) (make : List (List ℕ) → Option Statement) → ((ws : List (List ℕ)) → GoodMade (make ws)) → (s : List ℕ) → Good (with_words word make s)
 words_good word make h s =
-    good_bind (behind_word word s) (λ t. where_true (not (is_empty (words t))) (words t) >>= λ ws. make ws >>= λ statement. Some (plain_fit statement)) (λ t e.
-    good_bind (where_true (not (is_empty (words t))) (words t)) (λ ws. make ws >>= λ statement. Some (plain_fit statement)) (λ ws f.
-    good_bind (make ws) (λ statement. Some (plain_fit statement)) (λ statement g. subst GoodMade g (h ws))))
+    good_bind (words_behind_word word s) (λ ws. make ws >>= λ statement. Some (plain_fit statement)) (λ ws e.
+    good_bind (make ws) (λ statement. Some (plain_fit statement)) (λ statement g. subst GoodMade g (h ws)))
+
+good_plain : (make : List ℕ → Statement) → ((t : List ℕ) → AddsGoodTasks (make t)) → (o : Option (List ℕ)) → Good (option_map (λ t. plain_fit (make t)) o)
+good_plain make h None = tt
+good_plain make h (Some t) = h t
 
 text_good : (word : List ℕ) (make : List ℕ → Statement) → ((t : List ℕ) → AddsGoodTasks (make t)) → (s : List ℕ) → Good (with_text word make s)
-text_good word make h s = good_bind (behind_word word s) (λ t. where_true (not (is_empty t)) (plain_fit (make t))) (λ t e. good_where (not (is_empty t)) (plain_fit (make t)) (h t))
+text_good word make h s = good_plain make h (text_behind_word word s)
 
 name_good : (word : List ℕ) (make : List ℕ → Statement) → ((t : List ℕ) → AddsGoodTasks (make t)) → (s : List ℕ) → Good (with_name word make s)
-name_good word make h s = good_bind (behind_word word s) (λ n. where_true (is_name n) (plain_fit (make n))) (λ n e. good_where (is_name n) (plain_fit (make n)) (h n))
+name_good word make h s = good_plain make h (name_behind_word word s)
 
 assignment_good : (export : Bool) (s : List ℕ) → Good (assignment export s)
 assignment_good export s =
@@ -120,63 +123,28 @@ first_good : (fits : List (Option Fit)) → AllGood fits → Good (first_there f
 first_good [] h = tt
 first_good (fit ∷ fits) h = good_two fit (first_there fits) h.0 (first_good fits h.1)
 
-abbrev forms : List ℕ → List (Option Fit)
-forms s = assignment false s
-    ∷ (behind_word (codes "export") s >>= assignment true)
-    ∷ flag_assignment s
-    ∷ with_name (codes "export") Export s
-    ∷ with_name (codes "unset") Unset s
-    ∷ flag_unset s
-    ∷ with_text (codes "include") Include s
-    ∷ with_text (codes "require") Require s
-    ∷ with_text (codes "inherit") Inherit s
-    ∷ with_words (codes "EXPORT_FUNCTIONS") (λ ws. Some (ExportFunctions ws)) s
-    ∷ with_words (codes "addtask") task_parts s
-    ∷ with_words (codes "deltask") task_names s
-    ∷ []
+values_good : (s : List ℕ) → Good (value_forms_of s)
+values_good s =
+    first_good (assignment false s ∷ exported_assignment s ∷ flag_assignment s ∷ with_name (codes "export") Export s ∷ with_name (codes "unset") Unset s ∷ flag_unset s ∷ [])
+    (assignment_good false s, (good_bind (behind_word (codes "export") s) (assignment true) (λ t e. assignment_good true t), (flag_good s, (name_good (codes "export") Export (λ t. tt) s, (name_good (codes "unset") Unset (λ t. tt) s, (flag_unset_good s, tt))))))
 
-forms_good : (s : List ℕ) → AllGood (forms s)
-forms_good s = (
-  assignment_good false s,
-  (
-    good_bind (behind_word (codes "export") s) (assignment true) (λ t e. assignment_good true t),
-    (
-      flag_good s,
+directives_good : (s : List ℕ) → Good (directive_forms_of s)
+directives_good s =
+    first_good (with_text (codes "include") Include s ∷ with_text (codes "require") Require s ∷ with_text (codes "inherit") Inherit s
+    ∷ with_words (codes "EXPORT_FUNCTIONS") (λ ws. Some (ExportFunctions ws)) s ∷ with_words (codes "addtask") task_parts s ∷ with_words (codes "deltask") task_names s ∷ []) (
+      text_good (codes "include") Include (λ t. tt) s,
       (
-        name_good (codes "export") Export (λ t. tt) s,
+        text_good (codes "require") Require (λ t. tt) s,
         (
-          name_good (codes "unset") Unset (λ t. tt) s,
-          (
-            flag_unset_good s,
-            (
-              text_good (codes "include") Include (λ t. tt) s,
-              (
-                text_good (codes "require") Require (λ t. tt) s,
-                (
-                  text_good (codes "inherit") Inherit (λ t. tt) s,
-                  (
-                    words_good (codes "EXPORT_FUNCTIONS") (λ ws. Some (ExportFunctions ws)) (λ ws. tt) s,
-                    (
-                      words_good (codes "addtask") task_parts parts_good s,
-                      (
-                        words_good (codes "deltask") task_names deltask_good s,
-                        tt,
-                      ),
-                    ),
-                  ),
-                ),
-              ),
-            ),
-          ),
+          text_good (codes "inherit") Inherit (λ t. tt) s,
+          (words_good (codes "EXPORT_FUNCTIONS") (λ ws. Some (ExportFunctions ws)) (λ ws. tt) s, (words_good (codes "addtask") task_parts parts_good s, (words_good (codes "deltask") task_names deltask_good s, tt))),
         ),
       ),
-    ),
-  ),
-)
+    )
 
-fit_by : (b : Bool) (body s : List ℕ) → Good (if b then function_head body s else first_there (forms s))
+fit_by : (b : Bool) (body s : List ℕ) → Good (if b then function_head body s else first_of_two (value_forms_of s) (directive_forms_of s))
 fit_by true body s = head_good body s
-fit_by false body s = first_good (forms s) (forms_good s)
+fit_by false body s = good_two (value_forms_of s) (directive_forms_of s) (values_good s) (directives_good s)
 
 fit_good : (text body : List ℕ) → Good (fit_of text body)
 unfolding fit_of

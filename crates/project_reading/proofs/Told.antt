@@ -2,7 +2,7 @@
 use Rattle.std.proofs.Common.{◌≡◌, sym, subst, Result, Ok}
 use Rattle.meta_model.specs.declared.event.Status.{Status}
 use Rattle.load_model.specs.LoadRefusal.{◌>>=◌}
-use Rattle.recipe_facts.proofs.Binding.{goes_on}
+use Rattle.meta_model.proofs.Passing.{goes_on}
 use Rattle.project_reading.specs.Answered.{IsRefusedAs}
 
 -- of the same

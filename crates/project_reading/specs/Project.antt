@@ -8,7 +8,7 @@ use Rattle.load_model.specs.Layers.{Config, config}
 use Rattle.load_model.specs.Facts.{RecipeSet, recipe_set}
 use Rattle.project_reading.specs.Said.{layer_status, set_status}
 
--- what isn't built so far
+-- what a tool answers to that it hasn't built: none of the calls does
 abbrev pub not_built : Status
 not_built = Metadata [] 0 (codes "NotBuilt") []
 

@@ -16,4 +16,4 @@ mod said;
 
 pub use graph_faults::{graph_status, nothing_provides};
 pub use reads::{or_status, read_config, read_recipes};
-pub use said::{limit, metadata, named, not_built, value_status};
+pub use said::{limit, metadata, named, value_status};

@@ -6,7 +6,6 @@ ghost use Rattle.meta_model.specs.declared.event.Status.TheVariants as status;
 ghost use Rattle.meta_model.specs.Refusal.{unstable};
 ghost use Rattle.datastore.specs.Faults.{refusal_of, data_refusal};
 ghost use Rattle.project_reading.specs.Said as said;
-ghost use Rattle.project_reading.specs.Project as project;
 ghost use Rattle.project_reading.specs.Faults.{IsAnswered, IsAnsweredAs, IsLoadAnswer};
 
 use class_inherit::{LoadFault, LoadKind};
@@ -82,13 +81,6 @@ pub(crate) fn plain(alloc: Global, file: Text, line: u32, kind: &str) -> Status
     ensures { IsAnswered result (status.Metadata file line kind.now []) }
 {
     metadata(alloc, file, line, kind, Texts::new(alloc))
-}
-
-/// The status of what isn't built so far, or of want of memory for it. It has no place.
-pub fn not_built(alloc: Global) -> Status
-    ensures { IsAnswered result project.not_built }
-{
-    plain(alloc, Text::new(alloc), 0, "NotBuilt")
 }
 
 /// A limit of this kind that was passed.

@@ -59,23 +59,33 @@ all_values set (number ∷ numbers) = do
 abbrev pub values_of_targets : RecipeSet → List (List ℕ) → Result (List ℕ) Status
 values_of_targets set targets = target_recipes set.facts targets >>= λ numbers. all_values set numbers
 
+-- the values of entries, as they are printed
+abbrev pub values_at : List ℕ → List EntryLine → Result (List ℕ) Status
+values_at file lines = refused_as (value_status file 0) (environment lines) >>= λ rows. Ok (env_text rows)
+
 -- The values of the configuration, once its names are moved. No recipe is read for them (own rule).
 abbrev pub config_values : Config → Result (List ℕ) Status
-config_values made = do
-  lines ← refused_as (value_status [] 0) (frozen made.lines)
-  rows ← refused_as (value_status [] 0) (environment lines)
-  Ok (env_text rows)
+config_values made = refused_as (value_status [] 0) (frozen made.lines) >>= values_at []
+
+abbrev pub targets_over : Sources → Config → List (List ℕ) → Result (List ℕ) Status
+targets_over sources made targets = read_recipes sources made >>= λ set. values_of_targets set targets
 
 -- the values of the targets' recipes; without targets those of the configuration ("The BitBake Command", option `-e`)
 abbrev pub environment_of : Sources → Config → List (List ℕ) → Result (List ℕ) Status
 environment_of sources made [] = config_values made
-environment_of sources made (target ∷ targets) = do
-  set ← read_recipes sources made
-  values_of_targets set (target ∷ targets)
+environment_of sources made (target ∷ targets) = targets_over sources made (target ∷ targets)
+
+-- the number of recipes, once they are read
+abbrev pub parsed_over : Sources → Config → Result (List ℕ) Status
+parsed_over sources made = read_recipes sources made >>= λ set. Ok (parsed_text (length made.recipes))
+
+-- the chosen recipes and their versions
+abbrev pub versions_over : Sources → Config → Result (List ℕ) Status
+versions_over sources made = read_recipes sources made >>= λ set. Ok (versions_text set.facts.recipes)
 
 abbrev pub text_of : ReadMode → Sources → Config → List (List ℕ) → Result (List ℕ) Status
-text_of Parse sources made targets = read_recipes sources made >>= λ set. Ok (parsed_text (length made.recipes))
-text_of Versions sources made targets = read_recipes sources made >>= λ set. Ok (versions_text set.facts.recipes)
+text_of Parse sources made targets = parsed_over sources made
+text_of Versions sources made targets = versions_over sources made
 text_of Environment sources made targets = environment_of sources made targets
 
 -- The text of a mode for targets, over the paths of all files, or the status that it is refused with. The targets of `-p` and

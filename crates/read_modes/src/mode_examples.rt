@@ -10,7 +10,6 @@ ghost use Rattle.load_model.specs.LibraryAndApplication.{library_and_application
 ghost use Rattle.bb_report.specs.Texts.{parsed_text, fault_text};
 ghost use Rattle.read_modes.specs.declared.modes.ReadMode.TheVariants as mode;
 ghost use Rattle.project_reading.specs.Said.{cycle_status, lack_status, set_status, threads_status, too_many_status};
-ghost use Rattle.project_reading.specs.Project.{not_built};
 ghost use Rattle.read_modes.specs.Modes.{mode_text};
 ghost use Rattle.read_modes.specs.ModeSamples.{mode_over, named, printed};
 
@@ -297,8 +296,6 @@ pub fn example_of_lines()
     ensures tasks { fault_text too_many_status ≡ codes "fault 10 Tasks\n" }
     // no number of threads
     ensures threads { fault_text (threads_status (codes "17")) ≡ codes "fault 3 BadThreads 17\n" }
-    // what isn't built
-    ensures not_built { fault_text not_built ≡ codes "fault 3 NotBuilt\n" }
     // a limit
     ensures limit { fault_text (status.Limit (codes "FileBytes")) ≡ codes "fault 10 FileBytes\n" }
     // how many recipe files were read

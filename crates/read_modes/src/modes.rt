@@ -5,7 +5,6 @@ ghost use Rattle.outside_traits.specs.Store.{IsListing};
 ghost use Rattle.load_model.specs.Loading.{sources_of};
 ghost use Rattle.layer_conf.specs.Config.{config_meant};
 ghost use Rattle.read_modes.specs.Modes as modes;
-ghost use Rattle.read_modes.specs.Steps as steps;
 ghost use Rattle.project_reading.specs.Answered.{IsRefusedAs, is_refusal, mode_failed};
 
 use crate::targets::values_of_targets;
@@ -31,8 +30,8 @@ pub enum ReadMode {
 
 /// How many recipe files were read.
 fn parsed<L: Layers>(alloc: Global, layers: &mut L, config: &Config) -> Result<Text, Status>
-    ensures ok { IfOk result (λ text. L.tells → steps.parsed_over (sources_of (L.files layers.old)) (config_meant config.now) ≡ Ok text) }
-    ensures err { IfErr result (λ status. L.tells → IsRefusedAs status (steps.parsed_over (sources_of (L.files layers.old)) (config_meant config.now))) }
+    ensures ok { IfOk result (λ text. L.tells → modes.parsed_over (sources_of (L.files layers.old)) (config_meant config.now) ≡ Ok text) }
+    ensures err { IfErr result (λ status. L.tells → IsRefusedAs status (modes.parsed_over (sources_of (L.files layers.old)) (config_meant config.now))) }
     ensures refusal { IfErr result (λ status. is_refusal status ≡ true) }
     ensures same { L.files layers.new ≡ L.files layers.old }
     ensures cause { Counts (L.faults layers.old) (L.faults layers.new) (mode_failed result) }
@@ -45,8 +44,8 @@ fn parsed<L: Layers>(alloc: Global, layers: &mut L, config: &Config) -> Result<T
 
 /// The chosen versions.
 fn versions<L: Layers>(alloc: Global, layers: &mut L, config: &Config) -> Result<Text, Status>
-    ensures ok { IfOk result (λ text. L.tells → steps.versions_over (sources_of (L.files layers.old)) (config_meant config.now) ≡ Ok text) }
-    ensures err { IfErr result (λ status. L.tells → IsRefusedAs status (steps.versions_over (sources_of (L.files layers.old)) (config_meant config.now))) }
+    ensures ok { IfOk result (λ text. L.tells → modes.versions_over (sources_of (L.files layers.old)) (config_meant config.now) ≡ Ok text) }
+    ensures err { IfErr result (λ status. L.tells → IsRefusedAs status (modes.versions_over (sources_of (L.files layers.old)) (config_meant config.now))) }
     ensures refusal { IfErr result (λ status. is_refusal status ≡ true) }
     ensures same { L.files layers.new ≡ L.files layers.old }
     ensures cause { Counts (L.faults layers.old) (L.faults layers.new) (mode_failed result) }
@@ -64,8 +63,8 @@ fn target_values<L: Layers>(
     config: &Config,
     targets: &[Text],
 ) -> Result<Text, Status>
-    ensures ok { IfOk result (λ text. L.tells → steps.targets_over (sources_of (L.files layers.old)) (config_meant config.now) targets.now ≡ Ok text) }
-    ensures err { IfErr result (λ status. L.tells → IsRefusedAs status (steps.targets_over (sources_of (L.files layers.old)) (config_meant config.now) targets.now)) }
+    ensures ok { IfOk result (λ text. L.tells → modes.targets_over (sources_of (L.files layers.old)) (config_meant config.now) targets.now ≡ Ok text) }
+    ensures err { IfErr result (λ status. L.tells → IsRefusedAs status (modes.targets_over (sources_of (L.files layers.old)) (config_meant config.now) targets.now)) }
     ensures refusal { IfErr result (λ status. is_refusal status ≡ true) }
     ensures same { L.files layers.new ≡ L.files layers.old }
     ensures cause { Counts (L.faults layers.old) (L.faults layers.new) (mode_failed result) }

@@ -6,7 +6,6 @@ ghost use Rattle.layer_conf.specs.Config.{config_meant};
 ghost use Rattle.bb_report.specs.Texts as texts;
 ghost use Rattle.project_reading.specs.Said as said;
 ghost use Rattle.read_modes.specs.Modes as modes;
-ghost use Rattle.read_modes.specs.Steps as steps;
 ghost use Rattle.project_reading.specs.Faults.{IsAnsweredAs};
 ghost use Rattle.project_reading.specs.Answered.{IsRefusedAs, is_refusal, mode_failed};
 
@@ -32,8 +31,8 @@ fn refused_value(alloc: Global, file: &str, fault: DataFault) -> Status
 
 /// The values of a store, which is told of this file.
 fn values_at(alloc: Global, file: &str, store: &Datastore) -> Result<Text, Status>
-    ensures ok { IfOk result (λ text. steps.values_at file.now store.now ≡ Ok text) }
-    ensures err { IfErr result (λ fault. IsRefusedAs fault (steps.values_at file.now store.now)) }
+    ensures ok { IfOk result (λ text. modes.values_at file.now store.now ≡ Ok text) }
+    ensures err { IfErr result (λ fault. IsRefusedAs fault (modes.values_at file.now store.now)) }
     ensures refusal { IfErr result (λ fault. is_refusal fault ≡ true) }
     ensures no_failure { mode_failed result ≡ false }
 {
@@ -45,8 +44,8 @@ fn values_at(alloc: Global, file: &str, store: &Datastore) -> Result<Text, Statu
 
 /// The values of the configuration, over its entries once names are moved.
 fn frozen_values(alloc: Global, frozen: Datastore) -> Result<Text, Status>
-    ensures ok { IfOk result (λ text. steps.values_at [] frozen ≡ Ok text) }
-    ensures err { IfErr result (λ fault. IsRefusedAs fault (steps.values_at [] frozen)) }
+    ensures ok { IfOk result (λ text. modes.values_at [] frozen ≡ Ok text) }
+    ensures err { IfErr result (λ fault. IsRefusedAs fault (modes.values_at [] frozen)) }
     ensures refusal { IfErr result (λ fault. is_refusal fault ≡ true) }
     ensures no_failure { mode_failed result ≡ false }
 {

@@ -1,12 +1,11 @@
 -- Text in parentheses, from the front.
-use Rattle.std.proofs.Common.{◌≡◌, refl, sym, ◌∙◌, ap, ℕ, suc, ◌+◌, ◌<◌, arith, Bool, true, false, not, cond, List, [], ◌∷◌, ◌++◌, length, take, drop, get_or, reverse, Some, None, position, append_assoc, append-nil, add-one, ◌⊎◌, inl, inr, eqb, le_trans, length-take}
+use Rattle.std.proofs.Common.{◌≡◌, refl, sym, ◌∙◌, ap, ℕ, suc, ◌+◌, ◌<◌, arith, true, false, List, [], ◌∷◌, ◌++◌, length, take, drop, get_or, reverse, Some, None, position, append_assoc, append-nil, add-one, ◌⊎◌, inl, inr, eqb, length-take}
 use Rattle.std.proofs.Math.Seq.{drop-cons}
-use Rattle.std.specs.List.{join_with_byte, position_or_len}
-use Rattle.std.proofs.lemmas.Bool.{ltb-false}
+use Rattle.std.specs.List.{join_with_byte}
 use Rattle.std.proofs.lemmas.Bool.Decides.{Decides-eqb}
 use Rattle.std.proofs.lemmas.List.{reverse-append, take-append-drop, get_or-take}
-use Rattle.std.proofs.lemmas.List.Sums.{prefix_len_passes}
 use Rattle.std.proofs.lemmas.List.Quantifiers.{position-Some}
+use Rattle.meta_model.proofs.Unfound.{none_before}
 use Rattle.meta_model.proofs.Bools.{either_way, or_left, or_right, from_or}
 use Rattle.load_model.specs.Facts.{onto_front, opened, bracket_before, outside_brackets, without_brackets}
 use Rattle.recipe_facts.specs.Brackets.{is_bracket, open_texts, with_open}
@@ -103,21 +102,9 @@ texts_go_on rest after last last1 last2 texts texts' i b e l a is h =
     front_plain : i < length rest → ((k : ℕ) → k < i → is_bracket (get_or rest k 0) ≡ false) → (k : ℕ) → k < length (take i rest) → is_bracket (get_or (take i rest) k 0) ≡ false
     front_plain lt h k less = let low : k < i = omega (arith, length-take i rest, less) in rw (get_or-take i rest k 0 low) (h k low)
 
-none_of_cond : (b : Bool) (n : ℕ) → cond b (Some n) None ≡ None → b ≡ false
-none_of_cond true n e = cc
-none_of_cond false n e = refl
-
-false_of_not : (b : Bool) → not b ≡ true → b ≡ false
-false_of_not true e = sym e
-false_of_not false e = refl
-
-none_before : (bs : List ℕ) → position is_bracket bs ≡ None → (k : ℕ) → k < length bs → is_bracket (get_or bs k 0) ≡ false
-none_before bs e k lt = let h = ltb-false (position_or_len is_bracket bs) (length bs) (none_of_cond _ _ e) in
-    false_of_not (is_bracket (get_or bs k 0)) (prefix_len_passes (λ x. not (is_bracket x)) bs k 0 (le_trans lt h))
-
 pub texts_end : (rest last : List ℕ) (texts : List (List ℕ)) → position is_bracket rest ≡ None → open_texts texts (last ++ rest) ≡ with_open texts last (outside_brackets rest)
 texts_end rest last texts e =
-    ap (open_texts texts) (sym (append-nil (last ++ rest))) ∙ sym (plain_run rest [] texts last (none_before rest e)) ∙ ap (λ r. with_open texts last (outside_brackets r)) (append-nil rest)
+    ap (open_texts texts) (sym (append-nil (last ++ rest))) ∙ sym (plain_run rest [] texts last (none_before is_bracket rest 0 e)) ∙ ap (λ r. with_open texts last (outside_brackets r)) (append-nil rest)
 
 -- open texts, one after another
 

@@ -10,8 +10,7 @@ use Rattle.meta_model.specs.Frozen.{frozen}
 use Rattle.load_model.specs.LoadRefusal.{◌>>=◌}
 use Rattle.load_model.specs.Layers.{words_of}
 use Rattle.load_model.specs.Recipes.{Recipe}
-use Rattle.load_model.specs.Facts.{flag_words, named_task, task_facts, facts_of, form, package_facts, needed_words, all_packages, all_tasks, Wishes, family, wishes}
-use Rattle.recipe_facts.specs.Wished.{wishes_over}
+use Rattle.load_model.specs.Facts.{flag_words, named_task, task_facts, facts_of, form, package_facts, needed_words, all_packages, all_tasks, Wishes, family, wishes, wishes_over}
 use Rattle.recipe_facts.specs.Recipe.{facts_behind}
 
 -- a task's flags

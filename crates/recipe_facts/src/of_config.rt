@@ -3,7 +3,8 @@ ghost use Rattle.std.specs.Prelude.{◌≡◌, IfOk, IfErr, Ok};
 ghost use Rattle.datastore.specs.Faults.{IsDataFault};
 ghost use Rattle.meta_model.specs.Frozen as frozen;
 ghost use Rattle.load_model.specs.Facts as facts;
-ghost use Rattle.recipe_facts.specs.Wished.{wished, wishes_over};
+ghost use Rattle.recipe_facts.specs.Wished.{wished};
+ghost use Rattle.load_model.specs.Facts.{wishes_over};
 
 use crate::asked::words_of;
 use crate::values::family;

@@ -3,7 +3,7 @@ ghost use Rattle.std.specs.Prelude.{◌≡◌, ◌∷◌, [], OnOk, IfOk, IfErr,
 ghost use Rattle.meta_model.specs.Text.{begins_with};
 ghost use Rattle.datastore.specs.Faults.{IsDataFault};
 ghost use Rattle.load_model.specs.Facts as facts;
-ghost use Rattle.recipe_facts.specs.Behind.{behind};
+ghost use Rattle.meta_model.specs.Passing.{behind};
 
 use crate::names::valued_names;
 use datastore::{DataFault, Datastore};

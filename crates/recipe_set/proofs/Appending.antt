@@ -7,8 +7,8 @@ use Rattle.std.proofs.lemmas.List.Folds.{list_any_more}
 use Rattle.std.proofs.lemmas.List.Elements.{filter-append}
 use Rattle.meta_model.proofs.Bools.{either_way, not_both, same_text, or_left, or_right}
 use Rattle.load_model.specs.Recipes.{belongs, all_belong, dangling_append}
-use Rattle.recipe_facts.specs.Behind.{behind}
-use Rattle.recipe_facts.proofs.Binding.{next_of, behind_more}
+use Rattle.meta_model.specs.Passing.{behind}
+use Rattle.meta_model.proofs.Passing.{next_of, behind_more}
 use Rattle.recipe_set.specs.Stems.{recipe_stem, append_stem, is_open, is_named}
 
 -- one more append for a name

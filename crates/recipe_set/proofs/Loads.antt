@@ -1,5 +1,5 @@
 -- What is read for a recipe, one part after another.
-use Rattle.std.proofs.Common.{◌≡◌, sym, ◌∙◌, ap, subst, ℕ, ◌+◌, ◌<◌, List, ◌++◌, length, drop, get_or, Result, Ok, Err, IfOk, append_assoc}
+use Rattle.std.proofs.Common.{◌≡◌, sym, ◌∙◌, ap, subst, ℕ, ◌+◌, ◌<◌, List, ◌++◌, length, drop, get_or, Result, Ok, IfOk, append_assoc}
 use Rattle.meta_model.specs.declared.line.Kind.TheVariants.{Recipe as RecipeFile}
 use Rattle.meta_model.specs.declared.entry.EntryLine.{EntryLine}
 use Rattle.load_model.specs.LoadRefusal.{LoadRefusal, ◌>>=◌}
@@ -9,7 +9,7 @@ use Rattle.load_model.specs.Recipes.{file_lines, appended}
 use Rattle.class_inherit.specs.declared.fault.LoadFault.{LoadFault}
 use Rattle.class_inherit.specs.Faults.{IsLoadFault}
 use Rattle.class_inherit.proofs.Faulting.{fault_on, fault_same}
-use Rattle.recipe_facts.proofs.Binding.{goes_on, next_of}
+use Rattle.meta_model.proofs.Passing.{goes_on, next_of}
 
 -- an answer that is the same
 pub if_ok_same : {T E : Type 0} (r : Result T E) (a b : T) → a ≡ b → IfOk r (λ made. made ≡ a) → IfOk r (λ made. made ≡ b)
@@ -33,7 +33,3 @@ pub appends_fault : (sources : Sources) (appends : List (List ℕ)) (i : ℕ) (a
 appends_fault sources appends i append reading whole fault is lt w h =
     fault_same fault whole (one_append sources append reading >>= appended sources (drop (i + 1) appends)) (sym w ∙ next_of (λ l. appended sources l reading) appends i append is lt)
     (fault_on fault (one_append sources append reading) (appended sources (drop (i + 1) appends)) h)
-
-pub if_ok_weaker : {T E : Type 0} (r : Result T E) (P Q : T → Type 0) → ((x : T) → P x → Q x) → IfOk r P → IfOk r Q
-if_ok_weaker (Ok x) P Q f h = f x h
-if_ok_weaker (Err e) P Q f h = tt

@@ -1,37 +1,33 @@
 -- Refusals of recipes, passed on.
-use Rattle.std.proofs.Common.{◌≡◌, refl, sym, ◌∙◌, ap, subst, inl, inr, ◌++◌, ◌∷◌, ◌<◌, List, ℕ, length, get_or, drop, map, [], suc, String, BTreeMap, string_bytes, Bool, true, false, Option, Some, None, Result, Ok, Err, MatchOption, IfErr}
-use Rattle.std.specs.Prelude.{IsErrAnd, ⊤, codes, nat_le}
+use Rattle.std.proofs.Common.{◌≡◌, refl, sym, ◌∙◌, ap, subst, inl, inr, ◌∷◌, ◌<◌, List, ℕ, length, get_or, drop, map, [], suc, String, BTreeMap, string_bytes, Bool, true, false, Option, Some, None, Result, Ok, Err, MatchOption, IfErr}
+use Rattle.std.specs.Prelude.{IsErrAnd, codes}
 use Rattle.std.specs.Option.{option_map}
 use Rattle.std.specs.Global.{Global}
 use Rattle.std.specs.BTreeMap.{is_at}
 use Rattle.std.specs.Map.{lookup}
 use Rattle.std.specs.Ordering.{nat_cmp}
 use Rattle.std.specs.Cmp.Lexicographic.{slice_cmp}
-use Rattle.std.specs.List.{list_any}
 use Rattle.std.proofs.lemmas.Result.{err_from_is_err_and}
 use Rattle.meta_model.specs.Refusal.{Refusal}
 use Rattle.meta_model.specs.declared.entry.EntryLine.{EntryLine}
 use Rattle.datastore.specs.declared.fault.DataFault.{DataFault}
 use Rattle.datastore.specs.Faults.{IsDataFault, data_refusal}
-use Rattle.load_model.specs.LoadRefusal.{LoadRefusal, LoadCause, Place, refused_at, ◌>>=◌, refused_as, require, there}
-use Rattle.load_model.specs.Loading.{Sources, class_entries}
+use Rattle.load_model.specs.LoadRefusal.{LoadRefusal, LoadCause, Place, refused_at, ◌>>=◌, refused_as, require}
+use Rattle.load_model.specs.Loading.{Sources}
 use Rattle.load_model.specs.Recipes as recipes
-use Rattle.load_model.specs.Recipes.{FileName, Recipe, SetRefusal, no_value, load, bad_name, asked_of, is_pn, recipe_entries, appends_of, name_of_file, names_of_files, all_belong, belongs, dangling_append, too_many, recipes_read}
-use Rattle.load_model.specs.Facts.{Wishes, wishes, recipe_set, all_facts, facts_of, all_chosen, most_recipes}
+use Rattle.load_model.specs.Recipes.{FileName, Recipe, SetRefusal, no_value, load, bad_name, asked_of, is_pn, recipe_entries, appends_of, names_of_files, file_named}
+use Rattle.load_model.specs.Facts.{Wishes, wishes, recipe_set, all_facts, facts_of, set_under}
 use Rattle.meta_model.specs.declared.facts.RecipeFacts.{RecipeFacts}
-use Rattle.load_model.specs.Layers.{starting_with}
 use Rattle.outside_traits.specs.Fault.{Counts}
 use Rattle.class_inherit.specs.declared.fault.LoadFault.{LoadFault}
 use Rattle.class_inherit.specs.Faults.{cause_of, place_of, load_refusal, IsLoadFault}
 use Rattle.recipe_facts.specs.declared.of_recipe.Recipe.{Recipe as Read}
 use Rattle.recipe_facts.specs.Recipe.{recipe_meant}
-use Rattle.recipe_facts.specs.Said.{IsRefused}
-use Rattle.recipe_facts.specs.Behind.{behind}
-use Rattle.recipe_facts.proofs.Binding.{refused_on, said, goes_on, one_refused}
+use Rattle.meta_model.specs.Passing.{IsRefused, behind}
+use Rattle.meta_model.proofs.Passing.{refused_on, goes_on, one_refused}
+use Rattle.recipe_facts.proofs.Binding.{said}
 use Rattle.recipe_set.specs.declared.fault.SetFault.{SetFault}
 use Rattle.recipe_set.specs.Faults.{set_refusal, IsSetFault, IsTold, IsWantOfMemory, is_failure, set_failed}
-use Rattle.recipe_set.specs.Loaded as parts
-use Rattle.recipe_set.specs.Chosen.{file_named, set_over, set_under}
 use Rattle.recipe_set.specs.declared.choice.Pick.{Pick}
 use Rattle.recipe_set.specs.Held.{held_of}
 use Rattle.recipe_set.specs.Picks.{held_at, pick_meant}
@@ -125,54 +121,33 @@ values1 path lines pn = asked_of path (recipes.text_of lines (codes "PV")) >>= v
 
 -- a recipe's name, and the recipe
 
-named_part : {A : Type 0} (name : FileName) (q : Result ⊤ SetRefusal) (k : FileName → A) → (q >>= λ good. Ok (k name)) ≡ ((q >>= λ good. Ok name) >>= λ n. Ok (k n))
-named_part name (Ok t) k = refl
-named_part name (Err r) k = refl
-
-named_whole : {A : Type 0} (a b c : Result (List ℕ) SetRefusal) (q : List ℕ → Result ⊤ SetRefusal) (k : FileName → A)
-    → (a >>= λ pn. b >>= λ pv. c >>= λ pr. q pn >>= λ good. Ok (k (record { pn = pn; pv = pv; pr = pr })))
-    ≡ (((a >>= λ pn. b >>= λ pv. c >>= λ pr. Ok (record { pn = pn; pv = pv; pr = pr })) >>= (λ name. q name.pn >>= λ good. Ok name)) >>= λ n. Ok (k n))
-named_whole (Ok pn) (Ok pv) (Ok pr) q k = named_part (record { pn = pn; pv = pv; pr = pr }) (q pn) k
-named_whole (Ok pn) (Ok pv) (Err r) q k = refl
-named_whole (Ok pn) (Err r) c q k = refl
-named_whole (Err r) b c q k = refl
-
 -- a recipe is its name, and then its entries
-pub recipe_is : (path : List ℕ) (lines : List EntryLine) → recipes.recipe_of path lines ≡ (parts.name_in path lines >>= λ name. Ok (parts.recipe_with path lines name))
-recipe_is path lines = named_whole (asked_of path (recipes.text_of lines (codes "PN"))) (asked_of path (recipes.text_of lines (codes "PV"))) (asked_of path (recipes.text_of lines (codes "PR"))) (λ pn. require (is_pn pn) (bad_name path)) (parts.recipe_with path lines)
+pub recipe_is : (path : List ℕ) (lines : List EntryLine) → recipes.recipe_of path lines ≡ (recipes.name_in path lines >>= λ name. Ok (recipes.recipe_with path lines name))
+recipe_is path lines = refl
 
 -- a name that is good
 good_is : (path : List ℕ) (name : FileName) (b : Bool) → b ≡ true → (require b (bad_name path) >>= λ good. Ok name) ≡ Ok name
 good_is path name true e = refl
 good_is path name false e = absurd cc
 
-pub name_good : (path : List ℕ) (name : FileName) → is_pn name.pn ≡ true → parts.good_name path name ≡ Ok name
+pub name_good : (path : List ℕ) (name : FileName) → is_pn name.pn ≡ true → recipes.good_name path name ≡ Ok name
 name_good path name e = good_is path name (is_pn name.pn) e
 
 bad_is : (path : List ℕ) (name : FileName) (b : Bool) → b ≡ false → (require b (bad_name path) >>= λ good. Ok name) ≡ Err (bad_name path)
 bad_is path name true e = absurd cc
 bad_is path name false e = refl
 
-pub name_bad : (path : List ℕ) (name : FileName) → is_pn name.pn ≡ false → parts.good_name path name ≡ Err (bad_name path)
+pub name_bad : (path : List ℕ) (name : FileName) → is_pn name.pn ≡ false → recipes.good_name path name ≡ Err (bad_name path)
 name_bad path name e = bad_is path name (is_pn name.pn) e
 
-bind_assoc : {A B C E : Type 0} (m : Result A E) (f : A → Result B E) (g : B → Result C E) → ((m >>= f) >>= g) ≡ (m >>= (λ a. f a >>= g))
-bind_assoc (Ok a) f g = refl
-bind_assoc (Err r) f g = refl
-
 -- the entries of a recipe, in their parts
-pub entries_are : (sources : Sources) (config : List EntryLine) (path : List ℕ) (name : FileName) (appends : List (List ℕ)) → parts.entries_with sources config path name (appends_of path appends) ≡ recipe_entries sources config path name appends
-entries_are sources config path name appends =
-    bind_assoc (class_entries sources false (codes "base") (starting_with (config ++ (recipes.name_lines name ++ recipes.file_lines path)))) (recipes.with_inherit sources) (parts.files_read sources path (appends_of path appends))
+pub entries_are : (sources : Sources) (config : List EntryLine) (path : List ℕ) (name : FileName) (appends : List (List ℕ)) → recipes.entries_with sources config path name (appends_of path appends) ≡ recipe_entries sources config path name appends
+entries_are sources config path name appends = refl
 
 -- the names of files
 
-named_list : (path : List ℕ) (paths : List (List ℕ)) (o : Option FileName) → (there (bad_name path) o >>= λ name. names_of_files paths >>= λ others. Ok ((path, name) ∷ others)) ≡ ((there (bad_name path) o >>= λ name. Ok (path, name)) >>= λ file. names_of_files paths >>= λ others. Ok (file ∷ others))
-named_list path paths None = refl
-named_list path paths (Some name) = refl
-
 pub names_more : (path : List ℕ) (paths : List (List ℕ)) → names_of_files (path ∷ paths) ≡ (file_named path >>= λ file. names_of_files paths >>= λ others. Ok (file ∷ others))
-names_more path paths = named_list path paths (name_of_file path)
+names_more path paths = refl
 
 -- the entries of recipes
 pub stores_meant : (list : List Read) → map (λ (r : Read). r.store) list ≡ map (λ (r : Recipe). r.lines) (map recipe_meant list)
@@ -198,29 +173,9 @@ facts_length (r ∷ list) made h =
     let more = bound (all_facts list) (λ others. Ok (one.0 ∷ others)) made one.1.1 in
     sym (ap length (ok_same (one.0 ∷ more.0) made more.1.1)) ∙ ap suc (facts_length list more.0 more.1.0)
 
--- each append belongs to one, or they don't all
-belongs_front : (append : List ℕ) (rest : List (List ℕ)) (m : Result ⊤ SetRefusal) (n : Result (List (List ℕ)) SetRefusal) (x : List (List ℕ)) → ((y : List (List ℕ)) → n ≡ Ok y → y ≡ rest) → (m >>= λ good. n >>= λ others. Ok (append ∷ others)) ≡ Ok x → x ≡ append ∷ rest
-belongs_front append rest (Ok t) (Ok y) x h e = sym (ok_same (append ∷ y) x e) ∙ ap (λ l. append ∷ l) (h y refl)
-belongs_front append rest (Ok t) (Err r) x h e = absurd cc
-belongs_front append rest (Err r) n x h e = absurd cc
-
-belongs_same : (paths appends x : List (List ℕ)) → all_belong paths appends ≡ Ok x → x ≡ appends
-belongs_same paths [] x e = sym (ok_same [] x e)
-belongs_same paths (append ∷ rest) x e =
-    belongs_front append rest (require (list_any (λ recipe. belongs recipe append) paths) (dangling_append append)) (all_belong paths rest) x (belongs_same paths rest) e
-
-under_parts : {F C : Type 0} (appends : List (List ℕ)) (m : Result ⊤ SetRefusal) (n : Result F SetRefusal) (b : Result (List (List ℕ)) SetRefusal) (k : F → List (List ℕ) → Result C SetRefusal) → ((x : List (List ℕ)) → b ≡ Ok x → x ≡ appends)
-    → (m >>= λ few. n >>= λ files. b >>= λ belonging. k files belonging) ≡ ((m >>= λ few. n >>= λ files. b >>= λ belonging. Ok files) >>= λ files. k files appends)
-under_parts appends (Ok t) (Ok files) (Ok x) k h = ap (k files) (h x refl)
-under_parts appends (Ok t) (Ok files) (Err r) k h = refl
-under_parts appends (Ok t) (Err r) b k h = refl
-under_parts appends (Err r) n b k h = refl
-
 -- all recipes, once the configuration's wishes are known
 pub whole_is : (sources : Sources) (config : List EntryLine) (paths appends : List (List ℕ)) (wished : Wishes) → wishes config ≡ Ok wished → recipe_set sources config paths appends ≡ set_under sources config paths appends wished
-whole_is sources config paths appends wished e =
-    ap (λ w. asked_of [] w >>= λ found. require (nat_le (length paths) most_recipes) too_many >>= λ few. names_of_files paths >>= λ files. all_belong paths appends >>= λ belonging. recipes_read sources config belonging files >>= λ read. set_over found (all_chosen found.versions read)) e
-    ∙ under_parts appends (require (nat_le (length paths) most_recipes) too_many) (names_of_files paths) (all_belong paths appends) (λ files belonging. recipes_read sources config belonging files >>= λ read. set_over wished (all_chosen wished.versions read)) (belongs_same paths appends)
+whole_is sources config paths appends wished e = ap (λ w. asked_of [] w >>= set_under sources config paths appends) e
 
 -- an empty map chooses nothing
 pub nothing_held : (picks : BTreeMap (String Global) Pick) (wish : Option (List ℕ)) (t : List ℕ) → picks.entries ≡ [] → held_at picks t ≡ held_of wish []

@@ -5,7 +5,7 @@ use Rattle.load_model.specs.Recipes.{SetRefusal, bad_name, dangling_append, load
 use Rattle.datastore.specs.declared.fault.DataFault.{DataFault as StoreFault}
 use Rattle.datastore.specs.declared.fault.DataFault.TheVariants as store
 use Rattle.class_inherit.specs.Faults.{is_read, load_refusal}
-use Rattle.recipe_facts.specs.Said.{IsRefused}
+use Rattle.meta_model.specs.Passing.{IsRefused}
 use Rattle.datastore.specs.Faults.{data_refusal}
 use Rattle.recipe_set.specs.declared.fault.SetFault.{SetFault}
 use Rattle.recipe_set.specs.declared.fault.SetFault.TheVariants.{BadName, DanglingAppend, Load, Recipes, Data, Memory}

@@ -6,5 +6,4 @@ pub mod Held
 pub mod Picks
 pub mod Firsts
 pub mod Faults
-pub mod Loaded
 pub mod Chosen

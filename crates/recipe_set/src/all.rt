@@ -9,7 +9,8 @@ ghost use Rattle.load_model.specs.Facts as facts;
 ghost use Rattle.recipe_facts.specs.Recipe.{recipe_meant};
 ghost use Rattle.recipe_facts.specs.Wished.{wished};
 ghost use Rattle.recipe_set.specs.Appends.{IsIndex};
-ghost use Rattle.recipe_set.specs.Chosen.{file_meant, file_read, read_over, set_under};
+ghost use Rattle.recipe_set.specs.Chosen.{file_meant, file_read};
+ghost use Rattle.load_model.specs.Facts.{read_over, set_under};
 ghost use Rattle.recipe_set.specs.Picks.{ArePicked, ArePicks};
 ghost use Rattle.recipe_set.specs.Faults.{IsSetFault, set_failed};
 

@@ -1,7 +1,9 @@
 // The files of recipes.
 ghost use Rattle.std.specs.Prelude.{◌≡◌, ◌≤◌, ◌++◌, length, ◌∷◌, [], List, ℕ, Ok, IfOk, IfErr, OnOk, map, false};
 ghost use Rattle.load_model.specs.Recipes as recipes;
-ghost use Rattle.recipe_set.specs.Chosen.{file_meant, file_named, files_over};
+ghost use Rattle.recipe_set.specs.Chosen.{file_meant};
+ghost use Rattle.load_model.specs.Recipes.{file_named};
+ghost use Rattle.load_model.specs.Facts.{files_over};
 ghost use Rattle.recipe_set.specs.Faults.{IsSetFault, set_failed};
 
 use crate::dangling::dangling;

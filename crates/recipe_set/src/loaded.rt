@@ -6,7 +6,7 @@ ghost use Rattle.load_model.specs.Loading.{sources_of, with_lines, entries};
 ghost use Rattle.load_model.specs.Recipes as recipes;
 ghost use Rattle.class_inherit.specs.Faults.{IsLoadFault, load_failed};
 ghost use Rattle.recipe_set.specs.Names.{name_meant};
-ghost use Rattle.recipe_set.specs.Loaded.{classes_read, files_read, entries_with};
+ghost use Rattle.load_model.specs.Recipes.{classes_read, files_read, entries_with};
 
 use crate::entries::{at_file, start_of};
 use crate::fault::out_of_memory;

@@ -7,7 +7,7 @@ ghost use Rattle.load_model.specs.Recipes as recipes;
 ghost use Rattle.recipe_facts.specs.Recipe.{recipe_meant};
 ghost use Rattle.recipe_set.specs.Names.{name_meant};
 ghost use Rattle.recipe_set.specs.Appends.{IsIndex};
-ghost use Rattle.recipe_set.specs.Loaded.{recipe_over, three_values, good_name, name_in, recipe_with};
+ghost use Rattle.load_model.specs.Recipes.{recipe_over, three_values, good_name, name_in, recipe_with};
 ghost use Rattle.recipe_set.specs.Faults.{IsSetFault, set_failed};
 
 use crate::by_name::Appends;

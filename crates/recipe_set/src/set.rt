@@ -4,7 +4,7 @@ ghost use Rattle.load_model.specs.Recipes as recipes;
 ghost use Rattle.load_model.specs.Facts as meant;
 ghost use Rattle.recipe_facts.specs.Recipe.{recipe_meant};
 ghost use Rattle.recipe_facts.specs.Wished.{wished};
-ghost use Rattle.recipe_set.specs.Chosen.{set_over};
+ghost use Rattle.load_model.specs.Facts.{set_over};
 ghost use Rattle.recipe_set.specs.Faults.{IsSetFault, set_failed};
 
 use crate::fault::{SetFault, data_told};

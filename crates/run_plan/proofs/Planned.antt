@@ -7,7 +7,7 @@ use Rattle.load_model.specs.Loading.{sources_of}
 use Rattle.meta_model.specs.declared.event.Status.TheVariants.{OutOfMemory}
 use Rattle.project_reading.specs.Answered.{is_failed_read, mode_failed}
 use Rattle.project_reading.specs.Faults.{IsToldAs}
-use Rattle.recipe_facts.specs.Said.{IsRefused}
+use Rattle.meta_model.specs.Passing.{IsRefused}
 use Rattle.run_targets.specs.Asked.{Asked}
 use Rattle.run_targets.specs.Runs.{IsRun, IsNoRun}
 use Rattle.plan_model.specs.Inputs.{Files}

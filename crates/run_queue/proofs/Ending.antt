@@ -1,7 +1,5 @@
 -- The end of a run.
 use Rattle.std.proofs.Common.{◌≡◌, ◌∙◌, sym, subst, ℕ, true, List, Some, inl, inr}
-use Rattle.std.specs.Prelude.{All, Contains, ◌⊎◌}
-use Rattle.std.specs.List.{slice_get}
 use Rattle.std.proofs.lemmas.List.Elements.{All-contains}
 use Rattle.meta_model.specs.CleanBuild.{Built}
 use Rattle.meta_model.specs.declared.plan.PlanTask.{PlanTask}

@@ -2,7 +2,7 @@
 use Rattle.std.proofs.Common.{◌≡◌, ◌∙◌, sym, ap, subst, refl, ℕ, zero, suc, ◌<◌, ◌≤◌, arith, Bool, true, false, List, [], ◌∷◌, ◌++◌, length, get_or, map, All, Option, Some, None, inl, inr, ◌⊎◌}
 use Rattle.std.specs.Prelude.{◌||◌, slice_index_or}
 use Rattle.std.specs.Option.{option_map}
-use Rattle.std.specs.List.{AllByRecursion, cons_option, filter_map, list_any, slice_get}
+use Rattle.std.specs.List.{AllByRecursion, list_any, slice_get}
 use Rattle.std.proofs.lemmas.Bool.{false≢true}
 use Rattle.std.proofs.lemmas.Bool.Decides.{Decides-ltb}
 use Rattle.std.proofs.lemmas.List.{map-append}
@@ -23,14 +23,14 @@ use Rattle.store_model.specs.Premises.{AreSoundFrom}
 use Rattle.store_model.specs.Signatures.{Signed, signature, signatures, signed_from}
 use Rattle.store_model.specs.Spelled.{IsSpelled}
 use Rattle.store_model.specs.Spelling.{name_of, signature_bytes}
-use Rattle.store_model.specs.Unihashes.{Hashed, hashed, signature_of}
+use Rattle.store_model.specs.Unihashes.{hashed}
 use Rattle.store_model.proofs.Hashing.{signature_by_unihashes}
 use Rattle.store_model.proofs.Ordered.{each_append}
 use Rattle.store_model.proofs.Soundness.{sound_plan_is_sound}
 use Rattle.store_model.proofs.Spelled.{signature_is_spelled}
 use Rattle.sig_gen.specs.Signing.{hashed_at, paired, signature_by}
 use Rattle.setscene_plan.specs.Names.{AreNamed, names_over}
-use Rattle.setscene_plan.proofs.Naming.{names_are_over}
+use Rattle.setscene_plan.proofs.Naming.{names_are_over, signature_gathered}
 use Rattle.std.specs.Prelude.{IfErr, IfOk, IfSome, IsSome, MatchBool, Result, Ok, Err}
 use Rattle.std.specs.Result.{IsErrAnd}
 use Rattle.sha2.specs.Sha256.{sha256}
@@ -85,14 +85,6 @@ ordered plan sound t = by (slice_get plan.tasks t) refl
 
 -- ---- by unihashes
 
-gathered : {B : Type 0} (f g : ℕ → Option B) (xs : List ℕ) → AllByRecursion (λ d. f d ≡ g d) xs → filter_map f xs ≡ filter_map g xs
-gathered f g [] all = refl
-gathered f g (x ∷ xs) all = let first = all.0 in let rest = gathered f g xs all.1 in λ i. cons_option (first i) (rest i)
-
-by_gathered : (tasks : List PlanTask) (us : List Hash) (task : PlanTask) (g : ℕ → Option Hashed) → AllByRecursion (λ d. hashed_at tasks us d ≡ g d) task.deps → signature_by tasks us task ≡ signature_of task (filter_map g task.deps)
-unfolding signature_by
-by_gathered tasks us task g same = ap (signature_of task) (gathered (hashed_at tasks us) g task.deps same)
-
 pub signed_here : (rows : List EquivRow) (tasks : List PlanTask) (t : ℕ) → t < length tasks → (s : Signed) × (slice_get (signatures rows tasks) t ≡ Some s)
 signed_here rows tasks t lt = found (signatures rows tasks) t (let c = signed_count rows tasks in omega (arith, c, lt))
   where
@@ -104,7 +96,7 @@ signed_here rows tasks t lt = found (signatures rows tasks) t (let c = signed_co
 -- Where names and unihashes are those over the rows, the signature by them is the task's own.
 pub own_signature : (rows : List EquivRow) (tasks : List PlanTask) (names unihashes : List Hash) → AreOrdered tasks → AreNamed rows tasks names unihashes → (t : ℕ) (s : Signed) → slice_get (signatures rows tasks) t ≡ Some s → signature_by tasks unihashes s.task ≡ s.sig
 own_signature rows tasks names unihashes order are t s is =
-    by_gathered tasks unihashes s.task (slice_get (map (hashed rows) (signatures rows tasks))) (recursion_from_All (λ d. hashed_at tasks unihashes d ≡ slice_get (map (hashed rows) (signatures rows tasks)) d) s.task.deps (λ k d inside. hashed_is (get_or s.task.deps k d) (below k d inside)))
+    signature_gathered tasks unihashes s.task (slice_get (map (hashed rows) (signatures rows tasks))) (recursion_from_All (λ d. hashed_at tasks unihashes d ≡ slice_get (map (hashed rows) (signatures rows tasks)) d) s.task.deps (λ k d inside. hashed_is (get_or s.task.deps k d) (below k d inside)))
     ∙ sym (signature_by_unihashes rows tasks t s is below)
   where
     lt : t < length tasks

@@ -1,5 +1,5 @@
 -- What a run keeps of its store while a task's output is published.
-use Rattle.std.proofs.Common.{◌≡◌, ◌≢◌, ◌∙◌, sym, ap, subst, refl, ℕ, ◌+◌, ◌<◌, ◌≤◌, ◌-◌, ◌^◌, ◌⊎◌, inl, inr, zero, suc, arith, Bool, true, false, List, [], ◌∷◌, ◌++◌, length, take, Some, None, Ok, append_assoc, append-nil}
+use Rattle.std.proofs.Common.{◌≡◌, ◌≢◌, ◌∙◌, sym, ap, subst, refl, ℕ, ◌+◌, ◌<◌, ◌≤◌, ◌-◌, ◌^◌, ◌⊎◌, inl, inr, zero, suc, arith, true, false, List, [], ◌∷◌, ◌++◌, length, take, Some, None, append_assoc, append-nil}
 use Rattle.std.specs.Prelude.{codes, Option}
 use Rattle.std.specs.List.{AllByRecursion, slice_get}
 use Rattle.std.proofs.lemmas.Bool.{cases_eq, false≢true}

@@ -3,11 +3,11 @@ use Rattle.std.proofs.Common.{◌≡◌, subst, sym, ℕ, List, ◌⊎◌, inl, 
 use Rattle.meta_model.specs.declared.event.Status.{Status}
 use Rattle.meta_model.specs.declared.event.Status.TheVariants.{OutOfMemory}
 use Rattle.meta_model.specs.declared.facts.Graph.{Graph}
-use Rattle.load_model.specs.Loading.{Sources, sources_of}
+use Rattle.load_model.specs.Loading.{sources_of}
 use Rattle.project_reading.specs.Answered.{IsRefusedAs}
 use Rattle.run_targets.specs.Refused.{IsGraphStatus}
 use Rattle.run_targets.specs.Asked.{Asked, asked}
-use Rattle.run_targets.specs.Runs.{HasGraph, HasNoThreads, IsDeviceStatus, HasRun, HasNoRun, device, no_graph, no_threads, IsRun, IsRunRefused, asking, graph as graph_refused, IsNoRun}
+use Rattle.run_targets.specs.Runs.{HasGraph, HasNoThreads, IsDeviceStatus, HasRun, HasNoRun, device, no_graph, no_threads, IsRun, asking, graph as graph_refused, IsNoRun}
 use Rattle.run_targets.proofs.Told.{threads_refused}
 
 -- the targets have no graph

@@ -9,14 +9,13 @@ use Rattle.meta_model.specs.GraphRefusal.{nothing_provides, several_provide, no_
 use Rattle.meta_model.specs.Threads.{AreThreads}
 use Rattle.load_model.specs.Loading.{sources_of}
 use Rattle.project_reading.specs.Faults.{IsAnswered, fault_status}
-use Rattle.project_reading.specs.Answered.{IsRefusedAs}
 use Rattle.project_reading.specs.Said.{threads_status}
 use Rattle.task_graph.specs.Reached.{IsGraphFault}
 use Rattle.task_graph.specs.declared.fault.GraphFault.{GraphFault}
 use Rattle.task_graph.specs.declared.fault.GraphFault.TheVariants.{NoSuchTask, TaskCycle, NothingProvides, SeveralProvide, Tasks, BadThreads, Memory}
 use Rattle.run_targets.specs.Refused.{IsGraphStatus, lacking, cycle, many}
 use Rattle.run_targets.specs.Asked.{Asked, asked, threads_text}
-use Rattle.run_targets.specs.Runs.{HasGraph, HasThreads, IsDeviceStatus, HasNoThreads, value, threads, IsRun, IsRunRefused, asking, graph as no_graph_of, value as no_value_of, threads as no_threads_of}
+use Rattle.run_targets.specs.Runs.{HasGraph, IsDeviceStatus, HasNoThreads, value, threads, IsRunRefused, value as no_value_of, threads as no_threads_of}
 
 -- the status of a fault of the graph
 pub graph_told : (facts : FactSet) (targets : List Target) (fault : GraphFault) (status : Status) → IsGraphFault facts targets fault → IsAnswered status (fault_status fault) → (status ≡ OutOfMemory) ⊎ IsGraphStatus facts targets status

@@ -17,8 +17,8 @@ use Rattle.task_model.specs.Scripts.{Flags, Frame, all_folders, flag_at, places_
 use Rattle.script_gen.specs.Steps.{folder_of, called, place_in, told_value, begun, written, placed, side}
 use Rattle.script_gen.specs.declared.fault.ScriptFault.{ScriptFault}
 use Rattle.script_gen.specs.Faults.{IsScriptFault}
-use Rattle.script_gen.proofs.Passing.{fault_on, fault_later, goes_on}
-use Rattle.script_gen.proofs.Turns.{IsInTurn}
+use Rattle.script_gen.proofs.Passing.{fault_on, fault_later}
+use Rattle.meta_model.proofs.Passing.{goes_on, IsInTurn}
 
 -- each list is asked in turn
 

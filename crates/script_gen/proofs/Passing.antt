@@ -1,7 +1,6 @@
 -- Answers and refusals, one after another.
-use Rattle.std.proofs.Common.{◌≡◌, sym, ap, subst, Option, Some, None, Result, Ok, Err, IfErr, OnOk, IfOk}
+use Rattle.std.proofs.Common.{◌≡◌, sym, ap, subst, Result, Ok, IfErr}
 use Rattle.std.specs.Prelude.{IsErrAnd}
-use Rattle.std.proofs.lemmas.Result.{err_from_is_err_and}
 use Rattle.meta_model.specs.Refusal.{Refusal}
 use Rattle.var_expand.specs.declared.fault.ExpandFault.{ExpandFault}
 use Rattle.var_expand.specs.declared.fault.ExpandFault.TheVariants as expand
@@ -9,27 +8,21 @@ use Rattle.var_expand.specs.Faults.{IsFaultOf}
 use Rattle.datastore.specs.declared.fault.DataFault.{DataFault}
 use Rattle.datastore.specs.declared.fault.DataFault.TheVariants as data_fault
 use Rattle.datastore.specs.Faults.{IsDataFault}
+use Rattle.meta_model.proofs.Passing.{goes_on, refused_on, refused_same}
+use Rattle.std.proofs.lemmas.Result.{err_from_is_err_and, IfErr-weaker}
 use Rattle.task_model.specs.TaskRefusal.{TaskRefusal, ◌>>=◌, asked}
 use Rattle.script_gen.specs.declared.fault.ScriptFault.{ScriptFault}
 use Rattle.script_gen.specs.declared.fault.ScriptFault.TheVariants.{Memory}
 use Rattle.script_gen.specs.Told.{told, told_by}
-use Rattle.script_gen.specs.Faults.{IsMeant, IsScriptFault, refusal_of}
-
--- an answer goes on
-pub goes_on : {A B : Type 0} (m : Result A TaskRefusal) (a : A) (f : A → Result B TaskRefusal) → m ≡ Ok a → (m >>= f) ≡ f a
-goes_on m a f e = ap (λ k. k >>= f) e
+use Rattle.script_gen.specs.Faults.{IsScriptFault, refusal_of}
 
 -- a refusal of the first answer is one of the whole
 
-meant_on : {A B : Type 0} (refusal : Option TaskRefusal) (m : Result A TaskRefusal) (f : A → Result B TaskRefusal) → IsMeant refusal m → IsMeant refusal (m >>= f)
-meant_on (Some r) m f h = ap (λ k. k >>= f) h
-meant_on None m f h = tt
-
 pub fault_on : {A B : Type 0} (fault : ScriptFault) (m : Result A TaskRefusal) (f : A → Result B TaskRefusal) → IsScriptFault fault m → IsScriptFault fault (m >>= f)
-fault_on fault m f h = meant_on (refusal_of fault) m f h
+fault_on fault m f h = refused_on (refusal_of fault) m f h
 
 pub fault_same : {A : Type 0} (fault : ScriptFault) (m n : Result A TaskRefusal) → m ≡ n → IsScriptFault fault n → IsScriptFault fault m
-fault_same fault m n e h = subst (IsMeant (refusal_of fault)) (sym e) h
+fault_same fault m n e h = refused_same (refusal_of fault) m n e h
 
 -- a refusal of what follows an answer is one of the whole
 pub fault_later : {A B : Type 0} (fault : ScriptFault) (m : Result A TaskRefusal) (a : A) (f : A → Result B TaskRefusal) → m ≡ Ok a → IsScriptFault fault (f a) → IsScriptFault fault (m >>= f)
@@ -67,18 +60,6 @@ out r fault meant is h =
 pub want : {T A : Type 0} (r : Result T ScriptFault) (meant : Result A TaskRefusal) → IsErrAnd r (λ e. e ≡ Memory) → IfErr r (λ f. IsScriptFault f meant)
 want r meant is = out r Memory meant is tt
 
-pub if_err_weaker : {T F : Type 0} (r : Result T F) (P Q : F → Type 0) → ((fault : F) → P fault → Q fault) → IfErr r P → IfErr r Q
-if_err_weaker (Ok a) P Q f h = tt
-if_err_weaker (Err fault) P Q f h = f fault h
-
 -- what a call answered last says of the whole
 pub last_fault : {T A B : Type 0} (r : Result T ScriptFault) (m : Result A TaskRefusal) (n : Result B TaskRefusal) → ((fault : ScriptFault) → IsScriptFault fault m → IsScriptFault fault n) → IfErr r (λ f. IsScriptFault f m) → IfErr r (λ f. IsScriptFault f n)
-last_fault r m n f h = if_err_weaker r (λ fault. IsScriptFault fault m) (λ fault. IsScriptFault fault n) f h
-
-pub if_ok_weaker : {T E : Type 0} (r : Result T E) (P Q : T → Type 0) → ((made : T) → P made → Q made) → IfOk r P → IfOk r Q
-if_ok_weaker (Ok a) P Q f h = f a h
-if_ok_weaker (Err e) P Q f h = tt
-
-pub on_ok_weaker : {T E P Q : Type 0} (r : Result T E) → (P → Q) → OnOk r P → OnOk r Q
-on_ok_weaker (Ok a) f h = f h
-on_ok_weaker (Err e) f h = tt
+last_fault r m n f h = IfErr-weaker r (λ fault. IsScriptFault fault m) (λ fault. IsScriptFault fault n) f h

@@ -1,5 +1,6 @@
 -- What a fault says of the script or the places that were meant.
-use Rattle.std.specs.Prelude.{◌≡◌, Option, Some, None, option_map, Result, Err, ⊤}
+use Rattle.std.specs.Prelude.{Option, Some, None, option_map, Result}
+use Rattle.meta_model.specs.Passing.{IsRefused}
 use Rattle.datastore.specs.Faults.{data_refusal}
 use Rattle.task_model.specs.TaskRefusal.{TaskRefusal, bad_flag, no_value}
 use Rattle.script_gen.specs.declared.fault.ScriptFault.{ScriptFault}
@@ -11,11 +12,6 @@ refusal_of (BadFlag flag word) = Some (bad_flag flag word)
 refusal_of (Data fault) = option_map no_value (data_refusal fault)
 refusal_of Memory = None
 
--- This refusal was meant. Where there is none, nothing is claimed.
-abbrev pub IsMeant : {A : Type 0} → Option TaskRefusal → Result A TaskRefusal → Type 0
-IsMeant (Some refusal) meant = meant ≡ Err refusal
-IsMeant None meant = ⊤
-
 -- The fault is the refusal that was meant. Of want of memory nothing is claimed.
 abbrev pub IsScriptFault : {A : Type 0} → ScriptFault → Result A TaskRefusal → Type 0
-IsScriptFault fault meant = IsMeant (refusal_of fault) meant
+IsScriptFault fault meant = IsRefused (refusal_of fault) meant

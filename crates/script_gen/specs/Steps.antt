@@ -1,5 +1,5 @@
 -- What is asked of one word or of one name after another.
-use Rattle.std.specs.Prelude.{ℕ, Bool, List, [], ◌++◌, ◌||◌, ◌==◌, Option, Some, None, not, ◌&&◌, unwrap_or, Result, Ok, Err, codes, bytes_eq, if◌then◌else◌, flat_map, zip, ◌∷◌}
+use Rattle.std.specs.Prelude.{ℕ, Bool, List, [], ◌++◌, ◌||◌, ◌==◌, Option, Some, None, not, ◌&&◌, unwrap_or, Result, Ok, codes, bytes_eq, if◌then◌else◌, flat_map, zip, ◌∷◌}
 use Rattle.meta_model.specs.Text.{backslash, double_quote, into_order, words}
 use Rattle.meta_model.specs.Expansion.{Find, value_by}
 use Rattle.meta_model.specs.Script.{function_texts}
@@ -7,11 +7,6 @@ use Rattle.task_model.specs.Views.{is_function}
 use Rattle.task_model.specs.Leads.{is_key_name}
 use Rattle.task_model.specs.TaskRefusal.{TaskRefusal, bad_flag, ◌>>=◌, asked, require}
 use Rattle.task_model.specs.Scripts.{Flags, Frame, all_places, paired, call_lines, cd_line, clean_lines, ended_bodies, export_lines, flag_text, folders, functions_in, is_folder, is_on, is_path, make_line, place_of, told_values}
-
--- a list that goes on behind what is there
-abbrev pub behind : {A : Type 0} → List A → Result (List A) TaskRefusal → Result (List A) TaskRefusal
-behind before (Ok more) = Ok (before ++ more)
-behind before (Err refusal) = Err refusal
 
 -- a folder, where the word is one
 abbrev pub folder_of : List ℕ → List ℕ → Result (List ℕ) TaskRefusal

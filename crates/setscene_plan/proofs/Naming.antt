@@ -29,7 +29,7 @@ signature_local tasks us vs task same =
     (recursion_from_All (λ d. hashed_at tasks us d ≡ hashed_at tasks vs d) task.deps (λ k d lt. ap (paired (slice_get tasks (get_or task.deps k d))) (same k d lt))))
 
 -- a signature by needed tasks that are found in another way
-signature_gathered : (tasks : List PlanTask) (us : List Hash) (task : PlanTask) (g : ℕ → Option Hashed) → AllByRecursion (λ d. hashed_at tasks us d ≡ g d) task.deps → signature_by tasks us task ≡ signature_of task (filter_map g task.deps)
+pub signature_gathered : (tasks : List PlanTask) (us : List Hash) (task : PlanTask) (g : ℕ → Option Hashed) → AllByRecursion (λ d. hashed_at tasks us d ≡ g d) task.deps → signature_by tasks us task ≡ signature_of task (filter_map g task.deps)
 unfolding signature_by
 signature_gathered tasks us task g same = ap (signature_of task) (gathered_same (hashed_at tasks us) g task.deps same)
 

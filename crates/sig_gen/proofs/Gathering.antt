@@ -1,34 +1,17 @@
 -- Lists that are gathered item by item.
-use Rattle.std.proofs.Common.{◌≡◌, ◌∙◌, sym, ap, refl, ℕ, ◌+◌, ◌<◌, zero, suc, add-one, arith, Bool, true, false, cond, List, [], ◌∷◌, ◌++◌, length, get_or, take, drop, drop-cons, map, filter, Option, Some, None, append_assoc}
+use Rattle.std.proofs.Common.{◌≡◌, ◌∙◌, sym, ap, refl, ℕ, ◌+◌, ◌<◌, zero, suc, add-one, arith, Bool, true, false, List, [], ◌∷◌, ◌++◌, length, get_or, take, map, filter, Option, Some, None, append_assoc}
 use Rattle.std.specs.Prelude.{nat_lt}
 use Rattle.std.specs.Option.{option_to_list}
-use Rattle.std.specs.List.{filter_map}
 use Rattle.std.specs.Str.{bytes_eq}
 use Rattle.std.proofs.lemmas.List.Elements.{filter-append}
 use Rattle.std.proofs.lemmas.List.{map-append}
 use Rattle.std.proofs.lemmas.Bool.Decides.{nat_tests}
+use Rattle.meta_model.proofs.Gathered.{gathered}
 use Rattle.tree_model.specs.declared.hash.Hash.{Hash}
 use Rattle.meta_model.specs.declared.plan.PlanTask.{PlanTask}
 use Rattle.store_model.specs.Signatures.{order_text}
 use Rattle.store_model.specs.Unihashes.{Hashed, dep_of}
 use Rattle.sig_gen.specs.Signing.{hashed_among, hashed_at, is_hashed_of, laid, own_in, behind_blank}
-
-module _ {A B : Type 0} (f : A → Option B) where
-  gathered_suc : (xs : List A) (i : ℕ) (d : A) → i < length xs → filter_map f (take (suc i) xs) ≡ filter_map f (take i xs) ++ option_to_list (f (get_or xs i d))
-  gathered_suc [] i d lt = absurd (omega arith)
-  gathered_suc (x ∷ xs) zero d lt = by (f x) refl
-    where
-      by : (o : Option B) → f x ≡ o → filter_map f (x ∷ []) ≡ option_to_list (f x)
-      by None e = simp e
-      by (Some y) e = simp e
-  gathered_suc (x ∷ xs) (suc i) d lt = by (f x) refl (gathered_suc xs i d (omega arith))
-    where
-      by : (o : Option B) → f x ≡ o → filter_map f (take (suc i) xs) ≡ filter_map f (take i xs) ++ option_to_list (f (get_or xs i d)) → filter_map f (x ∷ take (suc i) xs) ≡ filter_map f (x ∷ take i xs) ++ option_to_list (f (get_or xs i d))
-      by None e more = simp e more
-      by (Some y) e more = simp e (ap (λ l. y ∷ l) more)
-
-  gathered : (xs : List A) (i : ℕ) (d : A) → i < length xs → filter_map f (take (i + 1) xs) ≡ filter_map f (take i xs) ++ option_to_list (f (get_or xs i d))
-  gathered xs i d lt = rw add-one (gathered_suc xs i d lt)
 
 -- ---- needed tasks
 

@@ -1,23 +1,10 @@
 -- Where stamps stand, and where they are written and put aside, are clean paths.
-use Rattle.std.proofs.Common.{◌≡◌, ◌<◌, ℕ, zero, suc, List, [], ◌∷◌, length, get_or, Bool, true, false, arith, refl, lit<, lit≤, length-append}
-use Rattle.std.specs.Prelude.{Contains, codes}
+use Rattle.std.proofs.Common.{◌<◌, ℕ, List, [], ◌∷◌, arith, refl, lit<, lit≤, length-append}
+use Rattle.std.specs.Prelude.{codes}
 use Rattle.std.proofs.lemmas.List.Elements.{All-cons}
 use Rattle.tree_model.specs.Path.{IsClean, IsPart, parts_of}
+use Rattle.tree_model.proofs.PathLemmas.{no_zero_in}
 use Rattle.stamp_store.specs.Stamp.{IsFolder, old_path, stamp_path, staged_path}
-
-abbrev positive : List ℕ → Bool
-positive [] = true
-positive (zero ∷ xs) = false
-positive (suc x ∷ xs) = positive xs
-
-none_zero : (xs : List ℕ) (k : ℕ) → positive xs ≡ true → k < length xs → get_or xs k 0 ≡ 0 → ⊥
-none_zero [] k p lt e = omega arith
-none_zero (zero ∷ xs) k p lt e = cc
-none_zero (suc x ∷ xs) zero p lt e = let h : suc x ≡ 0 = e in omega arith
-none_zero (suc x ∷ xs) (suc k) p lt e = none_zero xs k p (omega arith) e
-
-no_zero_in : (xs : List ℕ) → positive xs ≡ true → Contains xs 0 → ⊥
-no_zero_in xs p has = none_zero xs has.0 p has.1 has.2
 
 stamp_part : IsPart (codes "stamp")
 stamp_part = record { not_empty = lit< tt; short = lit≤ tt; not_here = λ e. cc; not_above = λ e. cc; no_zero = λ has. no_zero_in (codes "stamp") refl has }

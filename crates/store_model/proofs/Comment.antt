@@ -30,7 +30,7 @@ use Rattle.store_model.specs.Signatures.{Signed, is_order, signatures}
 use Rattle.store_model.specs.Spelling.{name_of, record_bytes, signature_bytes}
 use Rattle.store_model.specs.Origins.{Book, Line, origin, row_of, rows_of}
 use Rattle.store_model.specs.Valid.{IsPlain, IsValid, StandsIn, record_entry, stored_of}
-use Rattle.store_model.specs.Premises.{AreSound, HasNoClash, HasNoCollision, HasOneSignature, IsBlind, IsContent, IsSoundTask, IsTreeOf, IsWord}
+use Rattle.store_model.specs.Premises.{HasNoCollision, HasOneSignature, IsBlind, IsContent, IsSoundTask, IsTreeOf, IsWord}
 use Rattle.store_model.specs.Premises as of
 use Rattle.store_model.specs.Reuse.{MayReuse}
 use Rattle.store_model.specs.Recording.{HasRow, with_record}

@@ -3,15 +3,14 @@ ghost use Rattle.std.specs.Prelude.{◌≡◌, ◌<◌, ◌≤◌, ◌^◌, ◌+
 ghost use Rattle.std.specs.List.{list_any};
 ghost use Rattle.std.specs.Map.{lookup};
 ghost use Rattle.std.specs.Option.{option_map_or};
-ghost use Rattle.meta_model.specs.Text.{into_order, in_byte_order, is_before, is_in};
+ghost use Rattle.meta_model.specs.Text.{in_byte_order, is_in};
 ghost use Rattle.meta_model.specs.Providers.{provider as provider_of, runtime_provider as runtime_provider_of, only_one as the_only_one, narrowed, is_named, is_preferred, is_candidate as candidate_test, is_package_for, is_runtime_candidate as runtime_test};
 ghost use Rattle.task_graph.specs.Faults.{IsRefusalOf, IsUnprovided};
 ghost use Rattle.task_graph.specs.Candidates.{test_of};
 
 use crate::fault::GraphFault;
-use meta_model::{FactSet, Package, RecipeFacts};
+use meta_model::{FactSet, Package, RecipeFacts, put_in_order};
 use std::alloc::Global;
-use std::cmp::Ordering;
 use tree_model::{Mem, Text, Texts};
 
 /// Which recipes are looked for.
@@ -92,35 +91,6 @@ fn any_passes(test: Test, facts: &FactSet, name: &str) -> bool
         }
     }
     false
-}
-
-/// Whether the first text comes before the second in byte order.
-fn comes_before(first: &str, second: &str) -> bool
-    ensures { result ≡ is_before first.now second.now }
-{
-    match first.cmp(second) {
-        Ordering::Less => true,
-        Ordering::Equal => false,
-        Ordering::Greater => false,
-    }
-}
-
-/// Puts a text into its place among others in byte order, where it isn't there yet.
-fn put_in_order(texts: &mut Vec<Text>, text: Text) -> Result<(), Mem>
-    ensures { OnOk result (texts.new.items ≡ into_order texts.old.items text) }
-{
-    let mut place = 0;
-    while place < texts.len() {
-        if texts[place].as_str() == text.as_str() {
-            return Ok(());
-        }
-        if comes_before(text.as_str(), texts[place].as_str()) {
-            texts.insert(place, text)?;
-            return Ok(());
-        }
-        place += 1;
-    }
-    Ok(texts.push(text)?)
 }
 
 fn as_texts(alloc: Global, texts: &[Text]) -> Result<Texts, Mem>

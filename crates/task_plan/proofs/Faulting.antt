@@ -1,5 +1,5 @@
 -- Refusals of plans, passed on.
-use Rattle.std.proofs.Common.{◌≡◌, ◌∙◌, refl, sym, ap, subst, inl, inr, List, ℕ, Option, Some, None, Result, Ok, Err, IfOk, IfErr, OnOk, false}
+use Rattle.std.proofs.Common.{◌≡◌, ◌∙◌, refl, sym, ap, subst, inl, inr, List, ℕ, Option, Some, None, Result, Ok, IfErr, false}
 use Rattle.std.specs.Prelude.{IsErrAnd}
 use Rattle.std.specs.Option.{option_map}
 use Rattle.std.proofs.lemmas.Result.{err_from_is_err_and}
@@ -11,8 +11,9 @@ use Rattle.datastore.specs.Faults.{IsDataFault, refusal_of, data_refusal}
 use Rattle.load_model.specs.LoadRefusal.{◌>>=◌, refused_as}
 use Rattle.task_model.specs.TaskRefusal.{TaskRefusal}
 use Rattle.task_model.specs.TaskRefusal as task
-use Rattle.recipe_facts.specs.Said.{IsRefused}
-use Rattle.recipe_facts.proofs.Binding.{refused_on, said, goes_on}
+use Rattle.meta_model.specs.Passing.{IsRefused}
+use Rattle.meta_model.proofs.Passing.{refused_on, goes_on}
+use Rattle.recipe_facts.proofs.Binding.{said}
 use Rattle.script_gen.specs.declared.fault.ScriptFault.{ScriptFault}
 use Rattle.script_gen.specs.Faults as script
 use Rattle.plan_model.specs.PlanRefusal.{PlanRefusal, no_value, told_at}
@@ -48,13 +49,9 @@ told_value f (Some r) m h = ap (refused_as f) h
 pub plan_data : {A : Type 0} (file : List ℕ) (fault : DataFault) (made : PlanFault) (m : Result A Refusal) → IsTold made (option_map (no_value file) (data_refusal fault)) → IsDataFault fault m → IsPlanFault made (refused_as (no_value file) m)
 plan_data file fault made m t h = plan_told made (option_map (no_value file) (data_refusal fault)) (refused_as (no_value file) m) t (told_value (no_value file) (data_refusal fault) m (said fault m h))
 
-refused_meant : {A : Type 0} (o : Option TaskRefusal) (m : Result A TaskRefusal) → script.IsMeant o m → IsRefused o m
-refused_meant None m h = tt
-refused_meant (Some r) m h = h
-
 -- a script or places that are refused
 pub plan_script : {A : Type 0} (file : List ℕ) (fault : ScriptFault) (made : PlanFault) (m : Result A TaskRefusal) → IsTold made (option_map (told_at file) (script.refusal_of fault)) → script.IsScriptFault fault m → IsPlanFault made (refused_as (told_at file) m)
-plan_script file fault made m t h = plan_told made (option_map (told_at file) (script.refusal_of fault)) (refused_as (told_at file) m) t (told_value (told_at file) (script.refusal_of fault) m (refused_meant (script.refusal_of fault) m h))
+plan_script file fault made m t h = plan_told made (option_map (told_at file) (script.refusal_of fault)) (refused_as (told_at file) m) t (told_value (told_at file) (script.refusal_of fault) m h)
 
 -- a store's fault says the same, whether of a script or alone
 same_told : (file : List ℕ) (o : Option Refusal) → option_map (told_at file) (option_map task.no_value o) ≡ option_map (no_value file) o
@@ -95,15 +92,3 @@ pub memory_exit : {T A : Type 0} (r : Result T PlanFault) (meant : Result A Plan
 memory_exit r meant made =
     let p = err_from_is_err_and r made in
     subst (λ a. IfErr a (λ f. IsPlanFault f meant)) (sym p.1) (plan_memory p.0 meant p.2)
-
-pub if_err_weaker : {T F : Type 0} (r : Result T F) (P Q : F → Type 0) → ((fault : F) → P fault → Q fault) → IfErr r P → IfErr r Q
-if_err_weaker (Ok a) P Q f h = tt
-if_err_weaker (Err fault) P Q f h = f fault h
-
-pub if_ok_weaker : {T E : Type 0} (r : Result T E) (P Q : T → Type 0) → ((x : T) → P x → Q x) → IfOk r P → IfOk r Q
-if_ok_weaker (Ok x) P Q f h = f x h
-if_ok_weaker (Err e) P Q f h = tt
-
-pub on_ok_weaker : {T E P Q : Type 0} (r : Result T E) → (P → Q) → OnOk r P → OnOk r Q
-on_ok_weaker (Ok a) f h = f h
-on_ok_weaker (Err e) f h = tt

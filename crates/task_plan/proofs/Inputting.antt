@@ -9,7 +9,7 @@ use Rattle.tree_model.specs.Tree.{entry_at, put}
 use Rattle.tree_model.specs.Overlay.{overlaid}
 use Rattle.meta_model.specs.CleanBuild.{Entries}
 use Rattle.load_model.specs.LoadRefusal.{◌>>=◌}
-use Rattle.recipe_facts.proofs.Binding.{goes_on}
+use Rattle.meta_model.proofs.Passing.{goes_on}
 use Rattle.plan_model.specs.PlanRefusal.{PlanRefusal, plan_bytes}
 use Rattle.plan_model.specs.Inputs.{Files, Inputs, input_word, input_words, most_of_inputs, with_input, within_limit, inputs_of}
 use Rattle.task_plan.specs.declared.fault.PlanFault.{PlanFault}

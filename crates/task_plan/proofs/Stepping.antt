@@ -3,7 +3,6 @@ use Rattle.std.proofs.Common.{◌≡◌, ◌∙◌, refl, sym, ap, ℕ, List, Bo
 use Rattle.meta_model.proofs.Room.{ok_parts}
 use Rattle.meta_model.specs.declared.entry.EntryLine.{EntryLine}
 use Rattle.meta_model.specs.declared.value.Key.{Key}
-use Rattle.meta_model.specs.Refusal.{Refusal}
 use Rattle.meta_model.specs.Refusal as read
 use Rattle.meta_model.specs.Text.{is_in}
 use Rattle.load_model.specs.LoadRefusal.{◌>>=◌, refused_as}
@@ -12,7 +11,7 @@ use Rattle.task_model.specs.Keys.{key, key_over}
 use Rattle.task_model.specs.Scripts.{is_sstate_of}
 use Rattle.task_model.proofs.Leaders.{store_view}
 use Rattle.task_model.proofs.KeyNames.{sstate_is}
-use Rattle.recipe_facts.proofs.Binding.{goes_on}
+use Rattle.meta_model.proofs.Passing.{goes_on}
 use Rattle.plan_model.specs.PlanRefusal.{PlanRefusal, no_value}
 use Rattle.plan_model.specs.Inputs.{Files, Inputs}
 use Rattle.plan_model.specs.Plans.{task_inputs, is_shared, Parts, parts_of}

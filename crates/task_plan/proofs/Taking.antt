@@ -8,8 +8,8 @@ use Rattle.meta_model.specs.declared.plan.Plan.{Plan}
 use Rattle.meta_model.specs.declared.plan.PlanTask.{PlanTask}
 use Rattle.load_model.specs.LoadRefusal.{◌>>=◌}
 use Rattle.load_model.specs.Facts.{RecipeSet}
-use Rattle.recipe_facts.specs.Behind.{behind}
-use Rattle.recipe_facts.proofs.Binding.{goes_on, behind_more}
+use Rattle.meta_model.specs.Passing.{behind}
+use Rattle.meta_model.proofs.Passing.{goes_on, behind_more}
 use Rattle.plan_model.specs.PlanRefusal.{PlanRefusal}
 use Rattle.plan_model.specs.Inputs.{Files}
 use Rattle.plan_model.specs.Plans.{Sums, no_sums, Planned, planned_node, tasks_planned, forced_from, plan_of, forced, forced_plan_of}

@@ -3,7 +3,7 @@ use Rattle.std.specs.Prelude.{◌≡◌, ◌⊎◌, Bool, true, false, Option, S
 use Rattle.std.specs.Option.{option_map}
 use Rattle.datastore.specs.declared.fault.DataFault.{DataFault}
 use Rattle.datastore.specs.declared.fault.DataFault.TheVariants as store
-use Rattle.recipe_facts.specs.Said.{IsRefused}
+use Rattle.meta_model.specs.Passing.{IsRefused}
 use Rattle.datastore.specs.Faults.{data_refusal}
 use Rattle.plan_model.specs.PlanRefusal.{PlanRefusal, bad_flag, no_value, missing_file, input_bytes, plan_bytes}
 use Rattle.task_plan.specs.declared.fault.PlanFault.{PlanFault}

@@ -1,12 +1,8 @@
 -- The test of an output's limits, and what it means.
-use Rattle.std.proofs.Common.{◌≡◌, ◌⊎◌, inl, inr, ◌∙◌, ap, sym, subst, refl, ℕ, zero, suc, ◌<◌, ◌≤◌, Bool, true, false, List, [], ◌∷◌, length, arith, All, get_or, Ok, Err}
-use Rattle.std.specs.Prelude.{◌||◌, ◌&&◌, not, IsTrue, nat_lt, slice_index_or, if◌then◌else◌}
+use Rattle.std.proofs.Common.{◌≡◌, ◌∙◌, ap, sym, subst, refl, ◌≤◌, Bool, true, false, [], ◌∷◌, length, arith, All, Ok, Err}
+use Rattle.std.specs.Prelude.{◌||◌, ◌&&◌, not, IsTrue, if◌then◌else◌}
 use Rattle.std.specs.List.{list_any}
-use Rattle.std.specs.Bool.{Decides}
 use Rattle.std.proofs.lemmas.Bool.{false≢true}
-use Rattle.std.proofs.lemmas.Bool.Decides.{Decides-ltb}
-use Rattle.std.proofs.lemmas.List.Folds.{list_any_none}
-use Rattle.tree_model.specs.declared.entry.Entry.{Entry}
 use Rattle.tree_model.specs.declared.tree.Size.{Size}
 use Rattle.tree_model.specs.Size.{Exceeds, size_of}
 use Rattle.meta_model.proofs.Bools.{or_first, or_later}

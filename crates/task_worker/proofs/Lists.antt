@@ -1,9 +1,10 @@
 -- Lists that are gathered, and trees that are laid, item by item.
 use Rattle.std.proofs.Common.{◌≡◌, ◌∙◌, sym, ap, refl, ℕ, ◌+◌, ◌<◌, zero, suc, add-one, arith, Bool, true, false, not, List, [], ◌∷◌, ◌++◌, length, get_or, take, map, filter, Option, Some, None, subst}
 use Rattle.std.specs.Option.{option_to_list}
-use Rattle.std.specs.List.{filter_map, AllByRecursion}
+use Rattle.std.specs.List.{AllByRecursion}
 use Rattle.std.proofs.lemmas.List.Elements.{filter-append}
 use Rattle.std.proofs.lemmas.List.{map-append, append-nil}
+use Rattle.meta_model.proofs.Gathered.{gathered}
 use Rattle.meta_model.specs.declared.plan.PlanTask.{PlanTask}
 use Rattle.tree_model.specs.Overlay.{overlaid}
 use Rattle.meta_model.specs.CleanBuild.{Entries}
@@ -11,23 +12,6 @@ use Rattle.meta_model.specs.Layout.{Needed, dependency_part, overlaid_onto}
 use Rattle.task_worker.specs.Layouts.{needed_at, needed_among}
 use Rattle.task_worker.specs.declared.parts.Part.{Part}
 use Rattle.task_worker.specs.Work.{if_wanted, is_wanted, part_needed, parts_needed}
-
-module _ {A B : Type 0} (f : A → Option B) where
-  gathered_suc : (xs : List A) (i : ℕ) (d : A) → i < length xs → filter_map f (take (suc i) xs) ≡ filter_map f (take i xs) ++ option_to_list (f (get_or xs i d))
-  gathered_suc [] i d lt = absurd (omega arith)
-  gathered_suc (x ∷ xs) zero d lt = by (f x) refl
-    where
-      by : (o : Option B) → f x ≡ o → filter_map f (x ∷ []) ≡ option_to_list (f x)
-      by None e = simp e
-      by (Some y) e = simp e
-  gathered_suc (x ∷ xs) (suc i) d lt = by (f x) refl (gathered_suc xs i d (omega arith))
-    where
-      by : (o : Option B) → f x ≡ o → filter_map f (take (suc i) xs) ≡ filter_map f (take i xs) ++ option_to_list (f (get_or xs i d)) → filter_map f (x ∷ take (suc i) xs) ≡ filter_map f (x ∷ take i xs) ++ option_to_list (f (get_or xs i d))
-      by None e more = simp e more
-      by (Some y) e more = simp e (ap (λ l. y ∷ l) more)
-
-  gathered : (xs : List A) (i : ℕ) (d : A) → i < length xs → filter_map f (take (i + 1) xs) ≡ filter_map f (take i xs) ++ option_to_list (f (get_or xs i d))
-  gathered xs i d lt = rw add-one (gathered_suc xs i d lt)
 
 wanted_here : (own : Bool) (pn : List ℕ) (o : Option Needed) → filter (is_wanted own pn) (option_to_list o) ≡ if_wanted own pn o
 wanted_here own pn None = refl

@@ -10,6 +10,7 @@ use Rattle.std.proofs.lemmas.List.Sums.{AllPass-from_list_all}
 use Rattle.std.proofs.lemmas.List.Splits.{slice_split_at}
 use Rattle.std.proofs.lemmas.List.Elements.{All-contains}
 use Rattle.tree_model.specs.Path.{IsClean, IsPart, parts_of, inside}
+use Rattle.tree_model.proofs.PathLemmas.{no_zero_in}
 use Rattle.meta_model.proofs.Bools.{and_left, and_right}
 use Rattle.meta_model.specs.Text.{begins_with, is_empty, is_in, is_letter_digit_or, is_made_of, is_shell_name}
 use Rattle.meta_model.specs.declared.plan.PlanTask.{PlanTask}
@@ -111,20 +112,6 @@ has_names n task s = record { pn = pn_is_name task.id.pn s.pn; task = task_is_na
 
 pub parts_behind : (name path : List ℕ) → All (λ b. (b == 47) ≡ false) name → parts_of (inside name path) ≡ name ∷ parts_of path
 parts_behind name path plain = slice_split_at (λ b. b == 47) name 47 path plain refl
-
-abbrev positive : List ℕ → Bool
-positive [] = true
-positive (zero ∷ xs) = false
-positive (suc x ∷ xs) = positive xs
-
-none_zero : (xs : List ℕ) (k : ℕ) → positive xs ≡ true → k < length xs → get_or xs k 0 ≡ 0 → ⊥
-none_zero [] k p lt e = omega arith
-none_zero (zero ∷ xs) k p lt e = cc
-none_zero (suc x ∷ xs) zero p lt e = let h : suc x ≡ 0 = e in omega arith
-none_zero (suc x ∷ xs) (suc k) p lt e = none_zero xs k p (omega arith) e
-
-no_zero_in : (xs : List ℕ) → positive xs ≡ true → Contains xs 0 → ⊥
-no_zero_in xs p has = none_zero xs has.0 p has.1 has.2
 
 deps_is_part : IsPart (codes "deps")
 deps_is_part = record { not_empty = lit< tt; short = lit≤ tt; not_here = λ e. cc; not_above = λ e. cc; no_zero = λ has. no_zero_in (codes "deps") refl has }

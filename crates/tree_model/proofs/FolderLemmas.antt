@@ -153,7 +153,8 @@ tree_inside xs made folder tree is clean = record {
 onto_first_append : (x : ℕ) (part : List ℕ) (parts more : List (List ℕ)) → onto_first x ((part ∷ parts) ++ more) ≡ onto_first x (part ∷ parts) ++ more
 onto_first_append x part parts more = refl
 
-parts_inside : (folder path : List ℕ) → parts_of (inside folder path) ≡ parts_of folder ++ parts_of path
+-- the parts of both, one behind the other
+pub parts_inside : (folder path : List ℕ) → parts_of (inside folder path) ≡ parts_of folder ++ parts_of path
 parts_inside [] path = refl
 parts_inside (x ∷ folder) path = by (parts_inside folder path) (x == 47) refl (parts_of folder) refl
   where

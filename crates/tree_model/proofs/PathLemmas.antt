@@ -1,11 +1,11 @@
 -- What the tests of paths mean.
-use Rattle.std.proofs.Common.{◌≡◌, ◌<◌, ◌∙◌, sym, ap, refl, ℕ, List, [], ◌∷◌, ◌++◌, length, Bool, true, false, IsTrue, All, arith, Bor, take, drop, nat_eq, ◌+◌, inl, inr, append-nil}
+use Rattle.std.proofs.Common.{◌≡◌, ◌<◌, ◌∙◌, sym, ap, refl, ℕ, zero, suc, get_or, List, [], ◌∷◌, ◌++◌, length, Bool, true, false, IsTrue, All, arith, Bor, take, drop, nat_eq, ◌+◌, inl, inr, append-nil}
 use Rattle.std.specs.Cmp.Lexicographic.{pointwise}
 use Rattle.std.proofs.lemmas.Slice.Eq.{strip_prefix_is}
 use Rattle.std.proofs.lemmas.Bool.Decides.{Decides-eqb}
 use Rattle.std.specs.Bool.{MatchBool}
 use Rattle.std.specs.List.{AllWithin, HoldsAt}
-use Rattle.std.specs.Prelude.{Some, None, ◌≢◌}
+use Rattle.std.specs.Prelude.{Contains, Some, None, ◌≢◌}
 use Rattle.std.proofs.lemmas.Iterator.Search.{true_from_All}
 use Rattle.tree_model.specs.Path.{IsBelow, IsAtOrBelow, BeginsWith}
 
@@ -40,3 +40,19 @@ unlike_from_none path folder s p e f m b = no_rest path folder s p e f m b.0 b.1
 pub longer_from_rest : (path rest : List ℕ) → ((more : List ℕ) → rest ≢ 47 ∷ more) → rest ≢ [] → IsAtOrBelow path (path ++ rest) → ⊥
 longer_from_rest path rest no_slash some (inl e) = some (same_end path rest [] (e ∙ sym (append-nil path)))
 longer_from_rest path rest no_slash some (inr h) = no_slash h.0 (same_end path rest (47 ∷ h.0) h.1)
+
+-- ---- no zero stands in a text that is written out
+
+abbrev pub positive : List ℕ → Bool
+positive [] = true
+positive (zero ∷ xs) = false
+positive (suc x ∷ xs) = positive xs
+
+none_zero : (xs : List ℕ) (k : ℕ) → positive xs ≡ true → k < length xs → get_or xs k 0 ≡ 0 → ⊥
+none_zero [] k p lt e = omega arith
+none_zero (zero ∷ xs) k p lt e = cc
+none_zero (suc x ∷ xs) zero p lt e = let h : suc x ≡ 0 = e in omega arith
+none_zero (suc x ∷ xs) (suc k) p lt e = none_zero xs k p (omega arith) e
+
+pub no_zero_in : (xs : List ℕ) → positive xs ≡ true → Contains xs 0 → ⊥
+no_zero_in xs p has = none_zero xs has.0 p has.1 has.2

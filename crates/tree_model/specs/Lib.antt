@@ -1,3 +1,4 @@
+pub mod Entries
 pub mod Bytes
 pub mod Folder
 pub mod Hash

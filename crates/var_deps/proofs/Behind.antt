@@ -1,16 +1,18 @@
 -- Lists that grow at their end.
-use Rattle.std.proofs.Common.{◌≡◌, refl, sym, ◌∙◌, ap, ℕ, ◌+◌, ◌<◌, Bool, true, false, List, [], ◌∷◌, ◌++◌, length, get_or, drop, Option, Some, None, Result, Ok, Err, append_assoc, append-nil, ◌≤◌, if◌then◌else◌}
+use Rattle.std.proofs.Common.{◌≡◌, refl, sym, ◌∙◌, ap, ℕ, ◌+◌, ◌<◌, Bool, true, false, List, [], ◌∷◌, ◌++◌, length, get_or, drop, Option, Some, None, Result, Ok, Err, append_assoc, ◌≤◌, if◌then◌else◌}
 use Rattle.std.specs.List.{filter_map, cons_option}
-use Rattle.std.proofs.lemmas.List.{drop_more, drop_all}
+use Rattle.std.proofs.lemmas.List.{drop_all}
 use Rattle.meta_model.specs.declared.value.Resolved.{Resolved}
 use Rattle.meta_model.specs.Refusal.{Refusal, ◌>>=◌}
 use Rattle.meta_model.specs.Expansion.{Find}
+use Rattle.meta_model.proofs.Passing.{behind_ends, next_of}
 use Rattle.var_expand.specs.declared.fault.ExpandFault.{ExpandFault}
 use Rattle.var_expand.specs.Faults.{IsFaultOf}
 use Rattle.var_expand.specs.References.{looked_up}
 use Rattle.task_model.specs.Views.{is_function}
 use Rattle.task_model.specs.Leads.{all_looked_up, functions_of}
-use Rattle.var_deps.specs.Reading.{behind, function_named, flag_looked_up}
+use Rattle.var_deps.specs.Reading.{function_named, flag_looked_up}
+use Rattle.meta_model.specs.Passing.{behind}
 use Rattle.var_deps.proofs.Passing.{fault_on, fault_same, no_fault}
 
 abbrev pub Names : Type 0
@@ -18,9 +20,6 @@ Names = List (List ℕ)
 
 pub behind_is : {A : Type 0} (before more : List A) (m : Result (List A) Refusal) → m ≡ Ok more → behind before m ≡ Ok (before ++ more)
 behind_is before more m e = ap (behind before) e
-
-pub behind_nothing : {A : Type 0} (before : List A) → behind before (Ok []) ≡ Ok before
-behind_nothing before = ap Ok (append-nil before)
 
 -- a list is what stands behind nothing
 pub behind_whole : {A : Type 0} (list : List A) (m : Result (List A) Refusal) → behind [] m ≡ Ok list → m ≡ Ok list
@@ -48,10 +47,6 @@ behind_three before first second (Err refusal) n k e f = absurd cc
 pub fault_then : {A B : Type 0} (fault : ExpandFault) (before made : List A) (m : Result (List A) Refusal) (f : List A → Result B Refusal) → behind before m ≡ Ok made → ((some : List A) → IsFaultOf fault (f some)) → IsFaultOf fault (m >>= f)
 fault_then fault before made (Ok some) f e h = h some
 fault_then fault before made (Err refusal) f e h = absurd cc
-
--- what is left of a list
-next_of : {B C : Type 0} (all : List B → C) (xs : List B) (i : ℕ) (x : B) → x ≡ get_or xs i x → i < length xs → all (drop i xs) ≡ all (x ∷ drop (i + 1) xs)
-next_of all xs i x is lt = ap all (drop_more xs i x lt ∙ ap (λ y. y ∷ drop (i + 1) xs) (sym is))
 
 -- A list of which each item gives some. `all` gives what the items give, one behind the other.
 
@@ -84,7 +79,7 @@ one_fault make all is start before xs i x fault at lt w h =
 
 -- all items are done
 pub all_done : {B : Type 0} (all : List B → Result Names Refusal) → all [] ≡ Ok [] → (whole : Result Names Refusal) (made : Names) (xs : List B) (i : ℕ) → length xs ≤ i → whole ≡ behind made (all (drop i xs)) → whole ≡ Ok made
-all_done all none whole made xs i past w = w ∙ ap (λ l. behind made (all l)) (drop_all i xs past) ∙ ap (behind made) none ∙ behind_nothing made
+all_done all none whole made xs i past w = w ∙ ap (λ l. behind made (all l)) (drop_all i xs past) ∙ ap (behind made) none ∙ behind_ends made
 
 -- texts that look names up, functions, flags
 

@@ -1,9 +1,8 @@
 -- Where a text is cut at its first byte that is in no run.
-use Rattle.std.proofs.Common.{◌≡◌, refl, sym, ◌∙◌, ap, arith, ℕ, zero, suc, ◌+◌, ◌<◌, ◌≤◌, Bool, true, false, cond, not, List, [], ◌∷◌, ◌++◌, length, take, drop, get_or, Some, None, position, le_trans, append_assoc, add-one}
-use Rattle.std.specs.List.{slice_split, position_or_len}
+use Rattle.std.proofs.Common.{◌≡◌, refl, sym, ◌∙◌, ap, arith, ℕ, zero, suc, ◌+◌, ◌<◌, ◌≤◌, Bool, true, false, cond, not, List, [], ◌∷◌, ◌++◌, length, take, drop, get_or, Some, None, position, append_assoc, add-one}
+use Rattle.std.specs.List.{slice_split}
 use Rattle.std.proofs.lemmas.List.Quantifiers.{position-Some}
-use Rattle.std.proofs.lemmas.List.Sums.{prefix_len_passes}
-use Rattle.std.proofs.lemmas.Bool.{ltb-false}
+use Rattle.meta_model.proofs.Unfound.{none_before}
 use Rattle.meta_model.specs.Text.{is_empty, non_empty}
 use Rattle.task_model.specs.Leads.{runs}
 use Rattle.var_deps.specs.Runs.{separates, IsRun}
@@ -23,25 +22,13 @@ runs_at bs i e =
     first true piece rest = refl
     first false piece rest = refl
 
-none_of_cond : (b : Bool) (n : ℕ) → cond b (Some n) None ≡ None → b ≡ false
-none_of_cond true n e = cc
-none_of_cond false n e = refl
-
-false_of_not : (b : Bool) → not b ≡ true → b ≡ false
-false_of_not true e = sym e
-false_of_not false e = refl
-
-none_before : (bs : List ℕ) → position separates bs ≡ None → (k : ℕ) → k < length bs → separates (get_or bs k 0) ≡ false
-none_before bs e k lt = let h = ltb-false (position_or_len separates bs) (length bs) (none_of_cond _ _ e) in
-    false_of_not (separates (get_or bs k 0)) (prefix_len_passes (λ x. not (separates x)) bs k 0 (le_trans lt h))
-
 split_none : (bs : List ℕ) → ((k : ℕ) → k < length bs → separates (get_or bs k 0) ≡ false) → slice_split separates bs ≡ bs ∷ []
 split_none [] h = refl
 split_none (b ∷ bs) h = rw (h 0 (omega arith), split_none bs (λ k lt. h (suc k) (omega arith))) refl
 
 -- the last run
 pub runs_last : (bs : List ℕ) → position separates bs ≡ None → runs bs ≡ non_empty (bs ∷ [])
-runs_last bs e = ap non_empty (split_none bs (none_before bs e))
+runs_last bs e = ap non_empty (split_none bs (none_before separates bs 0 e))
 
 -- one run more
 pub runs_step : (rest piece after : List ℕ) (list made : List (List ℕ)) (i : ℕ) → Some i ≡ position separates rest → piece ≡ take i rest → made ≡ list ++ non_empty (piece ∷ []) → after ≡ drop (i + 1) rest
@@ -67,4 +54,4 @@ pub run_first : (bs : List ℕ) (i : ℕ) → position separates bs ≡ Some i �
 run_first bs i e = let h = position-Some separates bs i 0 e in run_before bs i (omega (arith, h.0)) h.2
 
 pub run_last : (bs : List ℕ) → position separates bs ≡ None → IsRun bs
-run_last bs e = run_all bs (none_before bs e)
+run_last bs e = run_all bs (none_before separates bs 0 e)

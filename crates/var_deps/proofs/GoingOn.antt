@@ -17,7 +17,7 @@ use Rattle.var_deps.specs.Reading.{view_by, led_behind, line_behind}
 use Rattle.var_deps.specs.Known.{read_led, read_line}
 use Rattle.var_deps.specs.Kept.{IsReady, Shares, task_view}
 use Rattle.var_deps.specs.Exports.{plain_led}
-use Rattle.var_deps.proofs.Passing.{goes_on}
+use Rattle.meta_model.proofs.Passing.{goes_on}
 use Rattle.var_deps.proofs.Tables.{leads_read}
 use Rattle.var_deps.proofs.Tabling.{own_led, other_led}
 

@@ -1,8 +1,9 @@
 -- Answers and refusals of expansion, one after another.
 use Rattle.std.proofs.Common.{◌≡◌, sym, ◌∙◌, ap, subst, Result, Ok, Err, IfErr, OnOk}
 use Rattle.std.specs.Prelude.{IsErrAnd}
-use Rattle.std.proofs.lemmas.Result.{err_from_is_err_and}
+use Rattle.std.proofs.lemmas.Result.{err_from_is_err_and, IfErr-weaker}
 use Rattle.meta_model.specs.Refusal.{Refusal, value_cycle, too_deep, too_long, unstable, ◌>>=◌}
+use Rattle.meta_model.proofs.Passing.{goes_on}
 use Rattle.var_expand.specs.declared.fault.ExpandFault.{ExpandFault}
 use Rattle.var_expand.specs.declared.fault.ExpandFault.TheVariants.{ValueCycle, TooDeep, TooLong, Unstable, Memory}
 use Rattle.var_expand.specs.Faults.{IsFaultOf, IsWantOfMemory}
@@ -14,10 +15,6 @@ fault_on (TooDeep name) m f h = ap (λ k. k >>= f) h
 fault_on (TooLong name) m f h = ap (λ k. k >>= f) h
 fault_on (Unstable before last) m f h = ap (λ k. k >>= f) h
 fault_on Memory m f h = tt
-
--- an answer goes on
-pub goes_on : {A B : Type 0} (m : Result A Refusal) (a : A) (f : A → Result B Refusal) → m ≡ Ok a → (m >>= f) ≡ f a
-goes_on m a f e = ap (λ k. k >>= f) e
 
 pub fault_same : {A : Type 0} (fault : ExpandFault) (m n : Result A Refusal) → m ≡ n → IsFaultOf fault n → IsFaultOf fault m
 fault_same fault m n e h = subst (IsFaultOf fault) (sym e) h
@@ -54,17 +51,9 @@ want r meant made =
     let p = err_from_is_err_and r made in
     subst (λ a. IfErr a (λ f. IsFaultOf f meant)) (sym p.1) (subst (λ f. IsFaultOf f meant) (sym p.2) tt)
 
-pub if_err_weaker : {T F : Type 0} (r : Result T F) (P Q : F → Type 0) → ((fault : F) → P fault → Q fault) → IfErr r P → IfErr r Q
-if_err_weaker (Ok a) P Q f h = tt
-if_err_weaker (Err fault) P Q f h = f fault h
-
 -- what a call answered last says of the whole
 pub last_fault : {T A B : Type 0} (r : Result T ExpandFault) (m : Result A Refusal) (n : Result B Refusal) → ((fault : ExpandFault) → IsFaultOf fault m → IsFaultOf fault n) → IfErr r (λ f. IsFaultOf f m) → IfErr r (λ f. IsFaultOf f n)
-last_fault r m n f h = if_err_weaker r (λ fault. IsFaultOf fault m) (λ fault. IsFaultOf fault n) f h
-
-pub on_ok_weaker : {T E P Q : Type 0} (r : Result T E) → (P → Q) → OnOk r P → OnOk r Q
-on_ok_weaker (Ok a) f h = f h
-on_ok_weaker (Err e) f h = tt
+last_fault r m n f h = IfErr-weaker r (λ fault. IsFaultOf fault m) (λ fault. IsFaultOf fault n) f h
 
 pub last_ok : {T A : Type 0} (r : Result T ExpandFault) (m n : Result A Refusal) (a : A) → n ≡ m → OnOk r (m ≡ Ok a) → OnOk r (n ≡ Ok a)
 last_ok (Ok x) m n a e h = e ∙ h

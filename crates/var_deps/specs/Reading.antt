@@ -1,5 +1,5 @@
 -- What is read of a name, one thing after another.
-use Rattle.std.specs.Prelude.{ℕ, Bool, ◌||◌, ◌&&◌, List, [], ◌∷◌, ◌++◌, Option, Some, None, is_some, Result, Ok, Err, codes, if◌then◌else◌}
+use Rattle.std.specs.Prelude.{ℕ, Bool, ◌||◌, ◌&&◌, List, [], ◌∷◌, ◌++◌, Option, Some, None, is_some, Result, Ok, codes, if◌then◌else◌}
 use Rattle.meta_model.specs.declared.entry.EntryLine.{EntryLine}
 use Rattle.meta_model.specs.declared.value.Resolved.{Resolved}
 use Rattle.meta_model.specs.Refusal.{Refusal, ◌>>=◌}
@@ -10,11 +10,6 @@ use Rattle.task_model.specs.Views.{is_function}
 use Rattle.task_model.specs.Leads.{View, Led, flag_words, by_value, by_flags, without}
 use Rattle.task_model.specs.Keys.{Told, line_value, own_value}
 use Rattle.var_deps.specs.Seen.{seen_with}
-
--- a list that goes on behind what is there
-abbrev pub behind : {A : Type 0} → List A → Result (List A) Refusal → Result (List A) Refusal
-behind before (Ok more) = Ok (before ++ more)
-behind before (Err refusal) = Err refusal
 
 -- the view of a task
 abbrev pub view_by : List EntryLine → Option (List ℕ) → List (List ℕ) → Bool → List ℕ → View

@@ -7,7 +7,8 @@ ghost use Rattle.var_expand.specs.References.{looked_up};
 ghost use Rattle.task_model.specs.Views.{is_function};
 ghost use Rattle.task_model.specs.Leads.{flag_words, all_looked_up, functions_of, called_by, by_text, by_value, by_flags, read_flags, without};
 ghost use Rattle.var_deps.specs.Seen.{seen_with};
-ghost use Rattle.var_deps.specs.Reading.{behind, view_by, function_named, flag_looked_up, all_led, led_behind};
+ghost use Rattle.var_deps.specs.Reading.{view_by, function_named, flag_looked_up, all_led, led_behind};
+ghost use Rattle.meta_model.specs.Passing.{behind};
 ghost use Rattle.var_deps.specs.Led.{led_of, kept_more};
 
 use crate::runs::runs;

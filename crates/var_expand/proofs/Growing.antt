@@ -1,5 +1,5 @@
 -- Laws of what is known while texts are expanded.
-use Rattle.std.proofs.Common.{◌≡◌, refl, sym, ◌∙◌, ap, subst, arith, ℕ, zero, suc, ◌+◌, ◌-◌, ◌<◌, ◌≤◌, nat_le, max, Bool, true, false, not, ◌&&◌, inl, inr, List, [], ◌∷◌, ◌++◌, length, Option, Some, None, Result, Ok, Err, codes, bytes_eq, cond, String, BTreeMap, OnOk}
+use Rattle.std.proofs.Common.{◌≡◌, refl, sym, ◌∙◌, ap, subst, arith, ℕ, zero, ◌+◌, ◌-◌, ◌<◌, ◌≤◌, nat_le, max, Bool, true, false, not, ◌&&◌, inl, inr, List, [], ◌∷◌, ◌++◌, length, Option, Some, None, Result, Ok, Err, codes, bytes_eq, cond, String, BTreeMap, OnOk}
 use Rattle.std.specs.Global.{Global}
 use Rattle.std.specs.Prelude.{is_some}
 use Rattle.std.specs.Option.{option_map, option_or}
@@ -10,14 +10,14 @@ use Rattle.meta_model.proofs.Bools.{not_both, either_way, and_left, and_right, b
 use Rattle.meta_model.specs.declared.value.Resolved.{Resolved}
 use Rattle.meta_model.specs.Refusal.{Refusal, value_cycle, too_long, require, ◌>>=◌}
 use Rattle.meta_model.specs.Text.{holds, is_empty, is_in}
-use Rattle.meta_model.specs.Expansion.{Find, Values, longest, present, expanded_value}
+use Rattle.meta_model.specs.Expansion.{Find, Values, longest, expanded_value}
 use Rattle.var_expand.specs.declared.going.Known.{Known}
 use Rattle.var_expand.specs.declared.going.Going.{Going}
 use Rattle.var_expand.specs.declared.parts.Part.{Part}
 use Rattle.var_expand.specs.Expanding.{grown, innermost_first, known, last_name, part_text}
 use Rattle.var_expand.specs.declared.going.AtHand.TheVariants.{Deeper}
 use Rattle.var_expand.specs.Going.{AllTelling, Grew, IsAtHand, IsBeyond, IsGoing, IsLeft, IsLow, IsPut, IsPutAt, Tells, has_no_more, higher, if_fits, joined, kept_in, kept_of, leaf_of, table_of}
-use Rattle.var_expand.specs.ValueTable.{Kept, Table, IsTable, IsRight, IsClear, below, told_below}
+use Rattle.var_expand.specs.ValueTable.{Kept, IsTable, IsRight, below, told_below}
 use Rattle.var_expand.specs.declared.fault.ExpandFault.{ExpandFault}
 use Rattle.var_expand.specs.Faults.{IsFaultOf}
 use Rattle.var_expand.proofs.Expanding.{onto_more, in_names, last_is, known_none, known_found, plain_ok, plain_long, value_alone, value_fault, fault_on, fault_same, put_ok}

@@ -1,10 +1,9 @@
 -- How names are noted.
-use Rattle.std.proofs.Common.{◌≡◌, refl, sym, ◌∙◌, ap, subst, arith, ℕ, zero, suc, ◌+◌, ◌<◌, ◌≤◌, Bool, true, false, List, [], ◌∷◌, ◌++◌, length, take, drop, get_or, fold, Result, Ok, Err, bytes_eq, if◌then◌else◌, OnOk, IfErr}
+use Rattle.std.proofs.Common.{◌≡◌, refl, sym, ◌∙◌, ap, subst, arith, ℕ, ◌+◌, Bool, true, false, List, [], ◌∷◌, ◌++◌, fold, Result, Ok, Err, if◌then◌else◌, OnOk, IfErr}
 use Rattle.std.specs.List.{list_all}
-use Rattle.std.proofs.lemmas.List.{drop_more, take-append-drop}
 use Rattle.std.proofs.lemmas.Grind.{common_steps}
 use Rattle.meta_model.specs.Refusal.{Refusal, ◌>>=◌}
-use Rattle.meta_model.specs.Text.{into_order, is_before}
+use Rattle.meta_model.specs.Text.{into_order}
 use Rattle.meta_model.specs.Names.{is_name_character}
 use Rattle.meta_model.specs.Parts.{Parts, end, reference}
 use Rattle.meta_model.specs.Expansion.{Values, longest, expanded_parts}

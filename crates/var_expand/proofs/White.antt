@@ -1,10 +1,10 @@
 -- Where a text is cut at its first white space.
-use Rattle.std.proofs.Common.{◌≡◌, refl, sym, ◌∙◌, ap, arith, ℕ, zero, suc, ◌+◌, ◌<◌, Bool, true, false, cond, not, List, [], ◌∷◌, ◌++◌, length, take, drop, get_or, filter, Some, None, position, if◌then◌else◌, map-id, le_trans, inl, inr, ◌-◌, append_assoc, add-one}
+use Rattle.std.proofs.Common.{◌≡◌, refl, sym, ◌∙◌, ap, arith, ℕ, zero, suc, ◌+◌, ◌<◌, Bool, true, false, cond, not, List, [], ◌∷◌, ◌++◌, length, take, drop, get_or, filter, Some, None, position, if◌then◌else◌, map-id, inl, inr, ◌-◌, append_assoc, add-one}
 use Rattle.std.proofs.Math.Seq.{drop-cons}
-use Rattle.std.specs.List.{slice_split, position_or_len}
+use Rattle.std.specs.List.{slice_split}
 use Rattle.std.proofs.lemmas.List.Quantifiers.{position-Some}
-use Rattle.std.proofs.lemmas.List.Sums.{prefix_len_passes}
-use Rattle.std.proofs.lemmas.Bool.{ltb-false, cases_Bool}
+use Rattle.std.proofs.lemmas.Bool.{cases_Bool}
+use Rattle.meta_model.proofs.Unfound.{none_before}
 use Rattle.meta_model.specs.Text.{is_white, is_in, is_empty, non_empty, words, woven, drop_words}
 
 -- a text without words to be dropped
@@ -64,18 +64,6 @@ words_at bs i e =
 
 -- a text without white space
 
-none_of_cond : (b : Bool) (n : ℕ) → cond b (Some n) None ≡ None → b ≡ false
-none_of_cond true n e = cc
-none_of_cond false n e = refl
-
-false_of_not : (b : Bool) → not b ≡ true → b ≡ false
-false_of_not true e = sym e
-false_of_not false e = refl
-
-none_before : (bs : List ℕ) → position is_white bs ≡ None → (k : ℕ) → k < length bs → is_white (get_or bs k 0) ≡ false
-none_before bs e k lt = let h = ltb-false (position_or_len is_white bs) (length bs) (none_of_cond _ _ e) in
-    false_of_not (is_white (get_or bs k 0)) (prefix_len_passes (λ x. not (is_white x)) bs k 0 (le_trans lt h))
-
 split_none : (bs : List ℕ) → ((k : ℕ) → k < length bs → is_white (get_or bs k 0) ≡ false) → slice_split is_white bs ≡ bs ∷ []
 split_none [] h = refl
 split_none (b ∷ bs) h = rw (h 0 (omega arith), split_none bs (λ k lt. h (suc k) (omega arith))) refl
@@ -85,10 +73,10 @@ filter_none [] h = refl
 filter_none (b ∷ bs) h = rw (h 0 (omega arith)) (filter_none bs (λ k lt. h (suc k) (omega arith)))
 
 pub drop_last : (bs : List ℕ) (dropped : List (List ℕ)) → position is_white bs ≡ None → drop_words bs dropped ≡ (if is_in bs dropped then [] else bs)
-drop_last bs dropped e = rw (split_none bs (none_before bs e), filter_none bs (none_before bs e)) refl
+drop_last bs dropped e = rw (split_none bs (none_before is_white bs 0 e), filter_none bs (none_before is_white bs 0 e)) refl
 
 pub words_last : (bs : List ℕ) → position is_white bs ≡ None → words bs ≡ non_empty (bs ∷ [])
-words_last bs e = rw (split_none bs (none_before bs e)) refl
+words_last bs e = rw (split_none bs (none_before is_white bs 0 e)) refl
 
 -- the steps of the loops
 

@@ -1,5 +1,5 @@
 -- What stands while texts are expanded, and the values that are known by then.
-use Rattle.std.specs.Prelude.{◌≡◌, ◌+◌, ◌-◌, ◌≤◌, ◌<◌, ◌&&◌, ℕ, Bool, true, false, not, nat_le, max, List, [], ◌∷◌, ◌++◌, length, Option, Some, None, Result, Ok, Err, String, codes, bytes_eq, if◌then◌else◌, ⊤}
+use Rattle.std.specs.Prelude.{◌≡◌, ◌+◌, ◌≤◌, ◌<◌, ◌&&◌, ℕ, Bool, true, false, not, nat_le, max, List, [], ◌∷◌, length, Option, Some, None, Result, Ok, Err, String, codes, bytes_eq, if◌then◌else◌, ⊤}
 use Rattle.std.specs.Global.{Global}
 use Rattle.std.specs.Option.{option_map, option_or}
 use Rattle.std.specs.BTreeMap.{BTreeMap, get_by_text}
@@ -7,12 +7,12 @@ use Rattle.std.specs.Map.{update}
 use Rattle.meta_model.specs.declared.value.Resolved.{Resolved}
 use Rattle.meta_model.specs.Refusal.{Refusal}
 use Rattle.meta_model.specs.Text.{holds, is_empty, is_in}
-use Rattle.meta_model.specs.Expansion.{Find, Values, longest, expanded_value}
+use Rattle.meta_model.specs.Expansion.{Find, Values, longest}
 use Rattle.var_expand.specs.declared.going.Known.{Known}
 use Rattle.var_expand.specs.declared.going.Going.{Going}
 use Rattle.var_expand.specs.declared.going.AtHand.{AtHand}
 use Rattle.var_expand.specs.declared.going.AtHand.TheVariants.{Value, Deeper}
-use Rattle.var_expand.specs.Expanding.{as_found, innermost_first, known, last_name}
+use Rattle.var_expand.specs.Expanding.{innermost_first, known}
 use Rattle.var_expand.specs.ValueTable.{Kept, Table, IsTable}
 
 -- a value that is kept

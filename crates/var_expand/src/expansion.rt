@@ -155,7 +155,7 @@ fn value_within<L: Lookup>(
     let names = going.within.len();
     let outer = enter(alloc, going, name)?;
     let value = expand_value(alloc, from, going, left - 1, found)?;
-    leave(alloc, going, left, names, outer, name, &value)?;
+    leave(alloc, going, names, outer, name, &value)?;
     Ok(Some(value))
 }
 

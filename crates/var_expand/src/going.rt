@@ -1,5 +1,5 @@
 // What stands while texts are expanded, and the values that are known by then.
-ghost use Rattle.std.specs.Prelude.{◌≡◌, ◌++◌, ◌∷◌, [], ◌≤◌, ◌<◌, List, ℕ, Some, None, Ok, IfOk, IfErr, OnOk, IfSome, MatchOption, true, nat_le, length, take};
+ghost use Rattle.std.specs.Prelude.{◌≡◌, ◌++◌, ◌∷◌, [], ◌≤◌, ◌<◌, ◌-◌, ◌^◌, List, ℕ, Some, None, Ok, IfOk, IfErr, OnOk, IfSome, MatchOption, true, nat_le, length, take};
 ghost use Rattle.meta_model.specs.Expansion.{longest};
 ghost use Rattle.meta_model.specs.Refusal.{require, too_long};
 ghost use Rattle.var_expand.specs.Faults.{IsFaultOf};
@@ -202,12 +202,11 @@ pub(crate) fn enter(alloc: Global, going: &mut Going, name: &str) -> Result<Opti
 fn keep(
     alloc: Global,
     values: &mut BTreeMap<String, Known>,
-    left: usize,
     name: &str,
     met: Option<usize>,
     value: &Text,
 ) -> Result<Option<usize>, Mem>
-    requires { IfSome met (λ height. height < left) }
+    requires { IfSome met (λ height. height < 2 ^ 64 - 1) }
     ensures { IfOk result (λ made. IsPut values.old values.new name.now met value.now made) }
 {
     if values.contains_key(name) {
@@ -226,19 +225,18 @@ fn keep(
 pub(crate) fn leave(
     alloc: Global,
     going: &mut Going,
-    left: usize,
     names: usize,
     outer: Option<usize>,
     name: &str,
     value: &Text,
 ) -> Result<(), Mem>
-    requires { IfSome going.old.height (λ height. height < left) }
+    requires { IfSome going.old.height (λ height. height < 2 ^ 64 - 1) }
     ensures within { OnOk result (going.new.within.items ≡ take names going.old.within.items) }
     ensures kept { OnOk result (IsLeft going.old going.new outer name.now value.now) }
 {
     going.within.truncate(names);
     let met = going.height;
-    let height = keep(alloc, &mut going.values, left, name, met, value)?;
+    let height = keep(alloc, &mut going.values, name, met, value)?;
     going.height = joined(outer, height);
     Ok(())
 }

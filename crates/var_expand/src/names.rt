@@ -1,6 +1,5 @@
 // The names that a text looks up.
 ghost use Rattle.std.specs.Prelude.{◌≡◌, IfOk, IfErr, OnOk, Ok};
-ghost use Rattle.meta_model.specs.Text.{into_order, is_before};
 ghost use Rattle.meta_model.specs.Expansion.{value_by};
 ghost use Rattle.meta_model.specs.Parts.{end, reference};
 ghost use Rattle.var_expand.specs.Faults.{IsFaultOf};
@@ -13,38 +12,9 @@ use crate::lookup::Lookup;
 use crate::parts::{Part, Parts};
 use crate::reading::parse_refs;
 use crate::scan::are_name_bytes;
+use meta_model::put_in_order;
 use std::alloc::Global;
-use std::cmp::Ordering;
 use tree_model::{Mem, Text, Texts};
-
-/// Whether the first text comes before the second in byte order.
-fn comes_before(first: &str, second: &str) -> bool
-    ensures { result ≡ is_before first.now second.now }
-{
-    match first.cmp(second) {
-        Ordering::Less => true,
-        Ordering::Equal => false,
-        Ordering::Greater => false,
-    }
-}
-
-/// Puts a name into its place among others in byte order, where it isn't there yet.
-fn note(names: &mut Vec<Text>, name: Text) -> Result<(), Mem>
-    ensures { OnOk result (names.new.items ≡ into_order names.old.items name) }
-{
-    let mut place = 0;
-    while place < names.len() {
-        if names[place].as_str() == name.as_str() {
-            return Ok(());
-        }
-        if comes_before(name.as_str(), names[place].as_str()) {
-            names.insert(place, name)?;
-            return Ok(());
-        }
-        place += 1;
-    }
-    Ok(names.push(name)?)
-}
 
 /// Notes the names that a reference looks up: those of its name's parts, and its name.
 #[cycle(noting)]
@@ -60,7 +30,7 @@ fn note_reference<L: Lookup>(
     let looked = expand_name(alloc, from, name)?;
     note_parts(alloc, from, names, name)?;
     if are_name_bytes(looked.as_str().as_bytes()) {
-        note(names, looked)?;
+        put_in_order(names, looked)?;
     }
     Ok(())
 }

@@ -1,8 +1,8 @@
 use Rattle.std.proofs.Common.{◌≡◌, map, drop}
 use Rattle.meta_model.specs.Frozen as frozen
 use Rattle.datastore.specs.Telling.{move_of}
-use Rattle.datastore.proofs.Freezing.{onto}
+use Rattle.meta_model.specs.Passing.{behind}
 use Rattle.datastore.proofs.freeze.moves_of.Given as goal
 
 abbrev pub invariant-loop-name : goal.invariant-loop-name
-invariant-loop-name l = frozen.moves l.store l.names ≡ onto (map move_of l.made.items) (frozen.moves l.store (drop l.name-index l.names))
+invariant-loop-name l = frozen.moves l.store l.names ≡ behind (map move_of l.made.items) (frozen.moves l.store (drop l.name-index l.names))

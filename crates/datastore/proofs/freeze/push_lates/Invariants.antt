@@ -1,8 +1,7 @@
 use Rattle.std.proofs.Common.{◌≡◌, drop}
 use Rattle.meta_model.specs.Frozen as frozen
-use Rattle.datastore.specs.Telling.{behind}
-use Rattle.datastore.proofs.Freezing.{onto}
+use Rattle.meta_model.specs.Passing.{behind, behind}
 use Rattle.datastore.proofs.freeze.push_lates.Given as goal
 
 abbrev pub invariant-loop-late : goal.invariant-loop-late
-invariant-loop-late l = behind l.fn.lines.items (frozen.told_lates l.store l.target l.lates) ≡ onto l.lines.items (frozen.told_lates l.store l.target (drop l.late-index l.lates))
+invariant-loop-late l = behind l.fn.lines.items (frozen.told_lates l.store l.target l.lates) ≡ behind l.lines.items (frozen.told_lates l.store l.target (drop l.late-index l.lates))

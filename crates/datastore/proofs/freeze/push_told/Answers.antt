@@ -1,9 +1,10 @@
 use Rattle.std.proofs.Common.{◌≡◌, ◌∙◌, Ok}
-use Rattle.std.proofs.lemmas.Result.{on_ok_weaker}
+use Rattle.std.proofs.lemmas.Result.{on_ok_weaker, IfErr-weaker}
 use Rattle.meta_model.specs.Frozen as frozen
 use Rattle.datastore.specs.Faults.{IsDataFault}
-use Rattle.datastore.specs.Telling.{move_of, behind}
-use Rattle.datastore.proofs.Freezing.{told_ok, told_lates_fault, if_err_weaker}
+use Rattle.datastore.specs.Telling.{move_of}
+use Rattle.meta_model.specs.Passing.{behind}
+use Rattle.datastore.proofs.Freezing.{told_ok, told_lates_fault}
 use Rattle.datastore.proofs.freeze.push_told.Goals as goal
 
 pub returns-clause-ok : goal.returns-clause-ok
@@ -23,6 +24,6 @@ returns-clause-err c =
     let move = move_of (c.args.source.now, c.args.target.now) in
     let late = c.lates_of.result.now in
     let keeps = c.maps-maps.ensures in
-    if_err_weaker c.push_lates.result (λ fault. IsDataFault fault (frozen.told_lates list c.args.target.now late)) (λ fault. IsDataFault fault (frozen.told list move))
+    IfErr-weaker c.push_lates.result (λ fault. IsDataFault fault (frozen.told_lates list c.args.target.now late)) (λ fault. IsDataFault fault (frozen.told list move))
     (λ fault h. told_lates_fault list move late fault (c.lates_of.ensures ∙ keeps.late c.args.source.now) h)
     c.push_lates.ensures.err

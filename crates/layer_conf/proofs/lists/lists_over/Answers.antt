@@ -2,7 +2,8 @@ use Rattle.std.proofs.Common.{◌∙◌, ap, sym, subst, Ok, []}
 use Rattle.std.specs.List.Sorted.{IsStrictlySortedBy}
 use Rattle.std.specs.Ordering.{nat_cmp}
 use Rattle.std.specs.Cmp.Lexicographic.{slice_cmp}
-use Rattle.layer_conf.specs.Config.{configured_meant, with_lists}
+use Rattle.layer_conf.specs.Config.{configured_meant}
+use Rattle.load_model.specs.Layers.{with_lists}
 use Rattle.layer_conf.proofs.Layering.{lists_are, lists_fault, lists_made, layer_free}
 use Rattle.layer_conf.proofs.Listing.{listing_once}
 use Rattle.layer_conf.proofs.lists.lists_over.Goals as goal

@@ -2,8 +2,8 @@ use Rattle.std.proofs.Common.{◌∙◌, sym, subst, []}
 use Rattle.std.proofs.lemmas.Result.{IfOk-weaker, IfErr-weaker}
 use Rattle.outside_traits.specs.Store.{IsListing}
 use Rattle.load_model.specs.Loading.{sources_of}
-use Rattle.load_model.specs.Layers.{config}
-use Rattle.layer_conf.specs.Config.{configured_meant, with_lists}
+use Rattle.load_model.specs.Layers.{config, with_lists}
+use Rattle.layer_conf.specs.Config.{configured_meant}
 use Rattle.layer_conf.proofs.Layering.{config_behind, config_first, layer_same}
 use Rattle.layer_conf.proofs.lists.read_layers.Goals as goal
 

@@ -1,6 +1,6 @@
 use Rattle.std.proofs.Common.{◌≡◌, take, drop}
 use Rattle.load_model.specs.Layers.{patterns}
-use Rattle.recipe_facts.specs.Behind.{behind}
+use Rattle.meta_model.specs.Passing.{behind}
 use Rattle.layer_conf.proofs.patterns.bad_pattern.Given as goal
 
 abbrev pub invariant-loop-word : goal.invariant-loop-word

@@ -3,10 +3,10 @@ use Rattle.std.proofs.lemmas.Result.{IfOk-weaker, IfErr-weaker}
 use Rattle.datastore.specs.Faults.{IsDataFault}
 use Rattle.load_model.specs.LoadRefusal.{refused_as}
 use Rattle.load_model.specs.Loading.{sources_of}
-use Rattle.load_model.specs.Layers.{no_list, words_of}
-use Rattle.recipe_facts.proofs.Binding.{goes_on}
+use Rattle.load_model.specs.Layers.{no_list, words_of, layered_from, layered_over}
+use Rattle.meta_model.proofs.Passing.{goes_on}
 use Rattle.layer_conf.specs.Faults.{IsLayerFault}
-use Rattle.layer_conf.specs.Config.{configured_meant, layered_over, layered_from}
+use Rattle.layer_conf.specs.Config.{configured_meant}
 use Rattle.layer_conf.proofs.Layering.{layer_same, layer_on, data_fault}
 use Rattle.layer_conf.proofs.reads.layered.Goals as goal
 

@@ -2,9 +2,9 @@ use Rattle.std.proofs.Common.{◌≡◌, ◌∙◌, ap, sym, subst, Ok, IfSome, 
 use Rattle.std.proofs.lemmas.Result.{IfOk-weaker, IfErr-weaker}
 use Rattle.meta_model.specs.declared.line.Kind.TheVariants.{Conf}
 use Rattle.load_model.specs.Loading.{sources_of, entries}
-use Rattle.load_model.specs.Layers.{starting_with, configured, flat}
+use Rattle.load_model.specs.Layers.{starting_with, configured, flat, layered_from}
 use Rattle.layer_conf.specs.Faults.{IsLayerFault}
-use Rattle.layer_conf.specs.Config.{configured_meant, layered_from}
+use Rattle.layer_conf.specs.Config.{configured_meant}
 use Rattle.layer_conf.proofs.Layering.{first_file, layer_same, configured_layered, configured_flat, configured_fault}
 use Rattle.layer_conf.proofs.reads.read_configured.Goals as goal
 

@@ -1,9 +1,9 @@
 use Rattle.std.proofs.Common.{◌≡◌, ◌∙◌, ap, sym, subst, ℕ, List, [], Ok}
-use Rattle.std.proofs.lemmas.Result.{IfOk-weaker}
+use Rattle.std.proofs.lemmas.Result.{IfOk-weaker, IfErr-weaker}
 use Rattle.outside_traits.specs.Store.{IsListing}
 use Rattle.load_model.specs.Loading.{sources_of}
 use Rattle.layer_conf.specs.Config.{config_meant}
-use Rattle.recipe_facts.proofs.Binding.{goes_on, if_err_weaker}
+use Rattle.meta_model.proofs.Passing.{goes_on}
 use Rattle.project_reading.specs.Project.{read_config}
 use Rattle.read_modes.specs.Modes.{text_of, mode_text}
 use Rattle.project_reading.specs.Answered.{IsRefusedAs}
@@ -30,7 +30,7 @@ returns-in-Ok-clause-err g c =
     let made = config_meant c.in-Ok.config in
     let mode = c.args.mode in
     let targets = c.args.targets.now in
-    if_err_weaker c.text_of.result (λ status. g.L.Layers.tells → IsRefusedAs status (text_of mode (sources_of later) made targets))
+    IfErr-weaker c.text_of.result (λ status. g.L.Layers.tells → IsRefusedAs status (text_of mode (sources_of later) made targets))
     (λ status. g.L.Layers.tells → (paths : List (List ℕ)) → IsListing [] files paths → IsRefusedAs status (mode_text mode (sources_of files) paths targets))
     (λ status h told paths listing. told_later status (read_config (sources_of files) paths) (λ m. text_of mode (sources_of files) m targets) made (c.in-Ok.ensures.ok told paths listing)
     (subst (λ f. IsRefusedAs status (text_of mode (sources_of f) made targets)) c.in-Ok.ensures.same (h told)))

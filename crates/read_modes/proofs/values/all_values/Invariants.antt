@@ -1,5 +1,5 @@
 use Rattle.std.proofs.Common.{◌≡◌, drop}
-use Rattle.recipe_facts.specs.Behind.{behind}
+use Rattle.meta_model.specs.Passing.{behind}
 use Rattle.read_modes.specs.Modes as modes
 use Rattle.read_modes.proofs.values.all_values.Given as goal
 

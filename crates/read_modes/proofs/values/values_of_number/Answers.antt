@@ -1,6 +1,5 @@
 use Rattle.std.proofs.Common.{◌≡◌, ◌∙◌, ap, Ok, get_or}
-use Rattle.std.proofs.lemmas.Result.{IfOk-weaker}
-use Rattle.recipe_facts.proofs.Binding.{if_err_weaker}
+use Rattle.std.proofs.lemmas.Result.{IfOk-weaker, IfErr-weaker}
 use Rattle.read_modes.specs.Modes.{recipe_values, values_of_number}
 use Rattle.project_reading.specs.Answered.{IsRefusedAs}
 use Rattle.project_reading.proofs.Told.{told_same}
@@ -23,4 +22,4 @@ returns-clause-err c =
     let store = c.store_of.result.now in
     let all = c.as_slice.ensures ∙ ap (λ f. f.recipes) c.facts.ensures.facts in
     let same = value_is set c.args.number recipe store c.requires (c.index-as_slice-number.is ∙ ap (λ l. get_or l c.args.number recipe) all) c.store_of.ensures in
-    if_err_weaker c.recipe_values.result (λ fault. IsRefusedAs fault (recipe_values (recipe, store))) (λ fault. IsRefusedAs fault (values_of_number set c.args.number)) (λ fault h. told_same fault (values_of_number set c.args.number) (recipe_values (recipe, store)) same h) c.recipe_values.ensures.err
+    IfErr-weaker c.recipe_values.result (λ fault. IsRefusedAs fault (recipe_values (recipe, store))) (λ fault. IsRefusedAs fault (values_of_number set c.args.number)) (λ fault h. told_same fault (values_of_number set c.args.number) (recipe_values (recipe, store)) same h) c.recipe_values.ensures.err

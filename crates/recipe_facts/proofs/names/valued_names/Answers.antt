@@ -2,7 +2,7 @@ use Rattle.std.proofs.Common.{◌≡◌, ◌∙◌, ap, flat_map}
 use Rattle.meta_model.specs.Text.{is_in}
 use Rattle.load_model.specs.Facts.{fronts_of, valued_names}
 use Rattle.meta_model.specs.Base.{names}
-use Rattle.recipe_facts.proofs.Binding.{if_ok_both}
+use Rattle.meta_model.proofs.Passing.{if_ok_both}
 use Rattle.recipe_facts.proofs.Fronted.{set_is}
 use Rattle.recipe_facts.proofs.names.valued_names.Goals as goal
 

@@ -1,8 +1,7 @@
 use Rattle.std.proofs.Common.{◌≡◌, subst, Ok}
-use Rattle.std.proofs.lemmas.Result.{IfOk-weaker}
+use Rattle.std.proofs.lemmas.Result.{IfOk-weaker, IfErr-weaker}
 use Rattle.meta_model.specs.Frozen.{frozen}
 use Rattle.datastore.specs.Faults.{IsDataFault}
-use Rattle.recipe_facts.proofs.Binding.{if_err_weaker}
 use Rattle.recipe_facts.proofs.of_config.frozen_of.Goals as goal
 
 pub returns-clause-ok : goal.returns-clause-ok
@@ -11,4 +10,4 @@ returns-clause-ok c =
 
 pub returns-clause-err : goal.returns-clause-err
 returns-clause-err c =
-    if_err_weaker c.freeze.result (λ fault. IsDataFault fault (frozen c.in_ok-copy.field-0)) (λ fault. IsDataFault fault (frozen c.args.config.now)) (λ fault h. subst (λ l. IsDataFault fault (frozen l)) c.in_ok-copy.ensures h) c.freeze.ensures.err
+    IfErr-weaker c.freeze.result (λ fault. IsDataFault fault (frozen c.in_ok-copy.field-0)) (λ fault. IsDataFault fault (frozen c.args.config.now)) (λ fault h. subst (λ l. IsDataFault fault (frozen l)) c.in_ok-copy.ensures h) c.freeze.ensures.err

@@ -1,10 +1,11 @@
 use Rattle.std.proofs.Common.{◌≡◌, ◌∙◌, ap, sym, Ok}
-use Rattle.std.proofs.lemmas.Result.{IfOk-weaker}
+use Rattle.std.proofs.lemmas.Result.{IfOk-weaker, IfErr-weaker}
 use Rattle.meta_model.specs.Frozen.{frozen}
 use Rattle.datastore.specs.Faults.{IsDataFault}
-use Rattle.load_model.specs.Facts.{wishes}
-use Rattle.recipe_facts.specs.Wished.{wished, wishes_over}
-use Rattle.recipe_facts.proofs.Binding.{goes_on, fault_same, if_err_weaker}
+use Rattle.load_model.specs.Facts.{wishes, wishes_over}
+use Rattle.recipe_facts.specs.Wished.{wished}
+use Rattle.recipe_facts.proofs.Binding.{fault_same}
+use Rattle.meta_model.proofs.Passing.{goes_on}
 use Rattle.recipe_facts.proofs.of_config.wishes_of.Goals as goal
 
 pub returns-clause-ok : goal.returns-clause-ok
@@ -19,4 +20,4 @@ returns-clause-err c =
     let config = c.args.config.now in
     let store = c.settle.new.self in
     let same : wishes config ≡ wishes_over store = goes_on (frozen config) c.in_ok-store.store wishes_over c.in_ok-store.ensures.ok ∙ ap wishes_over (sym c.settle.ensures) in
-    if_err_weaker c.wishes_told.result (λ fault. IsDataFault fault (wishes_over store)) (λ fault. IsDataFault fault (wishes config)) (λ fault h. fault_same fault (wishes config) (wishes_over store) same h) c.wishes_told.ensures.err
+    IfErr-weaker c.wishes_told.result (λ fault. IsDataFault fault (wishes_over store)) (λ fault. IsDataFault fault (wishes config)) (λ fault h. fault_same fault (wishes config) (wishes_over store) same h) c.wishes_told.ensures.err

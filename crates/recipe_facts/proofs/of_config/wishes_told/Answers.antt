@@ -1,8 +1,8 @@
 use Rattle.std.proofs.Common.{◌∙◌, codes}
-use Rattle.recipe_facts.proofs.Binding.{exit, fault_on, fault_later, goes_on}
+use Rattle.recipe_facts.proofs.Binding.{exit, fault_on, fault_later}
+use Rattle.meta_model.proofs.Passing.{goes_on}
 use Rattle.load_model.specs.Layers.{words_of}
-use Rattle.load_model.specs.Facts.{family}
-use Rattle.recipe_facts.specs.Wished.{wishes_over}
+use Rattle.load_model.specs.Facts.{family, wishes_over}
 use Rattle.recipe_facts.proofs.Chains.{wishes1, wishes2, wishes3}
 use Rattle.recipe_facts.proofs.of_config.wishes_told.Goals as goal
 

@@ -1,11 +1,12 @@
 use Rattle.std.proofs.Common.{◌≡◌, ◌∙◌, Ok, codes}
-use Rattle.std.proofs.lemmas.Result.{IfOk-weaker}
+use Rattle.std.proofs.lemmas.Result.{IfOk-weaker, IfErr-weaker}
 use Rattle.datastore.specs.Faults.{IsDataFault}
 use Rattle.load_model.specs.LoadRefusal.{◌>>=◌}
 use Rattle.load_model.specs.Layers.{words_of}
 use Rattle.load_model.specs.Facts.{facts_of}
 use Rattle.recipe_facts.specs.Recipe.{recipe_meant, facts_behind}
-use Rattle.recipe_facts.proofs.Binding.{exit, fault_on, fault_later, fault_same, goes_on, if_err_weaker}
+use Rattle.recipe_facts.proofs.Binding.{exit, fault_on, fault_later, fault_same}
+use Rattle.meta_model.proofs.Passing.{goes_on}
 use Rattle.recipe_facts.proofs.Chains.{facts1, facts_apart}
 use Rattle.recipe_facts.proofs.of_recipe.facts_of.Goals as goal
 
@@ -41,4 +42,4 @@ returns-clause-err c =
     let provides = c.in_ok-provides.provides in
     let depends = c.in_ok-depends.depends in
     let same = facts_apart recipe ∙ goes_on (words_of recipe.lines (codes "PROVIDES")) provides (facts1 recipe) c.in_ok-provides.ensures.ok ∙ goes_on (words_of recipe.lines (codes "DEPENDS")) depends (facts_behind recipe provides) c.in_ok-depends.ensures.ok in
-    if_err_weaker c.facts_behind.result (λ fault. IsDataFault fault (facts_behind recipe provides depends)) (λ fault. IsDataFault fault (facts_of recipe)) (λ fault h. fault_same fault (facts_of recipe) (facts_behind recipe provides depends) same h) c.facts_behind.ensures.err
+    IfErr-weaker c.facts_behind.result (λ fault. IsDataFault fault (facts_behind recipe provides depends)) (λ fault. IsDataFault fault (facts_of recipe)) (λ fault h. fault_same fault (facts_of recipe) (facts_behind recipe provides depends) same h) c.facts_behind.ensures.err

@@ -1,8 +1,9 @@
 use Rattle.std.proofs.Common.{◌∙◌, ap, sym, subst, refl, ◌+◌, drop}
 use Rattle.datastore.specs.Faults.{IsDataFault}
 use Rattle.load_model.specs.Facts.{package_facts, all_packages}
-use Rattle.recipe_facts.specs.Behind.{behind}
-use Rattle.recipe_facts.proofs.Binding.{exit, one_turn, one_fault}
+use Rattle.meta_model.specs.Passing.{behind}
+use Rattle.meta_model.proofs.Passing.{one_turn}
+use Rattle.recipe_facts.proofs.Binding.{exit, one_fault}
 use Rattle.recipe_facts.proofs.packages.all_packages.Goals as goal
 
 pub returns-in_err-package_facts-clause-err : goal.returns-in_err-package_facts-clause-err

@@ -1,6 +1,6 @@
 use Rattle.std.proofs.Common.{◌≡◌, drop}
 use Rattle.load_model.specs.Facts.{all_packages}
-use Rattle.recipe_facts.specs.Behind.{behind}
+use Rattle.meta_model.specs.Passing.{behind}
 use Rattle.recipe_facts.proofs.packages.all_packages.Given as goal
 
 abbrev pub invariant-loop-name : goal.invariant-loop-name

@@ -1,8 +1,7 @@
 use Rattle.std.proofs.Common.{◌≡◌, ◌∙◌, Ok, codes, subst}
-use Rattle.std.proofs.lemmas.Result.{IfOk-weaker}
+use Rattle.std.proofs.lemmas.Result.{IfOk-weaker, IfErr-weaker}
 use Rattle.datastore.specs.Faults.{IsDataFault}
 use Rattle.load_model.specs.Facts.{form, needed_words}
-use Rattle.recipe_facts.proofs.Binding.{if_err_weaker}
 use Rattle.recipe_facts.proofs.packages.needed_for.Goals as goal
 
 pub returns-clause-ok : goal.returns-clause-ok
@@ -15,4 +14,4 @@ pub returns-clause-err : goal.returns-clause-err
 returns-clause-err c =
     let lines = c.args.store.now in
     let own = c.as_str.ensures ∙ c.in_ok-own.ensures in
-    if_err_weaker c.needed_words.result (λ fault. IsDataFault fault (needed_words lines c.as_str.result.now)) (λ fault. IsDataFault fault (needed_words lines (form (codes "RDEPENDS") c.args.name.now))) (λ fault h. subst (λ n. IsDataFault fault (needed_words lines n)) own h) c.needed_words.ensures.err
+    IfErr-weaker c.needed_words.result (λ fault. IsDataFault fault (needed_words lines c.as_str.result.now)) (λ fault. IsDataFault fault (needed_words lines (form (codes "RDEPENDS") c.args.name.now))) (λ fault h. subst (λ n. IsDataFault fault (needed_words lines n)) own h) c.needed_words.ensures.err

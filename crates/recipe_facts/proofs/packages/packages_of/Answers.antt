@@ -1,10 +1,11 @@
 use Rattle.std.proofs.Common.{◌≡◌, ◌∙◌, ap, sym, Ok, codes}
-use Rattle.std.proofs.lemmas.Result.{IfOk-weaker}
+use Rattle.std.proofs.lemmas.Result.{IfOk-weaker, IfErr-weaker}
 use Rattle.datastore.specs.Faults.{IsDataFault}
 use Rattle.load_model.specs.Layers.{words_of}
 use Rattle.load_model.specs.Facts.{needed_words, all_packages}
 use Rattle.recipe_facts.specs.Recipe.{packages_of}
-use Rattle.recipe_facts.proofs.Binding.{exit, fault_on, fault_later, fault_same, goes_on, if_err_weaker}
+use Rattle.recipe_facts.proofs.Binding.{exit, fault_on, fault_later, fault_same}
+use Rattle.meta_model.proofs.Passing.{goes_on}
 use Rattle.recipe_facts.proofs.Chains.{packages1, packages2, packages3}
 use Rattle.recipe_facts.proofs.packages.packages_of.Goals as goal
 
@@ -57,5 +58,5 @@ returns-clause-err c =
     ∙ goes_on (words_of lines (codes "RPROVIDES")) provided (packages2 lines names) c.in_ok-provided.ensures.ok
     ∙ goes_on (needed_words lines (codes "RDEPENDS")) needed (packages3 lines names provided) c.in_ok-needed.ensures.ok
     ∙ ap (all_packages lines provided needed) (sym c.as_slice.ensures) in
-    if_err_weaker c.all_packages.result (λ fault. IsDataFault fault (all_packages lines provided needed c.as_slice.result.now)) (λ fault. IsDataFault fault (packages_of lines))
+    IfErr-weaker c.all_packages.result (λ fault. IsDataFault fault (all_packages lines provided needed c.as_slice.result.now)) (λ fault. IsDataFault fault (packages_of lines))
     (λ fault h. fault_same fault (packages_of lines) (all_packages lines provided needed c.as_slice.result.now) same h) c.all_packages.ensures.err

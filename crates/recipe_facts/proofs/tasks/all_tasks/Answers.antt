@@ -1,7 +1,8 @@
 use Rattle.std.proofs.Common.{◌∙◌, ap, sym, refl, ◌+◌, drop}
 use Rattle.load_model.specs.Facts.{task_facts, all_tasks}
-use Rattle.recipe_facts.specs.Behind.{behind}
-use Rattle.recipe_facts.proofs.Binding.{exit, one_turn, one_fault}
+use Rattle.meta_model.specs.Passing.{behind}
+use Rattle.meta_model.proofs.Passing.{one_turn}
+use Rattle.recipe_facts.proofs.Binding.{exit, one_fault}
 use Rattle.recipe_facts.proofs.tasks.all_tasks.Goals as goal
 
 pub returns-in_err-task_facts-clause-err : goal.returns-in_err-task_facts-clause-err

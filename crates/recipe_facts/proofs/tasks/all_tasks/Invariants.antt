@@ -1,6 +1,6 @@
 use Rattle.std.proofs.Common.{◌≡◌, drop}
 use Rattle.load_model.specs.Facts.{all_tasks}
-use Rattle.recipe_facts.specs.Behind.{behind}
+use Rattle.meta_model.specs.Passing.{behind}
 use Rattle.recipe_facts.proofs.tasks.all_tasks.Given as goal
 
 abbrev pub invariant-loop-task : goal.invariant-loop-task

@@ -1,9 +1,9 @@
 use Rattle.std.proofs.Common.{◌≡◌, ◌∙◌, Ok, filter, []}
-use Rattle.std.proofs.lemmas.Result.{IfOk-weaker}
+use Rattle.std.proofs.lemmas.Result.{IfOk-weaker, IfErr-weaker}
 use Rattle.meta_model.specs.Text.{begins_with}
 use Rattle.datastore.specs.Faults.{IsDataFault}
 use Rattle.load_model.specs.Facts.{environment, values_behind}
-use Rattle.recipe_facts.proofs.Binding.{if_err_weaker, fault_same}
+use Rattle.recipe_facts.proofs.Binding.{fault_same}
 use Rattle.recipe_facts.proofs.Valued.{environment_is}
 use Rattle.recipe_facts.proofs.values.environment.Goals as goal
 
@@ -19,4 +19,4 @@ returns-clause-err c =
     let lines = c.args.store.now in
     let names = c.as_slice.result.now in
     let same = environment_is lines names (c.as_slice.ensures ∙ c.in_ok-names.ensures) in
-    if_err_weaker c.values_of.result (λ fault. IsDataFault fault (values_behind lines [] (filter (begins_with []) names))) (λ fault. IsDataFault fault (environment lines)) (λ fault h. fault_same fault (environment lines) (values_behind lines [] (filter (begins_with []) names)) same h) c.values_of.ensures.err
+    IfErr-weaker c.values_of.result (λ fault. IsDataFault fault (values_behind lines [] (filter (begins_with []) names))) (λ fault. IsDataFault fault (environment lines)) (λ fault h. fault_same fault (environment lines) (values_behind lines [] (filter (begins_with []) names)) same h) c.values_of.ensures.err

@@ -2,7 +2,7 @@ use Rattle.std.proofs.Common.{◌∙◌, ap, sym, subst, ◌∷◌, [], filter}
 use Rattle.meta_model.specs.Text.{begins_with}
 use Rattle.datastore.specs.Faults.{IsDataFault}
 use Rattle.load_model.specs.Facts.{values_behind}
-use Rattle.recipe_facts.specs.Behind.{behind}
+use Rattle.meta_model.specs.Passing.{behind}
 use Rattle.recipe_facts.proofs.Binding.{exit}
 use Rattle.recipe_facts.proofs.Valued.{values_go_on, values_fault}
 use Rattle.recipe_facts.proofs.values.values_of.Goals as goal

@@ -3,8 +3,8 @@ use Rattle.std.specs.Map.{lookup}
 use Rattle.std.proofs.lemmas.List.{drop_all}
 use Rattle.load_model.specs.Loading.{sources_of}
 use Rattle.load_model.specs.Recipes.{recipes_read}
-use Rattle.recipe_facts.specs.Behind.{behind}
-use Rattle.recipe_facts.proofs.Binding.{one_turn, behind_begins, behind_ends}
+use Rattle.meta_model.specs.Passing.{behind}
+use Rattle.meta_model.proofs.Passing.{one_turn, behind_begins, behind_ends}
 use Rattle.recipe_set.specs.declared.names.FileName.{FileName}
 use Rattle.recipe_set.specs.Chosen.{file_meant, file_read}
 use Rattle.recipe_set.specs.Faults.{IsSetFault}

@@ -3,7 +3,7 @@ use Rattle.std.specs.Map.{lookup}
 use Rattle.std.specs.BTreeMap.{get_by_text, btree_map_len}
 use Rattle.load_model.specs.Loading.{sources_of}
 use Rattle.load_model.specs.Recipes.{Recipe as Read, recipes_read}
-use Rattle.recipe_facts.specs.Behind.{behind}
+use Rattle.meta_model.specs.Passing.{behind}
 use Rattle.recipe_set.specs.Chosen.{file_meant}
 use Rattle.recipe_set.specs.Picks.{ArePicks}
 use Rattle.recipe_set.proofs.all.read_each.Given as goal

@@ -1,6 +1,6 @@
 use Rattle.std.proofs.Common.{◌≡◌, take, drop}
 use Rattle.load_model.specs.Recipes.{all_belong}
-use Rattle.recipe_facts.specs.Behind.{behind}
+use Rattle.meta_model.specs.Passing.{behind}
 use Rattle.recipe_set.proofs.dangling.dangling.Given as goal
 
 abbrev pub invariant-loop-append : goal.invariant-loop-append

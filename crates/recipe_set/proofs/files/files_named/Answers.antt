@@ -1,9 +1,9 @@
 use Rattle.std.proofs.Common.{◌∙◌, ap, sym, subst, ◌+◌, ◌∷◌, [], drop, map}
 use Rattle.std.proofs.lemmas.List.{map-append}
-use Rattle.load_model.specs.Recipes.{names_of_files}
-use Rattle.recipe_facts.specs.Behind.{behind}
-use Rattle.recipe_facts.proofs.Binding.{one_turn}
-use Rattle.recipe_set.specs.Chosen.{file_meant, file_named}
+use Rattle.load_model.specs.Recipes.{names_of_files, file_named}
+use Rattle.meta_model.specs.Passing.{behind}
+use Rattle.meta_model.proofs.Passing.{one_turn}
+use Rattle.recipe_set.specs.Chosen.{file_meant}
 use Rattle.recipe_set.specs.Faults.{IsSetFault}
 use Rattle.recipe_set.proofs.Setting.{set_exit, set_one, names_more}
 use Rattle.recipe_set.proofs.files.files_named.Goals as goal

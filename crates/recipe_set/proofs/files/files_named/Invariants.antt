@@ -1,6 +1,6 @@
 use Rattle.std.proofs.Common.{◌≡◌, drop, map}
 use Rattle.load_model.specs.Recipes.{names_of_files}
-use Rattle.recipe_facts.specs.Behind.{behind}
+use Rattle.meta_model.specs.Passing.{behind}
 use Rattle.recipe_set.specs.Chosen.{file_meant}
 use Rattle.recipe_set.proofs.files.files_named.Given as goal
 

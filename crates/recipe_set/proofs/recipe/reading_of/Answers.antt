@@ -1,10 +1,9 @@
 use Rattle.std.proofs.Common.{◌∙◌, ap, sym, subst}
 use Rattle.load_model.specs.LoadRefusal.{refused_as}
 use Rattle.load_model.specs.Loading.{sources_of}
-use Rattle.load_model.specs.Recipes.{load, recipe_entries, appends_of}
+use Rattle.load_model.specs.Recipes.{load, recipe_entries, appends_of, entries_with}
 use Rattle.class_inherit.specs.Faults.{IsLoadFault}
 use Rattle.recipe_set.specs.Names.{name_meant}
-use Rattle.recipe_set.specs.Loaded.{entries_with}
 use Rattle.recipe_set.proofs.Setting.{set_load, entries_are}
 use Rattle.recipe_set.proofs.recipe.reading_of.Goals as goal
 

@@ -1,10 +1,9 @@
 use Rattle.std.proofs.Common.{◌∙◌, ap, sym, Ok, Result}
-use Rattle.recipe_facts.proofs.Binding.{goes_on}
+use Rattle.meta_model.proofs.Passing.{goes_on}
 use Rattle.recipe_set.specs.Names.{name_meant}
-use Rattle.recipe_set.specs.Loaded.{name_in, recipe_with}
 use Rattle.recipe_set.proofs.Setting.{set_same, set_on, recipe_is}
 use Rattle.load_model.specs.Recipes as recipes
-use Rattle.load_model.specs.Recipes.{FileName}
+use Rattle.load_model.specs.Recipes.{FileName, name_in, recipe_with}
 use Rattle.load_model.specs.LoadRefusal.{◌>>=◌}
 use Rattle.recipe_set.proofs.recipe.recipe_of.Goals as goal
 

@@ -1,7 +1,6 @@
 use Rattle.std.proofs.Common.{◌∙◌, codes}
-use Rattle.load_model.specs.Recipes.{asked_of, text_of}
-use Rattle.recipe_facts.proofs.Binding.{goes_on}
-use Rattle.recipe_set.specs.Loaded.{three_values}
+use Rattle.load_model.specs.Recipes.{asked_of, text_of, three_values}
+use Rattle.meta_model.proofs.Passing.{goes_on}
 use Rattle.recipe_set.proofs.Setting.{set_exit, set_on, set_later, not_read_exit, values1, values2, values3}
 use Rattle.recipe_set.proofs.recipe.values_in.Goals as goal
 

@@ -2,9 +2,9 @@ use Rattle.std.proofs.Common.{◌∙◌, ap, sym, refl, ◌+◌, drop, map, List
 use Rattle.load_model.specs.Recipes.{asked_of}
 use Rattle.load_model.specs.Facts.{facts_of, all_facts}
 use Rattle.recipe_facts.specs.declared.of_recipe.Recipe.{Recipe}
-use Rattle.recipe_facts.specs.Behind.{behind}
+use Rattle.meta_model.specs.Passing.{behind}
+use Rattle.meta_model.proofs.Passing.{one_turn}
 use Rattle.recipe_facts.specs.Recipe.{recipe_meant}
-use Rattle.recipe_facts.proofs.Binding.{one_turn}
 use Rattle.recipe_set.proofs.Setting.{set_exit, set_one}
 use Rattle.recipe_set.proofs.set.all_facts.Goals as goal
 

@@ -1,6 +1,6 @@
 use Rattle.std.proofs.Common.{◌≡◌, drop, map}
 use Rattle.load_model.specs.Facts.{all_facts}
-use Rattle.recipe_facts.specs.Behind.{behind}
+use Rattle.meta_model.specs.Passing.{behind}
 use Rattle.recipe_facts.specs.Recipe.{recipe_meant}
 use Rattle.recipe_set.proofs.set.all_facts.Given as goal
 

@@ -1,4 +1,4 @@
-use Rattle.std.proofs.Common.{[], ◌≡◌, ap, sym, ◌∙◌, subst, ℕ, ◌<◌, List, length, arith}
+use Rattle.std.proofs.Common.{[], ap, sym, ◌∙◌, subst, ℕ, ◌<◌, List, length, arith}
 use Rattle.std.proofs.lemmas.List.{length-replicate}
 use Rattle.run_core.specs.Above.{PutAbove}
 use Rattle.run_core.proofs.Standing.{deps_below, deps_here, only_first, only_more, said_more, said_all}

@@ -1,6 +1,6 @@
 use Rattle.std.proofs.Common.{◌≡◌, subst, Ok}
 use Rattle.std.specs.Option.{option_copied}
-use Rattle.task_plan.proofs.Faulting.{if_ok_weaker, if_err_weaker}
+use Rattle.std.proofs.lemmas.Result.{IfOk-weaker, IfErr-weaker}
 use Rattle.run_targets.specs.Meaning.{asked_meant}
 use Rattle.run_plan.specs.Plans.{plan_under}
 use Rattle.run_plan.specs.Steps.{IsNoPlanOf}
@@ -11,7 +11,7 @@ pub returns-in-Ok-clause-ok : goal.returns-in-Ok-clause-ok
 returns-in-Ok-clause-ok g c =
     let files = g.L.Layers.files c.args.layers.now in
     let run = c.in-Ok.found in
-    if_ok_weaker c.plan_of.result _ _ (λ made is told paths listing.
+    IfOk-weaker c.plan_of.result _ _ (λ made is told paths listing.
     has_plan files paths c.args.words.now (option_copied c.args.task) c.args.force (asked_meant run.asked) run.graph run.threads made (c.in-Ok.ensures.ok told paths listing)
     (subst (λ f. plan_under c.args.force f run.asked.set run.graph run.threads ≡ Ok made) c.in-Ok.ensures.same (is told))) c.plan_of.ensures.ok
 
@@ -19,7 +19,7 @@ pub returns-in-Ok-clause-err : goal.returns-in-Ok-clause-err
 returns-in-Ok-clause-err g c =
     let files = g.L.Layers.files c.args.layers.now in
     let run = c.in-Ok.found in
-    if_err_weaker c.plan_of.result _ _ (λ status no told paths listing.
+    IfErr-weaker c.plan_of.result _ _ (λ status no told paths listing.
     has_no_plan files paths c.args.words.now (option_copied c.args.task) c.args.force (asked_meant run.asked) run.graph run.threads status (c.in-Ok.ensures.ok told paths listing)
     (subst (λ f. IsNoPlanOf (plan_under c.args.force f run.asked.set run.graph run.threads) status) c.in-Ok.ensures.same (no told))) c.plan_of.ensures.err
 

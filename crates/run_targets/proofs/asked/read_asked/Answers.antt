@@ -1,10 +1,10 @@
 use Rattle.std.proofs.Common.{◌≡◌, ◌∙◌, ap, sym, subst, ℕ, List, [], Ok}
 use Rattle.std.specs.Option.{option_copied}
-use Rattle.std.proofs.lemmas.Result.{IfOk-weaker}
+use Rattle.std.proofs.lemmas.Result.{IfOk-weaker, IfErr-weaker}
 use Rattle.outside_traits.specs.Store.{IsListing}
 use Rattle.load_model.specs.Loading.{sources_of}
 use Rattle.layer_conf.specs.Config.{config_meant}
-use Rattle.recipe_facts.proofs.Binding.{goes_on, if_err_weaker}
+use Rattle.meta_model.proofs.Passing.{goes_on}
 use Rattle.project_reading.specs.Project.{read_config}
 use Rattle.project_reading.specs.Answered.{IsRefusedAs}
 use Rattle.project_reading.proofs.Told.{told_later}
@@ -32,7 +32,7 @@ returns-in-Ok-clause-err g c =
     let made = config_meant c.in-Ok.config in
     let words = c.args.words.now in
     let task = option_copied c.args.task in
-    if_err_weaker c.read_under.result (λ status. g.L.Layers.tells → IsRefusedAs status (asked_under (sources_of later) made words task))
+    IfErr-weaker c.read_under.result (λ status. g.L.Layers.tells → IsRefusedAs status (asked_under (sources_of later) made words task))
     (λ status. g.L.Layers.tells → (paths : List (List ℕ)) → IsListing [] files paths → IsRefusedAs status (asked (sources_of files) paths words task))
     (λ status h told paths listing. told_later status (read_config (sources_of files) paths) (λ m. asked_under (sources_of files) m words task) made (c.in-Ok.ensures.ok told paths listing)
     (subst (λ f. IsRefusedAs status (asked_under (sources_of f) made words task)) c.in-Ok.ensures.same (h told)))

@@ -2,7 +2,7 @@ use Rattle.std.proofs.Common.{◌≡◌, ℕ, List, []}
 use Rattle.std.specs.Option.{option_copied}
 use Rattle.outside_traits.specs.Store.{IsListing}
 use Rattle.load_model.specs.Loading.{sources_of}
-use Rattle.recipe_facts.proofs.Binding.{if_err_weaker}
+use Rattle.std.proofs.lemmas.Result.{IfErr-weaker}
 use Rattle.run_targets.specs.Meaning.{asked_meant}
 use Rattle.run_targets.specs.Runs.{HasRun, HasNoRun, IsRun, IsNoRun}
 use Rattle.run_targets.proofs.Running.{run_asked, ok_and_ok, no_run_asked, asking_refused}
@@ -25,7 +25,7 @@ returns-in-Ok-clause-err g c =
     let what = asked_meant c.in-Ok.asked in
     let words = c.args.words.now in
     let task = option_copied c.args.task in
-    if_err_weaker c.run_of.result (HasNoRun what)
+    IfErr-weaker c.run_of.result (HasNoRun what)
     (λ status. g.L.Layers.tells → (paths : List (List ℕ)) → IsListing [] files paths → IsNoRun (sources_of files) paths words task status)
     (λ status h told paths listing. no_run_asked files paths words task what status (c.in-Ok.ensures.ok told paths listing) h)
     c.run_of.ensures.err

@@ -1,5 +1,5 @@
 use Rattle.std.proofs.Common.{◌≡◌, drop}
-use Rattle.recipe_facts.specs.Behind.{behind}
+use Rattle.meta_model.specs.Passing.{behind}
 use Rattle.run_targets.specs.Asked as asked
 use Rattle.run_targets.proofs.targets.targets_of.Given as goal
 

@@ -1,6 +1,6 @@
 use Rattle.std.proofs.Common.{◌≡◌, take, drop}
 use Rattle.task_model.specs.Scripts.{all_functions}
-use Rattle.script_gen.specs.Steps.{behind}
+use Rattle.meta_model.specs.Passing.{behind}
 use Rattle.script_gen.proofs.calls.all_functions.Given as goal
 
 abbrev pub invariant-loop-word : goal.invariant-loop-word

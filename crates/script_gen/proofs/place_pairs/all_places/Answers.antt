@@ -1,8 +1,10 @@
 use Rattle.std.proofs.Common.{sym, ◌∙◌, ap, ◌+◌, drop}
 use Rattle.task_model.specs.Scripts.{all_places}
-use Rattle.script_gen.specs.Steps.{behind, place_in}
+use Rattle.script_gen.specs.Steps.{place_in}
+use Rattle.meta_model.specs.Passing.{behind}
+use Rattle.meta_model.proofs.Passing.{one_turn}
 use Rattle.script_gen.proofs.Passing.{out}
-use Rattle.script_gen.proofs.Turns.{one_turn, one_fault}
+use Rattle.script_gen.proofs.Turns.{one_fault}
 use Rattle.script_gen.proofs.Parts.{places_in_turn}
 use Rattle.script_gen.proofs.place_pairs.all_places.Goals as goal
 

@@ -1,6 +1,6 @@
 use Rattle.std.proofs.Common.{◌≡◌, drop}
 use Rattle.task_model.specs.Scripts.{all_places}
-use Rattle.script_gen.specs.Steps.{behind}
+use Rattle.meta_model.specs.Passing.{behind}
 use Rattle.script_gen.proofs.place_pairs.all_places.Given as goal
 
 abbrev pub invariant-loop-word : goal.invariant-loop-word

@@ -3,7 +3,8 @@ use Rattle.std.specs.Prelude.{zip}
 use Rattle.task_model.specs.Scripts.{paired}
 use Rattle.script_gen.specs.Faults.{IsScriptFault}
 use Rattle.script_gen.specs.Steps.{placed}
-use Rattle.script_gen.proofs.Passing.{out, fault_on, fault_same, goes_on}
+use Rattle.script_gen.proofs.Passing.{out, fault_on, fault_same}
+use Rattle.meta_model.proofs.Passing.{goes_on}
 use Rattle.script_gen.proofs.Parts.{Names, Paired, both, inputs_refused, outputs_refused, both_given}
 use Rattle.script_gen.proofs.place_pairs.placed.Goals as goal
 

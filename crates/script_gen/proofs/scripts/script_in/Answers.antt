@@ -7,7 +7,8 @@ use Rattle.task_model.specs.Scripts.{script, store_flags, line_names, told_names
 use Rattle.script_gen.specs.Faults.{IsScriptFault}
 use Rattle.script_gen.specs.Frames.{frame_of}
 use Rattle.script_gen.specs.Steps.{begun, written}
-use Rattle.script_gen.proofs.Passing.{out, fault_on, fault_same, goes_on}
+use Rattle.script_gen.proofs.Passing.{out, fault_on, fault_same}
+use Rattle.meta_model.proofs.Passing.{goes_on}
 use Rattle.script_gen.proofs.Exports.{exports_told}
 use Rattle.script_gen.proofs.Parts.{script_is}
 use Rattle.script_gen.proofs.scripts.script_in.Goals as goal

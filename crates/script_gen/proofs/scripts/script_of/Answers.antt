@@ -5,7 +5,8 @@ use Rattle.task_model.specs.Scripts.{script_of, line_names, told_names}
 use Rattle.script_gen.specs.Faults.{IsScriptFault}
 use Rattle.script_gen.specs.Frames.{frame_of}
 use Rattle.script_gen.specs.Steps.{begun, written}
-use Rattle.script_gen.proofs.Passing.{out, fault_on, fault_same, goes_on}
+use Rattle.script_gen.proofs.Passing.{out, fault_on, fault_same}
+use Rattle.meta_model.proofs.Passing.{goes_on}
 use Rattle.script_gen.proofs.Parts.{lines_find, lines_flags, script_by}
 use Rattle.script_gen.proofs.scripts.script_of.Goals as goal
 

@@ -1,6 +1,6 @@
 use Rattle.std.proofs.Common.{codes}
 use Rattle.task_model.specs.Scripts.{make_line}
-use Rattle.script_gen.proofs.Passing.{on_ok_weaker}
+use Rattle.std.proofs.lemmas.Result.{on_ok_weaker}
 use Rattle.script_gen.proofs.Texts.{four}
 use Rattle.script_gen.proofs.text.push_clean.Goals as goal
 

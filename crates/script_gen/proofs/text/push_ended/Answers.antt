@@ -1,6 +1,6 @@
 use Rattle.std.proofs.Common.{◌∙◌, ap, [], ◌∷◌, ◌++◌, append_assoc}
 use Rattle.script_gen.proofs.Ends.{ends_there, ends_away}
-use Rattle.script_gen.proofs.Passing.{on_ok_weaker}
+use Rattle.std.proofs.lemmas.Result.{on_ok_weaker}
 use Rattle.script_gen.proofs.text.push_ended.Goals as goal
 
 pub returns-then-ends_with : goal.returns-then-ends_with

@@ -1,8 +1,10 @@
 use Rattle.std.proofs.Common.{sym, ◌∙◌, ap, ◌+◌, drop}
 use Rattle.task_model.specs.Scripts.{told_values}
-use Rattle.script_gen.specs.Steps.{behind, told_value}
+use Rattle.script_gen.specs.Steps.{told_value}
+use Rattle.meta_model.specs.Passing.{behind}
+use Rattle.meta_model.proofs.Passing.{one_turn}
 use Rattle.script_gen.proofs.Passing.{out}
-use Rattle.script_gen.proofs.Turns.{one_turn, one_fault}
+use Rattle.script_gen.proofs.Turns.{one_fault}
 use Rattle.script_gen.proofs.Parts.{values_in_turn}
 use Rattle.script_gen.proofs.told.told_values.Goals as goal
 

@@ -1,6 +1,6 @@
 use Rattle.std.proofs.Common.{◌≡◌, drop}
 use Rattle.task_model.specs.Scripts.{told_values}
-use Rattle.script_gen.specs.Steps.{behind}
+use Rattle.meta_model.specs.Passing.{behind}
 use Rattle.script_gen.proofs.told.told_values.Given as goal
 
 abbrev pub invariant-loop-name : goal.invariant-loop-name

@@ -1,6 +1,6 @@
 use Rattle.std.proofs.Common.{◌≡◌, ◌∙◌, ◌∷◌, ◌++◌, [], ap, sym, subst, drop, ◌+◌, nat_eq, ◌||◌}
 use Rattle.std.specs.List.{list_any}
-use Rattle.recipe_facts.specs.Behind.{behind}
+use Rattle.meta_model.specs.Passing.{behind}
 use Rattle.plan_model.specs.Plans.{no_sums, planned_node}
 use Rattle.task_plan.specs.Faults.{IsPlanFault}
 use Rattle.task_plan.specs.Meant.{sums_meant}

@@ -1,7 +1,7 @@
 use Rattle.std.proofs.Common.{◌≡◌, drop}
 use Rattle.std.specs.Ordering.{nat_cmp}
 use Rattle.std.specs.BTreeMap.{get}
-use Rattle.recipe_facts.specs.Behind.{behind}
+use Rattle.meta_model.specs.Passing.{behind}
 use Rattle.plan_model.specs.Plans.{no_sums}
 use Rattle.task_plan.specs.Meant.{sums_meant, AreKept}
 use Rattle.task_plan.specs.Steps.{forced_tasks}

@@ -1,5 +1,5 @@
 use Rattle.tree_model.proofs.OverlaidLemmas.{is_overlaid}
-use Rattle.task_plan.proofs.Faulting.{on_ok_weaker}
+use Rattle.std.proofs.lemmas.Result.{on_ok_weaker}
 use Rattle.task_plan.proofs.inputs.lay_over.Goals as goal
 
 pub returns : goal.returns

@@ -5,7 +5,8 @@ use Rattle.plan_model.specs.Plans.{file_at, parts_of, planned, planned_with}
 use Rattle.task_plan.specs.Faults.{IsPlanFault}
 use Rattle.task_plan.specs.Meant.{sums_meant}
 use Rattle.task_plan.specs.Steps.{IsFaultOfKeys}
-use Rattle.task_plan.proofs.Faulting.{on_ok_weaker, plan_on}
+use Rattle.task_plan.proofs.Faulting.{plan_on}
+use Rattle.std.proofs.lemmas.Result.{on_ok_weaker}
 use Rattle.task_plan.proofs.Keeping.{one_more_kept}
 use Rattle.task_plan.proofs.Stepping.{key_refused}
 use Rattle.task_plan.proofs.planned.planned_node.Goals as goal

@@ -2,7 +2,7 @@ use Rattle.std.proofs.Common.{◌∙◌, ap, sym}
 use Rattle.var_expand.specs.References.{looked_up}
 use Rattle.task_model.specs.Leads.{all_looked_up}
 use Rattle.var_deps.specs.Seen.{seen_with}
-use Rattle.var_deps.specs.Reading.{behind}
+use Rattle.meta_model.specs.Passing.{behind}
 use Rattle.var_deps.proofs.Behind.{one_turn, texts_in_turn}
 use Rattle.var_deps.proofs.led.push_all_looked_up.Goals as goal
 

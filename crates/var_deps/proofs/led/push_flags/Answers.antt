@@ -2,7 +2,8 @@ use Rattle.std.specs.List.{filter_map}
 use Rattle.meta_model.specs.Base.{flag}
 use Rattle.task_model.specs.Leads.{all_looked_up, read_flags}
 use Rattle.var_deps.specs.Seen.{seen_with}
-use Rattle.var_deps.specs.Reading.{behind, flag_looked_up}
+use Rattle.var_deps.specs.Reading.{flag_looked_up}
+use Rattle.meta_model.specs.Passing.{behind}
 use Rattle.var_deps.proofs.Behind.{one_turn, one_fault, flags_in_turn}
 use Rattle.var_deps.proofs.Passing.{out}
 use Rattle.var_deps.proofs.led.push_flags.Goals as goal

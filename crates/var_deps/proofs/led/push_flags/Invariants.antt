@@ -3,7 +3,7 @@ use Rattle.std.specs.List.{filter_map}
 use Rattle.meta_model.specs.Base.{flag}
 use Rattle.task_model.specs.Leads.{all_looked_up, read_flags}
 use Rattle.var_deps.specs.Seen.{seen_with}
-use Rattle.var_deps.specs.Reading.{behind}
+use Rattle.meta_model.specs.Passing.{behind}
 use Rattle.var_deps.proofs.led.push_flags.Given as goal
 
 abbrev pub invariant-loop-place : goal.invariant-loop-place

@@ -1,7 +1,7 @@
 use Rattle.std.proofs.Common.{◌≡◌, drop}
 use Rattle.task_model.specs.Leads.{functions_of}
 use Rattle.var_deps.specs.Seen.{seen_with}
-use Rattle.var_deps.specs.Reading.{behind}
+use Rattle.meta_model.specs.Passing.{behind}
 use Rattle.var_deps.proofs.led.push_functions.Given as goal
 
 abbrev pub invariant-loop-name : goal.invariant-loop-name

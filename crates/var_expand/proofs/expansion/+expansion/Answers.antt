@@ -1,13 +1,13 @@
-use Rattle.std.proofs.Common.{arith, rules, ◌≡◌, ◌∙◌, ap, sym, subst, ◌≤◌, ◌+◌, ◌-◌, ◌++◌, ◌∷◌, [], length, take, drop, suc, false, Ok, Some, codes}
+use Rattle.std.proofs.Common.{arith, rules, ◌≡◌, ◌∙◌, ap, sym, subst, ◌≤◌, ◌+◌, ◌-◌, ◌∷◌, [], length, drop, suc, false, Ok, codes}
 use Rattle.std.proofs.lemmas.Result.{err_from_is_err_and}
 use Rattle.meta_model.specs.Text.{holds}
 use Rattle.meta_model.specs.Parts.{end, depth}
-use Rattle.meta_model.specs.Expansion.{longest, expanded_parts, expanded, expanded_value}
+use Rattle.meta_model.specs.Expansion.{longest, expanded_parts, expanded}
 use Rattle.var_expand.specs.Faults.{IsFaultOf}
 use Rattle.var_expand.specs.Going.{IsGoing, Tells, table_of}
 use Rattle.var_expand.specs.Pieces.{part_before, parts_in, parts_in_list}
-use Rattle.var_expand.specs.Expanding.{as_found, known, last_name, part_text, grown}
-use Rattle.var_expand.proofs.Expanding.{plain_ok, plain_long, fit_whole, no_items, ref_depth, ref_is, grown_fault, value_alone, part_depth, cut_part, fault_on, fault_same, finish, finish_fault, finish_goes_on, put_ok, put_err, take_front, same_ok, same_err}
+use Rattle.var_expand.specs.Expanding.{known, last_name, part_text, grown}
+use Rattle.var_expand.proofs.Expanding.{plain_ok, plain_long, fit_whole, no_items, ref_depth, ref_is, grown_fault, value_alone, part_depth, cut_part, fault_same, finish, finish_fault, finish_goes_on, put_ok, put_err, same_ok, same_err}
 use Rattle.var_expand.proofs.Growing.{deeper_fault, deeper_going, deeper_grew, deeper_ok, deeper_told, grew_on, put_told}
 use Rattle.var_expand.proofs.expansion.+expansion.Goals as goal
 

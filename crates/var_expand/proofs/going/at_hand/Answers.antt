@@ -1,7 +1,6 @@
-use Rattle.std.proofs.Common.{◌≡◌, ◌∙◌, refl, sym, ap, subst, Some, Ok, false, true, not}
+use Rattle.std.proofs.Common.{◌∙◌, refl, sym, false}
 use Rattle.std.proofs.lemmas.Result.{err_from_is_err_and}
-use Rattle.meta_model.specs.Text.{is_in}
-use Rattle.var_expand.specs.Going.{IsFresh, kept_of, has_no_more}
+use Rattle.var_expand.specs.Going.{kept_of, has_no_more}
 use Rattle.var_expand.proofs.Growing.{kept_at_hand, none_at_hand, plain_at_hand, plain_too_long}
 use Rattle.var_expand.proofs.going.at_hand.Goals as goal
 

@@ -1,8 +1,7 @@
 use Rattle.std.proofs.Common.{◌∙◌, ap, sym, Ok, Err}
 use Rattle.std.proofs.lemmas.Result.{err_from_is_err_and}
 use Rattle.meta_model.specs.Refusal.{value_cycle, too_deep}
-use Rattle.meta_model.specs.Text.{is_in}
-use Rattle.var_expand.specs.Expanding.{known, last_name}
+use Rattle.var_expand.specs.Expanding.{known}
 use Rattle.var_expand.proofs.Expanding.{known_cycle, known_unfound, known_deep}
 use Rattle.var_expand.proofs.going.find_fresh.Goals as goal
 

@@ -1,5 +1,5 @@
 use Rattle.std.proofs.Common.{set, ◌≡◌, sym, ap, subst, refl, ℕ, ◌<◌, List, length, Option, Some, None, arith}
-use Rattle.std.specs.Prelude.{IfSome, vec_len}
+use Rattle.std.specs.Prelude.{IfSome}
 use Rattle.std.specs.Option.{option_map}
 use Rattle.std.proofs.lemmas.List.{length-set}
 use Rattle.meta_model.specs.declared.event.Avail.{Avail}

@@ -1,7 +1,7 @@
 use Rattle.std.proofs.Common.{◌∙◌, ap, sym, subst, arith, ◌≤◌, ◌<◌, length, bytes_eq}
 use Rattle.meta_model.specs.Text.{into_order, is_before}
 use Rattle.meta_model.proofs.Placing.{order_same, order_here, order_last, same_at}
-use Rattle.task_graph.proofs.providers.put_in_order.Goals as goal
+use Rattle.meta_model.proofs.in_order.put_in_order.Goals as goal
 
 pub returns-then-eq : goal.returns-then-eq
 returns-then-eq c =

@@ -1,0 +1,35 @@
+// Texts in byte order, each once.
+ghost use Rattle.std.specs.Prelude.{◌≡◌, OnOk};
+ghost use Rattle.meta_model.specs.Text.{into_order, is_before};
+
+use std::cmp::Ordering;
+use tree_model::{Mem, Text};
+
+/// Whether the first text comes before the second in byte order.
+fn comes_before(first: &str, second: &str) -> bool
+    ensures { result ≡ is_before first.now second.now }
+{
+    match first.cmp(second) {
+        Ordering::Less => true,
+        Ordering::Equal => false,
+        Ordering::Greater => false,
+    }
+}
+
+/// Puts a text into its place among others in byte order, where it isn't there yet. It goes along the texts, so it is for few.
+pub fn put_in_order(texts: &mut Vec<Text>, text: Text) -> Result<(), Mem>
+    ensures { OnOk result (texts.new.items ≡ into_order texts.old.items text) }
+{
+    let mut place = 0;
+    while place < texts.len() {
+        if texts[place].as_str() == text.as_str() {
+            return Ok(());
+        }
+        if comes_before(text.as_str(), texts[place].as_str()) {
+            texts.insert(place, text)?;
+            return Ok(());
+        }
+        place += 1;
+    }
+    Ok(texts.push(text)?)
+}
