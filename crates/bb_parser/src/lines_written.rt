@@ -124,8 +124,10 @@ fn written_assignment(
     op: Op,
     text: &str,
 ) -> Result<Text, PrintFault>
-    ensures ok { Writes result (is_free_name name.now && is_quotable text.now && not (is_weak op && is_late name.now)) (whole_line (assignment_text export name.now op text.now)) }
-    ensures err { Refuses result (is_free_name name.now && is_quotable text.now && not (is_weak op && is_late name.now)) }
+    ensures ok { Writes result (is_free_name name.now && is_quotable text.now && not (is_weak op && is_late name.now))
+        (whole_line (assignment_text export name.now op text.now)) }
+    ensures err { Refuses result (is_free_name name.now && is_quotable text.now && not
+        (is_weak op && is_late name.now)) }
 {
     if !can_be_assigned(name.as_bytes(), op, text.as_bytes()) {
         return Err(PrintFault::NoText);
@@ -152,7 +154,8 @@ fn written_flag(
     op: Op,
     text: &str,
 ) -> Result<Text, PrintFault>
-    ensures ok { Writes result (is_free_name name.now && is_flag flag.now && is_quotable text.now) (whole_line (flag_text name.now flag.now op text.now)) }
+    ensures ok { Writes result (is_free_name name.now && is_flag flag.now && is_quotable text.now)
+        (whole_line (flag_text name.now flag.now op text.now)) }
     ensures err { Refuses result (is_free_name name.now && is_flag flag.now && is_quotable text.now) }
 {
     if !can_assign_flag(name.as_bytes(), flag.as_bytes(), text.as_bytes()) {
@@ -202,7 +205,8 @@ fn unset_flag_line(alloc: Global, name: &str, flag: &str) -> Result<Text, Mem>
 
 /// `unset NAME[FLAG]`.
 fn written_unset_flag(alloc: Global, name: &str, flag: &str) -> Result<Text, PrintFault>
-    ensures ok { Writes result (is_free_name name.now && is_flag flag.now) (whole_line (line_of_text (codes "unset") (name_and_flag_text name.now flag.now))) }
+    ensures ok { Writes result (is_free_name name.now && is_flag flag.now)
+        (whole_line (line_of_text (codes "unset") (name_and_flag_text name.now flag.now))) }
     ensures err { Refuses result (is_free_name name.now && is_flag flag.now) }
 {
     if !can_be_flagged(name.as_bytes(), flag.as_bytes()) {
@@ -225,7 +229,8 @@ fn written_text(alloc: Global, word: &str, text: &str) -> Result<Text, PrintFaul
 
 /// The head, the body and the closing `}` of a function.
 fn function_lines(alloc: Global, name: &str, body: &str) -> Result<Text, Mem>
-    ensures { IfOk result (λ text. text ≡ function_text name.now ++ newline ∷ (body.now ++ close_brace ∷ newline ∷ [])) }
+    ensures { IfOk result (λ text. text ≡ function_text name.now ++ newline
+        ∷ (body.now ++ close_brace ∷ newline ∷ [])) }
 {
     let mut text = Text::from_str(alloc, name)?;
     text.push_str("() {\n")?;
@@ -236,7 +241,8 @@ fn function_lines(alloc: Global, name: &str, body: &str) -> Result<Text, Mem>
 
 /// `NAME() {`, the body and `}`.
 fn written_function(alloc: Global, name: &str, body: &str) -> Result<Text, PrintFault>
-    ensures ok { Writes result (is_free_name name.now && not (is_python_name name.now) && is_body_text body.now) (function_text name.now ++ newline ∷ (body.now ++ close_brace ∷ newline ∷ [])) }
+    ensures ok { Writes result (is_free_name name.now && not (is_python_name name.now) && is_body_text body.now)
+        (function_text name.now ++ newline ∷ (body.now ++ close_brace ∷ newline ∷ [])) }
     ensures err { Refuses result (is_free_name name.now && not (is_python_name name.now) && is_body_text body.now) }
 {
     if !can_be_function(name.as_bytes(), body.as_bytes()) {
@@ -292,7 +298,8 @@ fn exports_line(alloc: Global, names: &[Text]) -> Result<Text, Mem>
 
 /// `EXPORT_FUNCTIONS WORDS`.
 fn written_exports(alloc: Global, names: &[Text]) -> Result<Text, PrintFault>
-    ensures ok { Writes result (not (is_empty names.now) && list_all is_word names.now) (whole_line (exports_text names.now)) }
+    ensures ok { Writes result (not (is_empty names.now) && list_all is_word names.now)
+        (whole_line (exports_text names.now)) }
     ensures err { Refuses result (not (is_empty names.now) && list_all is_word names.now) }
 {
     if !are_words(names) {
@@ -313,7 +320,8 @@ fn tasks_line(alloc: Global, names: &[Text], after: &[Text], before: &[Text]) ->
 
 /// Whether `addtask` can have these parts.
 fn can_be_added(names: &[Text], after: &[Text], before: &[Text]) -> bool
-    ensures { result ≡ (not (is_empty names.now) && list_all is_task names.now && list_all is_task after.now && list_all is_task before.now) }
+    ensures { result ≡ (not (is_empty names.now) && list_all is_task names.now && list_all is_task after.now &&
+        list_all is_task before.now) }
 {
     !has_none(names) && are_tasks(names) && are_tasks(after) && are_tasks(before)
 }
@@ -325,8 +333,11 @@ fn written_tasks(
     after: &[Text],
     before: &[Text],
 ) -> Result<Text, PrintFault>
-    ensures ok { Writes result (not (is_empty names.now) && list_all is_task names.now && list_all is_task after.now && list_all is_task before.now) (whole_line (codes "addtask" ++ words_text (task_words names.now after.now before.now))) }
-    ensures err { Refuses result (not (is_empty names.now) && list_all is_task names.now && list_all is_task after.now && list_all is_task before.now) }
+    ensures ok { Writes result (not (is_empty names.now) && list_all is_task names.now && list_all is_task after.now
+        && list_all is_task before.now) (whole_line (codes "addtask"
+        ++ words_text (task_words names.now after.now before.now))) }
+    ensures err { Refuses result (not (is_empty names.now) && list_all is_task names.now && list_all is_task after.now
+        && list_all is_task before.now) }
 {
     if !can_be_added(names, after, before) {
         return Err(PrintFault::NoText);
@@ -336,7 +347,8 @@ fn written_tasks(
 
 /// `deltask WORDS`.
 fn written_deletions(alloc: Global, names: &[Text]) -> Result<Text, PrintFault>
-    ensures ok { Writes result (not (is_empty names.now) && list_all is_task names.now) (whole_line (codes "deltask" ++ words_text names.now)) }
+    ensures ok { Writes result (not (is_empty names.now) && list_all is_task names.now)
+        (whole_line (codes "deltask" ++ words_text names.now)) }
     ensures err { Refuses result (not (is_empty names.now) && list_all is_task names.now) }
 {
     if has_none(names) || !are_tasks(names) {

@@ -99,7 +99,8 @@ fn has_operator(line: &[u8]) -> bool
 
 /// Where the name of an assignment ends: it is the shortest that an operator follows.
 pub fn name_end(line: &[u8]) -> Option<usize>
-    ensures shortest { find (λ c. is_name c.0 && is_some (operator c.1)) (cuts line.now) ≡ option_map (λ n. (take n line.now, drop n line.now)) result }
+    ensures shortest { find (λ c. is_name c.0 && is_some (operator c.1)) (cuts line.now)
+        ≡ option_map (λ n. (take n line.now, drop n line.now)) result }
     ensures cut { IfSome result (λ n. IsUtf8 line.now → IsCharBoundary line.now n) }
 {
     let mut end = 0;

@@ -119,7 +119,8 @@ fn take_line(
     line: &Line,
     rest: &[Line],
 ) -> Result<(), ParseFault>
-    ensures ok { OnOk result (onto list.new (statements_of_lines kind rest.now) ≡ onto list.old (statements_of_lines kind (line.now ∷ rest.now))) }
+    ensures ok { OnOk result (onto list.new (statements_of_lines kind rest.now)
+        ≡ onto list.old (statements_of_lines kind (line.now ∷ rest.now))) }
     ensures err { IfErr result (λ e. IsFaultOf e (statements_of_lines kind (line.now ∷ rest.now))) }
 {
     if !stands_outside(line) {

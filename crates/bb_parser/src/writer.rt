@@ -20,7 +20,8 @@ use tree_model::Text;
 /// `NoText` where no file has the statement, of any kind and among any others: its name is none, say. `Memory` where
 /// memory ran out.
 pub fn print(alloc: Global, statement: &Statement) -> Result<Text, PrintFault>
-    ensures text { IfOk result (λ text. (kind : FileKind) → is_allowed kind statement.now ≡ true → AreStatements kind text ((1, statement.now) ∷ [])) }
+    ensures text { IfOk result (λ text. (kind : FileKind) → is_allowed kind statement.now ≡ true
+        → AreStatements kind text ((1, statement.now) ∷ [])) }
     ensures class { IfOk result (λ text. AreStatements Class text ((1, statement.now) ∷ [])) }
     ensures nowhere { IfErr result (λ e. e ≡ NoText → IsNowhere statement.now) }
 {

@@ -68,7 +68,8 @@ fn line_of_ok(alloc: Global, tale: &[Logged]) -> Result<Text, Mem>
 
 /// Marks the task of an event, if it is that the task failed.
 fn mark(marks: &mut [bool], logged: &Logged)
-    ensures { (tale : List Entry) → AreMarks tale (length marks.old) marks.old → AreMarks (tale ++ logged.now ∷ []) (length marks.old) marks.new }
+    ensures { (tale : List Entry) → AreMarks tale (length marks.old) marks.old
+        → AreMarks (tale ++ logged.now ∷ []) (length marks.old) marks.new }
 {
     if let Event::Failed { task, why: _ } = logged.event {
         let place = task as usize;

@@ -13,7 +13,8 @@ use outside_traits::{Sink, SinkFault};
 /// Writes two texts, one behind the other.
 fn write_both<W: Sink>(sink: &mut W, first: &[u8], second: &[u8]) -> Result<(), SinkFault>
     ensures ok { OnOk result (W.tells → W.written sink.new ≡ W.written sink.old ++ (first.now ++ second.now)) }
-    ensures err { OnErr result (W.tells → WritesFront (W.written sink.old) (W.written sink.new) (first.now ++ second.now)) }
+    ensures err { OnErr result (W.tells → WritesFront (W.written sink.old) (W.written sink.new)
+        (first.now ++ second.now)) }
     ensures cause { Counts (W.faults sink.old) (W.faults sink.new) (sink_failed result) }
 {
     write_all(sink, first)?;
@@ -27,8 +28,10 @@ fn write_three<W: Sink>(
     second: &[u8],
     third: &[u8],
 ) -> Result<(), SinkFault>
-    ensures ok { OnOk result (W.tells → W.written sink.new ≡ W.written sink.old ++ (first.now ++ (second.now ++ third.now))) }
-    ensures err { OnErr result (W.tells → WritesFront (W.written sink.old) (W.written sink.new) (first.now ++ (second.now ++ third.now))) }
+    ensures ok { OnOk result (W.tells → W.written sink.new ≡ W.written sink.old
+        ++ (first.now ++ (second.now ++ third.now))) }
+    ensures err { OnErr result (W.tells → WritesFront (W.written sink.old) (W.written sink.new)
+        (first.now ++ (second.now ++ third.now))) }
     ensures cause { Counts (W.faults sink.old) (W.faults sink.new) (sink_failed result) }
 {
     write_all(sink, first)?;
@@ -48,7 +51,8 @@ fn write_label<W: Sink>(sink: &mut W, id: &TaskId) -> Result<(), SinkFault>
 /// Writes a task and what stands behind it.
 fn write_rest<W: Sink>(sink: &mut W, id: &TaskId, end: &[u8]) -> Result<(), SinkFault>
     ensures ok { OnOk result (W.tells → W.written sink.new ≡ W.written sink.old ++ (task_label id.now ++ end.now)) }
-    ensures err { OnErr result (W.tells → WritesFront (W.written sink.old) (W.written sink.new) (task_label id.now ++ end.now)) }
+    ensures err { OnErr result (W.tells → WritesFront (W.written sink.old) (W.written sink.new)
+        (task_label id.now ++ end.now)) }
     ensures cause { Counts (W.faults sink.old) (W.faults sink.new) (sink_failed result) }
 {
     write_label(sink, id)?;
@@ -57,8 +61,10 @@ fn write_rest<W: Sink>(sink: &mut W, id: &TaskId, end: &[u8]) -> Result<(), Sink
 
 /// Writes a word, a task and what stands behind it.
 fn write_line<W: Sink>(sink: &mut W, word: &[u8], id: &TaskId, end: &[u8]) -> Result<(), SinkFault>
-    ensures ok { OnOk result (W.tells → W.written sink.new ≡ W.written sink.old ++ (word.now ++ (task_label id.now ++ end.now))) }
-    ensures err { OnErr result (W.tells → WritesFront (W.written sink.old) (W.written sink.new) (word.now ++ (task_label id.now ++ end.now))) }
+    ensures ok { OnOk result (W.tells → W.written sink.new ≡ W.written sink.old
+        ++ (word.now ++ (task_label id.now ++ end.now))) }
+    ensures err { OnErr result (W.tells → WritesFront (W.written sink.old) (W.written sink.new)
+        (word.now ++ (task_label id.now ++ end.now))) }
     ensures cause { Counts (W.faults sink.old) (W.faults sink.new) (sink_failed result) }
 {
     write_all(sink, word)?;
@@ -68,7 +74,8 @@ fn write_line<W: Sink>(sink: &mut W, word: &[u8], id: &TaskId, end: &[u8]) -> Re
 /// Writes the status with which a script ended.
 fn write_status<W: Sink>(sink: &mut W, status: u32) -> Result<(), SinkFault>
     ensures ok { OnOk result (W.tells → W.written sink.new ≡ W.written sink.old ++ why_text (Why.Status status)) }
-    ensures err { OnErr result (W.tells → WritesFront (W.written sink.old) (W.written sink.new) (why_text (Why.Status status))) }
+    ensures err { OnErr result (W.tells → WritesFront (W.written sink.old) (W.written sink.new)
+        (why_text (Why.Status status))) }
     ensures cause { Counts (W.faults sink.old) (W.faults sink.new) (sink_failed result) }
 {
     let mut buffer = Buffer::new();
@@ -91,8 +98,10 @@ fn write_why<W: Sink>(sink: &mut W, why: Why) -> Result<(), SinkFault>
 
 /// Writes the line of a task that failed.
 fn write_failed<W: Sink>(sink: &mut W, id: &TaskId, why: Why) -> Result<(), SinkFault>
-    ensures ok { OnOk result (W.tells → W.written sink.new ≡ W.written sink.old ++ (codes "failed " ++ (task_label id.now ++ why_text why))) }
-    ensures err { OnErr result (W.tells → WritesFront (W.written sink.old) (W.written sink.new) (codes "failed " ++ (task_label id.now ++ why_text why))) }
+    ensures ok { OnOk result (W.tells → W.written sink.new ≡ W.written sink.old
+        ++ (codes "failed " ++ (task_label id.now ++ why_text why))) }
+    ensures err { OnErr result (W.tells → WritesFront (W.written sink.old) (W.written sink.new)
+        (codes "failed " ++ (task_label id.now ++ why_text why))) }
     ensures cause { Counts (W.faults sink.old) (W.faults sink.new) (sink_failed result) }
 {
     write_all(sink, b"failed ")?;
@@ -127,8 +136,10 @@ fn task_of_event(event: &Event) -> u32
 
 /// Writes the line of an event of a task.
 fn write_of<W: Sink>(sink: &mut W, id: &TaskId, event: &Event) -> Result<(), SinkFault>
-    ensures ok { OnOk result (W.tells → W.written sink.new ≡ W.written sink.old ++ line_of (task_label id.now) event.now) }
-    ensures err { OnErr result (W.tells → WritesFront (W.written sink.old) (W.written sink.new) (line_of (task_label id.now) event.now)) }
+    ensures ok { OnOk result (W.tells → W.written sink.new ≡ W.written sink.old
+        ++ line_of (task_label id.now) event.now) }
+    ensures err { OnErr result (W.tells → WritesFront (W.written sink.old) (W.written sink.new)
+        (line_of (task_label id.now) event.now)) }
     ensures cause { Counts (W.faults sink.old) (W.faults sink.new) (sink_failed result) }
 {
     match event {
@@ -145,8 +156,10 @@ fn write_of<W: Sink>(sink: &mut W, id: &TaskId, event: &Event) -> Result<(), Sin
 /// of the plan. (Own rule.)
 pub fn write_event<W: Sink>(sink: &mut W, plan: &Plan, event: &Event) -> Result<(), SinkFault>
     requires { task_of event.now < length plan.now.tasks }
-    ensures ok { OnOk result (W.tells → W.written sink.new ≡ W.written sink.old ++ event_line plan.now.tasks event.now) }
-    ensures err { OnErr result (W.tells → WritesFront (W.written sink.old) (W.written sink.new) (event_line plan.now.tasks event.now)) }
+    ensures ok { OnOk result (W.tells → W.written sink.new ≡ W.written sink.old
+        ++ event_line plan.now.tasks event.now) }
+    ensures err { OnErr result (W.tells → WritesFront (W.written sink.old) (W.written sink.new)
+        (event_line plan.now.tasks event.now)) }
     ensures cause { Counts (W.faults sink.old) (W.faults sink.new) (sink_failed result) }
 {
     let tasks = plan.tasks.as_slice();

@@ -19,7 +19,8 @@ use tree_model::Text;
 pub fn print<W: Sink>(sink: &mut W, text: &str) -> Status
     ensures status { (result ≡ Status.Ok) ⊎ (result ≡ Status.WriteFault) }
     ensures whole { result ≡ Status.Ok → W.tells → W.written sink.new ≡ W.written sink.old ++ text.now }
-    ensures said { W.tells → Says text.now (W.written sink.old) (W.written sink.new) (W.faults sink.old) (W.faults sink.new) }
+    ensures said { W.tells → Says text.now (W.written sink.old) (W.written sink.new) (W.faults sink.old)
+        (W.faults sink.new) }
     ensures front { W.tells → WritesFront (W.written sink.old) (W.written sink.new) text.now }
     ensures later { W.faults sink.old ≤ W.faults sink.new }
     ensures cause { result ≡ Status.WriteFault → Rose (W.faults sink.old) (W.faults sink.new) }
@@ -35,7 +36,8 @@ pub fn print<W: Sink>(sink: &mut W, text: &str) -> Status
 pub fn refuse<W: Sink>(alloc: Global, status: Status, sink: &mut W) -> Status
     ensures status { (result ≡ status) ⊎ (result ≡ Status.OutOfMemory) }
     ensures later { W.faults sink.old ≤ W.faults sink.new }
-    ensures said { W.tells → Says (fault_text result) (W.written sink.old) (W.written sink.new) (W.faults sink.old) (W.faults sink.new) }
+    ensures said { W.tells → Says (fault_text result) (W.written sink.old) (W.written sink.new) (W.faults sink.old)
+        (W.faults sink.new) }
 {
     match fault_text(alloc, &status) {
         Ok(text) => {

@@ -22,8 +22,10 @@ use tree_model::Text;
 
 /// The text of the plan that a request has.
 fn dry_run<L: Layers>(alloc: Global, layers: &mut L, request: &DryRequest) -> Result<Text, Status>
-    ensures ok { IfOk result (λ text. L.tells → (paths : List (List ℕ)) → IsListing [] (L.files layers.old) paths → IsDryText (L.files layers.old) paths request.now text) }
-    ensures err { IfErr result (λ status. L.tells → (paths : List (List ℕ)) → IsListing [] (L.files layers.old) paths → IsNoPlan (L.files layers.old) paths request.now.targets request.now.task false status) }
+    ensures ok { IfOk result (λ text. L.tells → (paths : List (List ℕ)) → IsListing [] (L.files layers.old) paths
+        → IsDryText (L.files layers.old) paths request.now text) }
+    ensures err { IfErr result (λ status. L.tells → (paths : List (List ℕ)) → IsListing [] (L.files layers.old) paths
+        → IsNoPlan (L.files layers.old) paths request.now.targets request.now.task false status) }
     ensures refusal { IfErr result (λ status. is_refusal status ≡ true) }
     ensures cause { Counts (L.faults layers.old) (L.faults layers.new) (mode_failed result) }
 {
@@ -46,7 +48,8 @@ pub fn dry<L: Layers, W: Sink>(
     layers: &mut L,
     sink: &mut W,
 ) -> Status
-    ensures dry { L.tells → (paths : List (List ℕ)) → IsListing [] (L.files layers.old) paths → HasDry result (L.files layers.old) paths request.now }
+    ensures dry { L.tells → (paths : List (List ℕ)) → IsListing [] (L.files layers.old) paths
+        → HasDry result (L.files layers.old) paths request.now }
     ensures text { L.tells → W.tells → (paths : List (List ℕ)) → IsListing [] (L.files layers.old) paths
         → (plan : Whole) → IsDryPlan (L.files layers.old) paths request.now plan
         → result ≡ Status.Ok → W.written sink.new ≡ W.written sink.old ++ text_of plan }

@@ -28,10 +28,12 @@ use std::thread::Threads;
 
 /// Finds the plan that a request is a run of.
 fn find<L: Layers>(alloc: Global, layers: &mut L, request: &RunRequest) -> Result<Plan, Status>
-    ensures ok { IfOk result (λ plan. L.tells → (paths : List (List ℕ)) → IsListing [] (L.files layers.old) paths → IsRunPlan (L.files layers.old) paths request.now plan) }
+    ensures ok { IfOk result (λ plan. L.tells → (paths : List (List ℕ)) → IsListing [] (L.files layers.old) paths
+        → IsRunPlan (L.files layers.old) paths request.now plan) }
     ensures sound { IfOk result IsSound }
     ensures spellings { IfOk result HasSpellings }
-    ensures err { IfErr result (λ status. L.tells → (paths : List (List ℕ)) → IsListing [] (L.files layers.old) paths → IsUnrun (L.files layers.old) paths request.now status) }
+    ensures err { IfErr result (λ status. L.tells → (paths : List (List ℕ)) → IsListing [] (L.files layers.old) paths
+        → IsUnrun (L.files layers.old) paths request.now status) }
     ensures refusal { IfErr result (λ status. is_refusal status ≡ true) }
     ensures cause { Counts (L.faults layers.old) (L.faults layers.new) (mode_failed result) }
 {
@@ -64,37 +66,43 @@ where
     requires reach { 3900 ≤ D.reach }
     requires fresh { D.tells → IsFresh (D.story disk) }
     requires unharmed { D.faults disk ≡ 0 }
-    ensures keeps { L.tells → D.tells → B.tells
-        → (paths : List (List ℕ)) → IsListing [] (L.files layers) paths
-        → (plan : Whole) → IsRunPlan (L.files layers) paths request.now plan
-        → (gives : Gives) → All (λ b. B.gives b ≡ gives) benches.items
-        → (reading : Reading) (book : Book) → MayBegin gives reading book (D.story disk).held plan
-        → Keeps gives reading book (D.story disk).held plan request.now.options result.tales.items result.status (D.story result.disk) (map (λ b. (B.place b).runs) benches.items) (map (λ b. (B.place b).runs) result.benches.items) }
-    ensures exactly { L.tells → D.tells → B.tells
-        → (paths : List (List ℕ)) → IsListing [] (L.files layers) paths
-        → (gives : Gives) → All (λ b. B.gives b ≡ gives) benches.items
-        → (reading : Reading) (book : Book) → ((plan : Whole) → IsRunPlan (L.files layers) paths request.now plan → MayBegin gives reading book (D.story disk).held plan)
-        → IsUnchanged (L.faults layers) (L.faults result.layers)
-        → D.faults result.disk ≡ 0
+    ensures keeps { L.tells → D.tells → B.tells → (paths : List (List ℕ)) → IsListing [] (L.files layers) paths
+        → (plan : Whole) → IsRunPlan (L.files layers) paths request.now plan → (gives : Gives)
+        → All (λ b. B.gives b ≡ gives) benches.items → (reading : Reading) (book : Book)
+        → MayBegin gives reading book (D.story disk).held plan
+        → Keeps gives reading book (D.story disk).held plan request.now.options result.tales.items result.status
+        (D.story result.disk) (map (λ b. (B.place b).runs) benches.items)
+        (map (λ b. (B.place b).runs) result.benches.items) }
+    ensures exactly { L.tells → D.tells → B.tells → (paths : List (List ℕ)) → IsListing [] (L.files layers) paths
+        → (gives : Gives) → All (λ b. B.gives b ≡ gives) benches.items → (reading : Reading) (book : Book)
+        → ((plan : Whole) → IsRunPlan (L.files layers) paths request.now plan
+        → MayBegin gives reading book (D.story disk).held plan)
+        → IsUnchanged (L.faults layers) (L.faults result.layers) → D.faults result.disk ≡ 0
         → AreUnchanged (map B.faults benches.items) (map B.faults result.benches.items)
-        → IsUnchanged (W.faults sink) (W.faults result.sink)
-        → IsCertain result.status
+        → IsUnchanged (W.faults sink) (W.faults result.sink) → IsCertain result.status
         → ((result.status ≡ Status.Ok) ↔ HasBuild (L.files layers) paths request.now gives) }
     ensures plans { L.tells → (paths : List (List ℕ)) → IsListing [] (L.files layers) paths
         → All (IsRunPlan (L.files layers) paths request.now) result.plans.items }
     ensures found { is_refusal result.status ≡ false → (plan : Whole) × (result.plans.items ≡ plan ∷ []) }
     ensures concludes { Concludes request.now.options result.plans.items result.tales.items result.status }
-    ensures text { W.tells → WritesCall (Rose (W.faults sink) (W.faults result.sink)) (W.written sink) (W.written result.sink) result.plans.items result.tales.items result.status }
-    ensures printed { W.tells → B.tells → RanPrintedCall result.plans.items result.tales.items (map (λ b. (B.place b).runs) benches.items) (map (λ b. (B.place b).runs) result.benches.items) (W.written sink) (W.written result.sink) }
+    ensures text { W.tells → WritesCall (Rose (W.faults sink) (W.faults result.sink)) (W.written sink)
+        (W.written result.sink) result.plans.items result.tales.items result.status }
+    ensures printed { W.tells → B.tells → RanPrintedCall result.plans.items result.tales.items
+        (map (λ b. (B.place b).runs) benches.items) (map (λ b. (B.place b).runs) result.benches.items)
+        (W.written sink) (W.written result.sink) }
     ensures unrun { result.tales.items ≡ [] → result.status ≢ Status.WriteFault → L.tells
         → (paths : List (List ℕ)) → IsListing [] (L.files layers) paths
         → IsUnrun (L.files layers) paths request.now result.status }
-    ensures built { result.status ≡ not_built → L.tells → (paths : List (List ℕ)) → IsListing [] (L.files layers) paths → ⊥ }
+    ensures built { result.status ≡ not_built → L.tells → (paths : List (List ℕ))
+        → IsListing [] (L.files layers) paths → ⊥ }
     ensures no_usage { result.status ≢ Status.Usage }
     ensures same_disk { result.tales.items ≡ [] → result.disk ≡ disk }
     ensures same_benches { result.tales.items ≡ [] → result.benches.items ≡ benches.items }
-    ensures broke { All (λ tale. AtSeats (BreaksByFault tale) (map B.faults benches.items) (map B.faults result.benches.items)) result.tales.items }
-    ensures causes { HasCause (Rose (L.faults layers) (L.faults result.layers)) (D.faults result.disk) (SomeRose (map B.faults benches.items) (map B.faults result.benches.items)) (Rose (W.faults sink) (W.faults result.sink)) result.status }
+    ensures broke { All (λ tale. AtSeats (BreaksByFault tale) (map B.faults benches.items)
+        (map B.faults result.benches.items)) result.tales.items }
+    ensures causes { HasCause (Rose (L.faults layers) (L.faults result.layers)) (D.faults result.disk)
+        (SomeRose (map B.faults benches.items) (map B.faults result.benches.items))
+        (Rose (W.faults sink) (W.faults result.sink)) result.status }
 {
     match find(alloc, &mut layers, request) {
         Ok(plan) => {

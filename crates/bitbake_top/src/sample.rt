@@ -129,7 +129,8 @@ fn ended(
     requires concludes { Concludes plainly own.items told.items status }
     requires ends { MayEnd status }
     requires other { status ≢ Status.Ok }
-    ensures line { IfOk result (λ made. (size : ℕ) → IsLine size made.plans.items made.tales.items made.status made.line) }
+    ensures line { IfOk result (λ made. (size : ℕ) → IsLine size made.plans.items made.tales.items made.status
+        made.line) }
     ensures ends { IfOk result (λ made. MayEnd made.status) }
 {
     let line = line_of(alloc, &status, own.as_slice(), told.as_slice())?;
@@ -221,7 +222,8 @@ pub fn sample<W: Sink, R: Threads + Wait + Sync>(
     size: u32,
     sink: &mut W,
 ) -> (Status, Vec<Plan>, Vec<ListOf<Logged>>)
-    ensures said { W.tells → SaysSample size result.1.items result.2.items result.0 (W.written sink.old) (W.written sink.new) (W.faults sink.old) (W.faults sink.new) }
+    ensures said { W.tells → SaysSample size result.1.items result.2.items result.0 (W.written sink.old)
+        (W.written sink.new) (W.faults sink.old) (W.faults sink.new) }
     ensures cause { HasCause ⊥ 0 ⊥ (Rose (W.faults sink.old) (W.faults sink.new)) result.0 }
     ensures no_usage { result.0 ≢ Status.Usage }
 {

@@ -72,39 +72,43 @@ where
     // holds exactly its clean output, every crash leaves a store in which the next run may begin, the tale is legal, named failures are
     // real, and the runs of each bench are the tasks that its seat started.
     ensures keeps { (request : Request) → AskRun words.now request → L.tells → D.tells → B.tells
-        → (paths : List (List ℕ)) → IsListing [] (L.files layers) paths
-        → (plan : Plan) → IsRunPlan (L.files layers) paths request plan
-        → (gives : Gives) → All (λ b. B.gives b ≡ gives) benches.items
+        → (paths : List (List ℕ)) → IsListing [] (L.files layers) paths → (plan : Plan)
+        → IsRunPlan (L.files layers) paths request plan → (gives : Gives) → All (λ b. B.gives b ≡ gives) benches.items
         → (reading : Reading) (book : Book) → MayBegin gives reading book (D.story disk).held plan
-        → Keeps gives reading book (D.story disk).held plan request.options result.tales.items result.status (D.story result.disk) (map (λ b. (B.place b).runs) benches.items) (map (λ b. (B.place b).runs) result.benches.items) }
+        → Keeps gives reading book (D.story disk).held plan request.options result.tales.items result.status
+        (D.story result.disk) (map (λ b. (B.place b).runs) benches.items)
+        (map (λ b. (B.place b).runs) result.benches.items) }
 
     // Where no device failed, memory wasn't wanting and no two signatures have one digest, a run answers Ok exactly where it has a plan
     // and the clean build of all its tasks succeeds.
     ensures exactly { (request : Request) → AskRun words.now request → L.tells → D.tells → B.tells
-        → (paths : List (List ℕ)) → IsListing [] (L.files layers) paths
-        → (gives : Gives) → All (λ b. B.gives b ≡ gives) benches.items
-        → (reading : Reading) (book : Book) → ((plan : Plan) → IsRunPlan (L.files layers) paths request plan → MayBegin gives reading book (D.story disk).held plan)
-        → IsUnchanged (L.faults layers) (L.faults result.layers)
-        → D.faults result.disk ≡ 0
+        → (paths : List (List ℕ)) → IsListing [] (L.files layers) paths → (gives : Gives)
+        → All (λ b. B.gives b ≡ gives) benches.items → (reading : Reading) (book : Book)
+        → ((plan : Plan) → IsRunPlan (L.files layers) paths request plan
+        → MayBegin gives reading book (D.story disk).held plan)
+        → IsUnchanged (L.faults layers) (L.faults result.layers) → D.faults result.disk ≡ 0
         → AreUnchanged (map B.faults benches.items) (map B.faults result.benches.items)
-        → IsUnchanged (W.faults sink) (W.faults result.sink)
-        → IsCertain result.status
+        → IsUnchanged (W.faults sink) (W.faults result.sink) → IsCertain result.status
         → ((result.status ≡ Status.Ok) ↔ HasBuild (L.files layers) paths request gives) }
 
     // The plan that is handed back is the request's, and each answer but a refusal hands one back. The status fits the tale: Ok comes only
     // where nothing is left to do and no task failed, and neither Ok nor a failed task is answered where a bench broke a task off.
-    ensures plans { (request : Request) → AskRun words.now request → L.tells → (paths : List (List ℕ)) → IsListing [] (L.files layers) paths
-        → All (IsRunPlan (L.files layers) paths request) result.plans.items }
-    ensures found { (request : Request) → AskRun words.now request → is_refusal result.status ≡ false → (plan : Plan) × (result.plans.items ≡ plan ∷ []) }
-    ensures concludes { (request : Request) → AskRun words.now request → Concludes request.options result.plans.items result.tales.items result.status }
+    ensures plans { (request : Request) → AskRun words.now request → L.tells → (paths : List (List ℕ))
+        → IsListing [] (L.files layers) paths → All (IsRunPlan (L.files layers) paths request) result.plans.items }
+    ensures found { (request : Request) → AskRun words.now request → is_refusal result.status ≡ false
+        → (plan : Plan) × (result.plans.items ≡ plan ∷ []) }
+    ensures concludes { (request : Request) → AskRun words.now request
+        → Concludes request.options result.plans.items result.tales.items result.status }
 
     // What a run wrote is the text of the plan, the tale and the status, or where the sink failed a front of such a text.
     ensures text { (request : Request) → AskRun words.now request → W.tells
-        → WritesCall (Rose (W.faults sink) (W.faults result.sink)) (W.written sink) (W.written result.sink) result.plans.items result.tales.items result.status }
+        → WritesCall (Rose (W.faults sink) (W.faults result.sink)) (W.written sink) (W.written result.sink)
+        result.plans.items result.tales.items result.status }
 
     // No script ran before the line of its task's start was printed, whole.
     ensures printed { (request : Request) → AskRun words.now request → W.tells → B.tells
-        → RanPrintedCall result.plans.items result.tales.items (map (λ b. (B.place b).runs) benches.items) (map (λ b. (B.place b).runs) result.benches.items) (W.written sink) (W.written result.sink) }
+        → RanPrintedCall result.plans.items result.tales.items (map (λ b. (B.place b).runs) benches.items)
+        (map (λ b. (B.place b).runs) result.benches.items) (W.written sink) (W.written result.sink) }
 
     // Why a run isn't begun. It isn't since something isn't built.
     ensures unrun { (request : Request) → AskRun words.now request
@@ -130,14 +134,14 @@ where
         → ((result.status ≡ Status.Ok) ↔ IsOk (mode_text mode (sources_of (L.files layers)) paths targets)) }
 
     // Under Ok a mode wrote its text, and where the sink failed a front of it.
-    ensures read_text { (mode : ReadMode) → (targets : List (List ℕ)) → AskReading words.now mode targets → L.tells → W.tells
-        → (paths : List (List ℕ)) → IsListing [] (L.files layers) paths
-        → (text : List ℕ) → mode_text mode (sources_of (L.files layers)) paths targets ≡ Ok text
-        → result.status ≡ Status.Ok → W.written result.sink ≡ W.written sink ++ text }
-    ensures read_front { (mode : ReadMode) → (targets : List (List ℕ)) → AskReading words.now mode targets → L.tells → W.tells
-        → (paths : List (List ℕ)) → IsListing [] (L.files layers) paths
-        → (text : List ℕ) → mode_text mode (sources_of (L.files layers)) paths targets ≡ Ok text
-        → result.status ≡ Status.WriteFault → WritesFront (W.written sink) (W.written result.sink) text }
+    ensures read_text { (mode : ReadMode) → (targets : List (List ℕ)) → AskReading words.now mode targets → L.tells
+        → W.tells → (paths : List (List ℕ)) → IsListing [] (L.files layers) paths → (text : List ℕ)
+        → mode_text mode (sources_of (L.files layers)) paths targets ≡ Ok text → result.status ≡ Status.Ok
+        → W.written result.sink ≡ W.written sink ++ text }
+    ensures read_front { (mode : ReadMode) → (targets : List (List ℕ)) → AskReading words.now mode targets → L.tells
+        → W.tells → (paths : List (List ℕ)) → IsListing [] (L.files layers) paths → (text : List ℕ)
+        → mode_text mode (sources_of (L.files layers)) paths targets ≡ Ok text → result.status ≡ Status.WriteFault
+        → WritesFront (W.written sink) (W.written result.sink) text }
 
     // A dry run. The status fits the plan that the targets have, or the refusal.
     ensures dry_status { (request : DryRequest) → AskDry words.now request → is_read_status result.status ≡ true }
@@ -166,8 +170,10 @@ where
     // The sample. One line was written, with the counts of the two tales that are handed back; of what was handed in, the sink alone was
     // touched. That the tales are of runs over the sample is no clause.
     ensures sample { (size : ℕ) → AskSample words.now size → W.tells
-        → SaysSample size result.plans.items result.tales.items result.status (W.written sink) (W.written result.sink) (W.faults sink) (W.faults result.sink) }
-    ensures sample_alone { (size : ℕ) → AskSample words.now size → (result.disk ≡ disk) × (result.benches.items ≡ benches.items) × (result.layers ≡ layers) }
+        → SaysSample size result.plans.items result.tales.items result.status (W.written sink) (W.written result.sink)
+        (W.faults sink) (W.faults result.sink) }
+    ensures sample_alone { (size : ℕ) → AskSample words.now size
+        → (result.disk ≡ disk) × (result.benches.items ≡ benches.items) × (result.layers ≡ layers) }
 
     // Words that are refused: the status is the refusal's, or says that memory was wanting. `Usage` has no other cause.
     ensures refused { IsErr (asked_by words.now) → IsRefusal (asked_by words.now) result.status }
@@ -182,11 +188,16 @@ where
 
     // Without a run each refusal's line is written, or a front of it where the sink failed.
     ensures said { AskNoRun words.now → result.status ≢ Status.Ok → result.status ≢ Status.WriteFault → W.tells
-        → Says (fault_text result.status) (W.written sink) (W.written result.sink) (W.faults sink) (W.faults result.sink) }
+        → Says (fault_text result.status) (W.written sink) (W.written result.sink) (W.faults sink)
+        (W.faults result.sink) }
 
     // Each fault has its cause, and a task broke off since its bench failed only where the count of its seat's bench rose.
-    ensures broke { (request : Request) → AskRun words.now request → All (λ tale. AtSeats (BreaksByFault tale) (map B.faults benches.items) (map B.faults result.benches.items)) result.tales.items }
-    ensures causes { HasCause (Rose (L.faults layers) (L.faults result.layers)) (D.faults result.disk) (SomeRose (map B.faults benches.items) (map B.faults result.benches.items)) (Rose (W.faults sink) (W.faults result.sink)) result.status }
+    ensures broke { (request : Request) → AskRun words.now request
+        → All (λ tale. AtSeats (BreaksByFault tale) (map B.faults benches.items) (map B.faults result.benches.items))
+        result.tales.items }
+    ensures causes { HasCause (Rose (L.faults layers) (L.faults result.layers)) (D.faults result.disk)
+        (SomeRose (map B.faults benches.items) (map B.faults result.benches.items))
+        (Rose (W.faults sink) (W.faults result.sink)) result.status }
 {
     match asked_of(alloc, words) {
         Ok(Asked::Runs(request)) => run(rt, alloc, &request, layers, disk, benches, sink),

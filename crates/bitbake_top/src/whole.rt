@@ -100,7 +100,9 @@ where
     requires room { (1 ≤ vec_capacity room.plans) × (1 ≤ vec_capacity room.tales) }
     ensures keeps { D.tells → B.tells → (gives : Gives) → All (λ b. B.gives b ≡ gives) benches.items
         → (reading : Reading) (book : Book) → MayBegin gives reading book (D.story disk).held plan
-        → Keeps gives reading book (D.story disk).held plan options result.tales.items result.status (D.story result.disk) (map (λ b. (B.place b).runs) benches.items) (map (λ b. (B.place b).runs) result.benches.items) }
+        → Keeps gives reading book (D.story disk).held plan options result.tales.items result.status
+        (D.story result.disk) (map (λ b. (B.place b).runs) benches.items)
+        (map (λ b. (B.place b).runs) result.benches.items) }
     ensures exactly { D.tells → B.tells → (gives : Gives) → All (λ b. B.gives b ≡ gives) benches.items
         → (reading : Reading) (book : Book) → MayBegin gives reading book (D.story disk).held plan → AreWanted plan
         → D.faults result.disk ≡ 0 → AreUnchanged (map B.faults benches.items) (map B.faults result.benches.items)
@@ -108,12 +110,17 @@ where
         → ((result.status ≡ Status.Ok) ↔ AllClean gives plan) }
     ensures plans { result.plans.items ≡ plan ∷ [] }
     ensures begun { IsBegun options result.plans.items result.tales.items result.status }
-    ensures text { W.tells → (base : List ℕ) (before : ℕ) → before ≤ W.faults sink → W.written sink ≡ base ++ text_of plan
-        → WritesCall (Rose before (W.faults result.sink)) base (W.written result.sink) result.plans.items result.tales.items result.status }
+    ensures text { W.tells → (base : List ℕ) (before : ℕ) → before ≤ W.faults sink
+        → W.written sink ≡ base ++ text_of plan → WritesCall (Rose before (W.faults result.sink)) base
+        (W.written result.sink) result.plans.items result.tales.items result.status }
     ensures printed { W.tells → B.tells → (base : List ℕ) → W.written sink ≡ base ++ text_of plan
-        → RanPrintedCall result.plans.items result.tales.items (map (λ b. (B.place b).runs) benches.items) (map (λ b. (B.place b).runs) result.benches.items) base (W.written result.sink) }
-    ensures broke { All (λ tale. AtSeats (BreaksByFault tale) (map B.faults benches.items) (map B.faults result.benches.items)) result.tales.items }
-    ensures causes { (before : ℕ) → before ≤ W.faults sink → MayEndSo (D.faults result.disk) (SomeRose (map B.faults benches.items) (map B.faults result.benches.items)) (Rose before (W.faults result.sink)) result.status }
+        → RanPrintedCall result.plans.items result.tales.items (map (λ b. (B.place b).runs) benches.items)
+        (map (λ b. (B.place b).runs) result.benches.items) base (W.written result.sink) }
+    ensures broke { All (λ tale. AtSeats (BreaksByFault tale) (map B.faults benches.items)
+        (map B.faults result.benches.items)) result.tales.items }
+    ensures causes { (before : ℕ) → before ≤ W.faults sink
+        → MayEndSo (D.faults result.disk) (SomeRose (map B.faults benches.items) (map B.faults result.benches.items))
+        (Rose before (W.faults result.sink)) result.status }
 {
     let Room {
         mut plans,
@@ -165,21 +172,30 @@ where
     requires spellings { HasSpellings plan }
     ensures keeps { D.tells → B.tells → (gives : Gives) → All (λ b. B.gives b ≡ gives) benches.items
         → (reading : Reading) (book : Book) → MayBegin gives reading book (D.story disk).held plan
-        → Keeps gives reading book (D.story disk).held plan options result.tales.items result.status (D.story result.disk) (map (λ b. (B.place b).runs) benches.items) (map (λ b. (B.place b).runs) result.benches.items) }
+        → Keeps gives reading book (D.story disk).held plan options result.tales.items result.status
+        (D.story result.disk) (map (λ b. (B.place b).runs) benches.items)
+        (map (λ b. (B.place b).runs) result.benches.items) }
     ensures exactly { D.tells → B.tells → (gives : Gives) → All (λ b. B.gives b ≡ gives) benches.items
         → (reading : Reading) (book : Book) → MayBegin gives reading book (D.story disk).held plan → AreWanted plan
         → D.faults result.disk ≡ 0 → AreUnchanged (map B.faults benches.items) (map B.faults result.benches.items)
         → (Rose (W.faults sink) (W.faults result.sink) → ⊥) → IsCertain result.status
         → ((result.status ≡ Status.Ok) ↔ AllClean gives plan) }
-    ensures plans { (result.plans.items ≡ plan ∷ []) ⊎ ((result.plans.items ≡ []) × (result.status ≡ Status.OutOfMemory)) }
+    ensures plans { (result.plans.items ≡ plan ∷ []) ⊎ ((result.plans.items ≡ [])
+        × (result.status ≡ Status.OutOfMemory)) }
     ensures concludes { Concludes options result.plans.items result.tales.items result.status }
-    ensures unbegun { result.tales.items ≡ [] → (result.status ≡ Status.OutOfMemory) ⊎ (result.status ≡ Status.WriteFault) }
-    ensures text { W.tells → WritesCall (Rose (W.faults sink) (W.faults result.sink)) (W.written sink) (W.written result.sink) result.plans.items result.tales.items result.status }
-    ensures printed { W.tells → B.tells → RanPrintedCall result.plans.items result.tales.items (map (λ b. (B.place b).runs) benches.items) (map (λ b. (B.place b).runs) result.benches.items) (W.written sink) (W.written result.sink) }
+    ensures unbegun { result.tales.items ≡ [] → (result.status ≡ Status.OutOfMemory)
+        ⊎ (result.status ≡ Status.WriteFault) }
+    ensures text { W.tells → WritesCall (Rose (W.faults sink) (W.faults result.sink)) (W.written sink)
+        (W.written result.sink) result.plans.items result.tales.items result.status }
+    ensures printed { W.tells → B.tells → RanPrintedCall result.plans.items result.tales.items
+        (map (λ b. (B.place b).runs) benches.items) (map (λ b. (B.place b).runs) result.benches.items)
+        (W.written sink) (W.written result.sink) }
     ensures same_disk { result.tales.items ≡ [] → result.disk ≡ disk }
     ensures same_benches { result.tales.items ≡ [] → result.benches.items ≡ benches.items }
-    ensures broke { All (λ tale. AtSeats (BreaksByFault tale) (map B.faults benches.items) (map B.faults result.benches.items)) result.tales.items }
-    ensures causes { MayEndSo (D.faults result.disk) (SomeRose (map B.faults benches.items) (map B.faults result.benches.items)) (Rose (W.faults sink) (W.faults result.sink)) result.status }
+    ensures broke { All (λ tale. AtSeats (BreaksByFault tale) (map B.faults benches.items)
+        (map B.faults result.benches.items)) result.tales.items }
+    ensures causes { MayEndSo (D.faults result.disk) (SomeRose (map B.faults benches.items)
+        (map B.faults result.benches.items)) (Rose (W.faults sink) (W.faults result.sink)) result.status }
 {
     match prepare(alloc, &plan) {
         Ok(Ready { text, mut room }) => match write_all(&mut sink, text.as_str().as_bytes()) {

@@ -35,15 +35,26 @@ fn do_claimed<D: Disk, B: Bench, W: Sink>(
     ensures goes_on { GoesOnBehind job.task state.new result }
     ensures fault { IsSome state.old.fault → state.new.fault ≡ state.old.fault }
     ensures halted { IfSome result (IsHalted state.new) }
-    ensures sink { (before : ℕ) → Counts before (W.faults state.old.sink) state.old.sink_failed → Counts before (W.faults state.new.sink) state.new.sink_failed }
-    ensures text { W.tells → (base : List ℕ) → Prints base (W.written state.old.sink) (tale_text state.old.plan.tasks state.old.tale) state.old.sink_failed → Prints base (W.written state.new.sink) (tale_text state.old.plan.tasks state.new.tale) state.new.sink_failed }
-    ensures stays { W.tells → (front : List ℕ) → IsFront front (W.written state.old.sink) → IsFront front (W.written state.new.sink) }
+    ensures sink { (before : ℕ) → Counts before (W.faults state.old.sink) state.old.sink_failed
+        → Counts before (W.faults state.new.sink) state.new.sink_failed }
+    ensures text { W.tells → (base : List ℕ) → Prints base (W.written state.old.sink)
+        (tale_text state.old.plan.tasks state.old.tale) state.old.sink_failed
+        → Prints base (W.written state.new.sink) (tale_text state.old.plan.tasks state.new.tale)
+        state.new.sink_failed }
+    ensures stays { W.tells → (front : List ℕ) → IsFront front (W.written state.old.sink)
+        → IsFront front (W.written state.new.sink) }
     ensures gives { B.gives bench.new ≡ B.gives bench.old }
-    ensures ran { B.tells → ((B.place bench.new).runs ≡ ran_job (B.place bench.old).runs job) ⊎ (((B.place bench.new).runs ≡ (B.place bench.old).runs) × IsSome result) }
-    ensures unheard { IsSome state.old.fault → IsSome result × (B.tells → (B.place bench.new).runs ≡ (B.place bench.old).runs) }
+    ensures ran { B.tells → ((B.place bench.new).runs ≡ ran_job (B.place bench.old).runs job)
+        ⊎ (((B.place bench.new).runs ≡ (B.place bench.old).runs) × IsSome result) }
+    ensures unheard { IsSome state.old.fault → IsSome result
+        × (B.tells → (B.place bench.new).runs ≡ (B.place bench.old).runs) }
     ensures cause { Counts (B.faults bench.old) (B.faults bench.new) (by_bench result) }
-    ensures run { D.tells → B.tells → (o : Opening) → o.gives ≡ B.gives bench.old → IsRun o (seen D.story W.written state.old) → IsCleanJob o (seen D.story W.written state.old) job → IsRun o (seen D.story W.written state.new) }
-    ensures steady { D.tells → B.tells → (o : Opening) → o.gives ≡ B.gives bench.old → IsRun o (seen D.story W.written state.old) → IsCleanJob o (seen D.story W.written state.old) job → IsSteady state.old.fault → IsSteady state.new.fault }
+    ensures run { D.tells → B.tells → (o : Opening) → o.gives ≡ B.gives bench.old
+        → IsRun o (seen D.story W.written state.old) → IsCleanJob o (seen D.story W.written state.old) job
+        → IsRun o (seen D.story W.written state.new) }
+    ensures steady { D.tells → B.tells → (o : Opening) → o.gives ≡ B.gives bench.old
+        → IsRun o (seen D.story W.written state.old) → IsCleanJob o (seen D.story W.written state.old) job
+        → IsSteady state.old.fault → IsSteady state.new.fault }
 {
     if state.has_fault() {
         state.broke(alloc, 0, job, Cut::Fault);
@@ -77,13 +88,24 @@ fn turn<D: Disk, B: Bench, W: Sink>(
     ensures same { SameRun state.old state.new }
     ensures grows { Grows result state.old.tale state.new.tale }
     ensures goes_on { MatchOption result (left_over state.new < left_over state.old) (IsHalted state.new) }
-    ensures sink { (before : ℕ) → Counts before (W.faults state.old.sink) state.old.sink_failed → Counts before (W.faults state.new.sink) state.new.sink_failed }
-    ensures text { W.tells → (base : List ℕ) → Prints base (W.written state.old.sink) (tale_text state.old.plan.tasks state.old.tale) state.old.sink_failed → Prints base (W.written state.new.sink) (tale_text state.old.plan.tasks state.new.tale) state.new.sink_failed }
-    ensures printed { W.tells → B.tells → (from : List Entry) (base : List ℕ) (before : Runs) → RanSaid state.old.plan None state.old.fault from state.old.tale before (B.place bench.old).runs base (W.written state.old.sink) → RanSaid state.old.plan result state.new.fault from state.new.tale before (B.place bench.new).runs base (W.written state.new.sink) }
+    ensures sink { (before : ℕ) → Counts before (W.faults state.old.sink) state.old.sink_failed
+        → Counts before (W.faults state.new.sink) state.new.sink_failed }
+    ensures text { W.tells → (base : List ℕ) → Prints base (W.written state.old.sink)
+        (tale_text state.old.plan.tasks state.old.tale) state.old.sink_failed
+        → Prints base (W.written state.new.sink) (tale_text state.old.plan.tasks state.new.tale)
+        state.new.sink_failed }
+    ensures printed { W.tells → B.tells → (from : List Entry) (base : List ℕ) (before : Runs)
+        → RanSaid state.old.plan None state.old.fault from state.old.tale before (B.place bench.old).runs base
+        (W.written state.old.sink) → RanSaid state.old.plan result state.new.fault from state.new.tale before
+        (B.place bench.new).runs base (W.written state.new.sink) }
     ensures gives { B.gives bench.new ≡ B.gives bench.old }
     ensures cause { Counts (B.faults bench.old) (B.faults bench.new) (by_bench result) }
-    ensures run { D.tells → B.tells → (o : Opening) → o.gives ≡ B.gives bench.old → IsRun o (seen D.story W.written state.old) → IsRun o (seen D.story W.written state.new) × Drove (B.gives bench.old) state.old.plan result state.old.tale state.new.tale (B.place bench.old).runs (B.place bench.new).runs }
-    ensures steady { D.tells → B.tells → (o : Opening) → o.gives ≡ B.gives bench.old → IsRun o (seen D.story W.written state.old) → IsSteady state.old.fault → IsSteady state.new.fault }
+    ensures run { D.tells → B.tells → (o : Opening) → o.gives ≡ B.gives bench.old
+        → IsRun o (seen D.story W.written state.old) → IsRun o (seen D.story W.written state.new)
+        × Drove (B.gives bench.old) state.old.plan result state.old.tale state.new.tale (B.place bench.old).runs
+        (B.place bench.new).runs }
+    ensures steady { D.tells → B.tells → (o : Opening) → o.gives ≡ B.gives bench.old
+        → IsRun o (seen D.story W.written state.old) → IsSteady state.old.fault → IsSteady state.new.fault }
 {
     state.kept();
     match state.claim(alloc, 0) {
@@ -116,13 +138,24 @@ pub(crate) fn drive<D: Disk, B: Bench, W: Sink>(
     ensures grows { Grows (Some result) state.old.tale state.new.tale }
     ensures halted { IsHalted state.new result }
     ensures none { NoneRuns (fates_of state.new) }
-    ensures sink { (before : ℕ) → Counts before (W.faults state.old.sink) state.old.sink_failed → Counts before (W.faults state.new.sink) state.new.sink_failed }
-    ensures text { W.tells → (base : List ℕ) → Prints base (W.written state.old.sink) (tale_text state.old.plan.tasks state.old.tale) state.old.sink_failed → Prints base (W.written state.new.sink) (tale_text state.old.plan.tasks state.new.tale) state.new.sink_failed }
-    ensures printed { W.tells → B.tells → (from : List Entry) (base : List ℕ) (before : Runs) → RanSaid state.old.plan None state.old.fault from state.old.tale before (B.place bench.old).runs base (W.written state.old.sink) → RanSaid state.old.plan (Some result) state.new.fault from state.new.tale before (B.place bench.new).runs base (W.written state.new.sink) }
+    ensures sink { (before : ℕ) → Counts before (W.faults state.old.sink) state.old.sink_failed
+        → Counts before (W.faults state.new.sink) state.new.sink_failed }
+    ensures text { W.tells → (base : List ℕ) → Prints base (W.written state.old.sink)
+        (tale_text state.old.plan.tasks state.old.tale) state.old.sink_failed
+        → Prints base (W.written state.new.sink) (tale_text state.old.plan.tasks state.new.tale)
+        state.new.sink_failed }
+    ensures printed { W.tells → B.tells → (from : List Entry) (base : List ℕ) (before : Runs)
+        → RanSaid state.old.plan None state.old.fault from state.old.tale before (B.place bench.old).runs base
+        (W.written state.old.sink) → RanSaid state.old.plan (Some result) state.new.fault from state.new.tale before
+        (B.place bench.new).runs base (W.written state.new.sink) }
     ensures gives { B.gives bench.new ≡ B.gives bench.old }
     ensures cause { Counts (B.faults bench.old) (B.faults bench.new) (by_bench (Some result)) }
-    ensures run { D.tells → B.tells → (o : Opening) → o.gives ≡ B.gives bench.old → IsRun o (seen D.story W.written state.old) → IsRun o (seen D.story W.written state.new) × Drove (B.gives bench.old) state.old.plan (Some result) state.old.tale state.new.tale (B.place bench.old).runs (B.place bench.new).runs }
-    ensures steady { D.tells → B.tells → (o : Opening) → o.gives ≡ B.gives bench.old → IsRun o (seen D.story W.written state.old) → IsSteady state.old.fault → IsSteady state.new.fault }
+    ensures run { D.tells → B.tells → (o : Opening) → o.gives ≡ B.gives bench.old
+        → IsRun o (seen D.story W.written state.old) → IsRun o (seen D.story W.written state.new)
+        × Drove (B.gives bench.old) state.old.plan (Some result) state.old.tale state.new.tale
+        (B.place bench.old).runs (B.place bench.new).runs }
+    ensures steady { D.tells → B.tells → (o : Opening) → o.gives ≡ B.gives bench.old
+        → IsRun o (seen D.story W.written state.old) → IsSteady state.old.fault → IsSteady state.new.fault }
 {
     loop {
         if let Some(halt) = turn(alloc, state, bench) {

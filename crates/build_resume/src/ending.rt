@@ -181,9 +181,12 @@ fn unwritten(status: Status) -> Status
 
 /// Writes the last line of a run that wanted memory, and says how the run ended by that, be it that the line couldn't be written.
 pub(crate) fn end_wanting<W: Sink>(sink: &mut W) -> Status
-    ensures text { W.tells → (plan : ThePlan) (tale : List Entry) (base : List ℕ) → W.written sink.old ≡ base ++ tale_text plan.tasks tale → WritesReport (Rose (W.faults sink.old) (W.faults sink.new)) base (W.written sink.new) plan tale result }
+    ensures text { W.tells → (plan : ThePlan) (tale : List Entry) (base : List ℕ)
+        → W.written sink.old ≡ base ++ tale_text plan.tasks tale
+        → WritesReport (Rose (W.faults sink.old) (W.faults sink.new)) base (W.written sink.new) plan tale result }
     ensures ends { result ≡ ends.OutOfMemory }
-    ensures stays { W.tells → (front : List ℕ) → IsFront front (W.written sink.old) → IsFront front (W.written sink.new) }
+    ensures stays { W.tells → (front : List ℕ) → IsFront front (W.written sink.old)
+        → IsFront front (W.written sink.new) }
     ensures later { W.faults sink.old ≤ W.faults sink.new }
 {
     let _written = write_all(sink, b"fault 11 memory\n");
@@ -200,9 +203,12 @@ pub(crate) fn tell_end<W: Sink>(
 ) -> Status
     requires ok { status ≡ ends.Ok → has_failure tale.now ≡ false }
     requires failed { status ≡ ends.TaskFailed → has_failure tale.now ≡ true }
-    ensures text { W.tells → (base : List ℕ) → W.written sink.old ≡ base ++ tale_text plan.now.tasks tale.now → WritesReport (Rose (W.faults sink.old) (W.faults sink.new)) base (W.written sink.new) plan.now tale.now result }
+    ensures text { W.tells → (base : List ℕ) → W.written sink.old ≡ base ++ tale_text plan.now.tasks tale.now
+        → WritesReport (Rose (W.faults sink.old) (W.faults sink.new)) base (W.written sink.new) plan.now tale.now
+        result }
     ensures ends { EndsBy (Rose (W.faults sink.old) (W.faults sink.new)) status result }
-    ensures stays { W.tells → (front : List ℕ) → IsFront front (W.written sink.old) → IsFront front (W.written sink.new) }
+    ensures stays { W.tells → (front : List ℕ) → IsFront front (W.written sink.old)
+        → IsFront front (W.written sink.new) }
     ensures later { W.faults sink.old ≤ W.faults sink.new }
 {
     match line_of(alloc, plan, tale, &status) {
@@ -225,9 +231,13 @@ pub(crate) fn tell_unless<W: Sink>(
 ) -> Status
     requires ok { status ≡ ends.Ok → has_failure tale.now ≡ false }
     requires failed { status ≡ ends.TaskFailed → has_failure tale.now ≡ true }
-    ensures text { W.tells → (base : List ℕ) (before : ℕ) → Prints base (W.written sink.old) (tale_text plan.now.tasks tale.now) sink_failed → Counts before (W.faults sink.old) sink_failed → WritesReport (Rose before (W.faults sink.new)) base (W.written sink.new) plan.now tale.now result }
+    ensures text { W.tells → (base : List ℕ) (before : ℕ)
+        → Prints base (W.written sink.old) (tale_text plan.now.tasks tale.now) sink_failed
+        → Counts before (W.faults sink.old) sink_failed
+        → WritesReport (Rose before (W.faults sink.new)) base (W.written sink.new) plan.now tale.now result }
     ensures ends { EndsBy ((sink_failed ≡ true) ⊎ Rose (W.faults sink.old) (W.faults sink.new)) status result }
-    ensures stays { W.tells → (front : List ℕ) → IsFront front (W.written sink.old) → IsFront front (W.written sink.new) }
+    ensures stays { W.tells → (front : List ℕ) → IsFront front (W.written sink.old)
+        → IsFront front (W.written sink.new) }
     ensures later { W.faults sink.old ≤ W.faults sink.new }
 {
     if sink_failed {
@@ -238,9 +248,13 @@ pub(crate) fn tell_unless<W: Sink>(
 
 /// The same of a run that wanted memory at its end.
 pub(crate) fn want_unless<W: Sink>(sink: &mut W, sink_failed: bool) -> Status
-    ensures text { W.tells → (plan : ThePlan) (tale : List Entry) (base : List ℕ) (before : ℕ) → Prints base (W.written sink.old) (tale_text plan.tasks tale) sink_failed → Counts before (W.faults sink.old) sink_failed → WritesReport (Rose before (W.faults sink.new)) base (W.written sink.new) plan tale result }
+    ensures text { W.tells → (plan : ThePlan) (tale : List Entry) (base : List ℕ) (before : ℕ)
+        → Prints base (W.written sink.old) (tale_text plan.tasks tale) sink_failed
+        → Counts before (W.faults sink.old) sink_failed
+        → WritesReport (Rose before (W.faults sink.new)) base (W.written sink.new) plan tale result }
     ensures ends { (result ≡ ends.OutOfMemory) ⊎ ((result ≡ ends.WriteFault) × (sink_failed ≡ true)) }
-    ensures stays { W.tells → (front : List ℕ) → IsFront front (W.written sink.old) → IsFront front (W.written sink.new) }
+    ensures stays { W.tells → (front : List ℕ) → IsFront front (W.written sink.old)
+        → IsFront front (W.written sink.new) }
     ensures later { W.faults sink.old ≤ W.faults sink.new }
 {
     if sink_failed {

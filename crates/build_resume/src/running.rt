@@ -69,10 +69,16 @@ fn conclude<D: Disk, W: Sink>(alloc: Global, parts: RunParts<D, W>, halt: Halt) 
     ensures plan { result.plan ≡ parts.plan }
     ensures disk { result.disk ≡ parts.disk }
     ensures tale { result.tale.items ≡ parts.tale.items }
-    ensures status { EndsBy ((parts.sink_failed ≡ true) ⊎ Rose (W.faults parts.sink) (W.faults result.sink)) (status_by parts.fault halt (has_failure parts.tale.items)) result.status }
+    ensures status { EndsBy ((parts.sink_failed ≡ true) ⊎ Rose (W.faults parts.sink) (W.faults result.sink))
+        (status_by parts.fault halt (has_failure parts.tale.items)) result.status }
     ensures failed { result.status ≡ ends.TaskFailed → result.failed.items ≡ failed_in parts.tale.items }
-    ensures text { W.tells → (base : List ℕ) (before : ℕ) → Prints base (W.written parts.sink) (tale_text parts.plan.tasks parts.tale.items) parts.sink_failed → Counts before (W.faults parts.sink) parts.sink_failed → WritesReport (Rose before (W.faults result.sink)) base (W.written result.sink) parts.plan parts.tale.items result.status }
-    ensures stays { W.tells → (front : List ℕ) → IsFront front (W.written parts.sink) → IsFront front (W.written result.sink) }
+    ensures text { W.tells → (base : List ℕ) (before : ℕ)
+        → Prints base (W.written parts.sink) (tale_text parts.plan.tasks parts.tale.items) parts.sink_failed
+        → Counts before (W.faults parts.sink) parts.sink_failed
+        → WritesReport (Rose before (W.faults result.sink)) base (W.written result.sink) parts.plan parts.tale.items
+        result.status }
+    ensures stays { W.tells → (front : List ℕ) → IsFront front (W.written parts.sink)
+        → IsFront front (W.written result.sink) }
     ensures later { W.faults parts.sink ≤ W.faults result.sink }
 {
     let RunParts {
@@ -129,12 +135,25 @@ fn finish<D: Disk, B: Bench, W: Sink>(
     ensures went { WentOn state.tale result.tale.items (B.faults last.old) (B.faults last.new) }
     ensures ends { EndsAs state.plan state.options result.tale.items result.status }
     ensures failed { result.status ≡ ends.TaskFailed → result.failed.items ≡ failed_in result.tale.items }
-    ensures text { W.tells → (base : List ℕ) (before : ℕ) → Prints base (W.written state.sink) (tale_text state.plan.tasks state.tale) state.sink_failed → Counts before (W.faults state.sink) state.sink_failed → WritesReport (Rose before (W.faults result.sink)) base (W.written result.sink) state.plan result.tale.items result.status }
-    ensures cause { (before : ℕ) → Counts before (W.faults state.sink) state.sink_failed → MayEndSo (D.faults result.disk) (Rose (B.faults last.old) (B.faults last.new) ⊎ SomeBreak result.tale.items) (Rose before (W.faults result.sink)) result.status }
-    ensures run { D.tells → B.tells → (o : Opening) → o.gives ≡ B.gives last.old → IsRun o (seen D.story W.written state) → KeptTo o state.plan state.options result.tale.items result.status (D.story result.disk) × RanOn (B.gives last.old) state.plan state.tale result.tale.items (B.place last.old).runs (B.place last.new).runs }
-    ensures printed { W.tells → B.tells → (from : List Entry) (base : List ℕ) (before : Runs) → RanSaid state.plan None state.fault from state.tale before (B.place last.old).runs base (W.written state.sink) → SaidTo state.plan from result.tale.items before (B.place last.new).runs base (W.written result.sink) }
+    ensures text { W.tells → (base : List ℕ) (before : ℕ)
+        → Prints base (W.written state.sink) (tale_text state.plan.tasks state.tale) state.sink_failed
+        → Counts before (W.faults state.sink) state.sink_failed
+        → WritesReport (Rose before (W.faults result.sink)) base (W.written result.sink) state.plan result.tale.items
+        result.status }
+    ensures cause { (before : ℕ) → Counts before (W.faults state.sink) state.sink_failed
+        → MayEndSo (D.faults result.disk) (Rose (B.faults last.old) (B.faults last.new) ⊎ SomeBreak result.tale.items)
+        (Rose before (W.faults result.sink)) result.status }
+    ensures run { D.tells → B.tells → (o : Opening) → o.gives ≡ B.gives last.old
+        → IsRun o (seen D.story W.written state) → KeptTo o state.plan state.options result.tale.items result.status
+        (D.story result.disk) × RanOn (B.gives last.old) state.plan state.tale result.tale.items
+        (B.place last.old).runs (B.place last.new).runs }
+    ensures printed { W.tells → B.tells → (from : List Entry) (base : List ℕ) (before : Runs)
+        → RanSaid state.plan None state.fault from state.tale before (B.place last.old).runs base
+        (W.written state.sink) → SaidTo state.plan from result.tale.items before (B.place last.new).runs base
+        (W.written result.sink) }
     ensures lawful { D.tells → IsLawful (D.story result.disk) }
-    ensures steady { D.tells → B.tells → (o : Opening) → o.gives ≡ B.gives last.old → IsRun o (seen D.story W.written state) → IsSteady state.fault → is_unsteady result.status ≡ false }
+    ensures steady { D.tells → B.tells → (o : Opening) → o.gives ≡ B.gives last.old
+        → IsRun o (seen D.story W.written state) → IsSteady state.fault → is_unsteady result.status ≡ false }
 {
     let halt = drive(alloc, &mut state, last);
     state.kept();
@@ -163,13 +182,23 @@ where
     ensures plan { result.plan ≡ state.plan }
     ensures ends { EndsAs state.plan state.options result.tale.items result.status }
     ensures failed { result.status ≡ ends.TaskFailed → result.failed.items ≡ failed_in result.tale.items }
-    ensures text { W.tells → WritesReport (Rose (W.faults state.sink) (W.faults result.sink)) (W.written state.sink) (W.written result.sink) state.plan result.tale.items result.status }
-    ensures cause { MayEndSo (D.faults result.disk) (SomeRose (map B.faults benches.items) (map B.faults result.benches.items)) (Rose (W.faults state.sink) (W.faults result.sink)) result.status }
-    ensures broke { AtSeats (BreaksByFault result.tale.items) (map B.faults benches.items) (map B.faults result.benches.items) }
-    ensures run { D.tells → B.tells → (gives : Gives) → All (λ b. B.gives b ≡ gives) benches.items → (o : Opening) → o.gives ≡ gives → IsRun o (seen D.story W.written state) → KeptTo o state.plan state.options result.tale.items result.status (D.story result.disk) × AtSeats (RanStarted gives state.plan result.tale.items) (map (λ b. (B.place b).runs) benches.items) (map (λ b. (B.place b).runs) result.benches.items) }
-    ensures printed { W.tells → B.tells → RanPrinted state.plan result.tale.items (map (λ b. (B.place b).runs) benches.items) (map (λ b. (B.place b).runs) result.benches.items) (W.written state.sink) (W.written result.sink) }
+    ensures text { W.tells → WritesReport (Rose (W.faults state.sink) (W.faults result.sink)) (W.written state.sink)
+        (W.written result.sink) state.plan result.tale.items result.status }
+    ensures cause { MayEndSo (D.faults result.disk) (SomeRose (map B.faults benches.items)
+        (map B.faults result.benches.items)) (Rose (W.faults state.sink) (W.faults result.sink)) result.status }
+    ensures broke { AtSeats (BreaksByFault result.tale.items) (map B.faults benches.items)
+        (map B.faults result.benches.items) }
+    ensures run { D.tells → B.tells → (gives : Gives) → All (λ b. B.gives b ≡ gives) benches.items → (o : Opening)
+        → o.gives ≡ gives → IsRun o (seen D.story W.written state)
+        → KeptTo o state.plan state.options result.tale.items result.status (D.story result.disk)
+        × AtSeats (RanStarted gives state.plan result.tale.items) (map (λ b. (B.place b).runs) benches.items)
+        (map (λ b. (B.place b).runs) result.benches.items) }
+    ensures printed { W.tells → B.tells → RanPrinted state.plan result.tale.items
+        (map (λ b. (B.place b).runs) benches.items) (map (λ b. (B.place b).runs) result.benches.items)
+        (W.written state.sink) (W.written result.sink) }
     ensures lawful { D.tells → IsLawful (D.story result.disk) }
-    ensures steady { D.tells → B.tells → (gives : Gives) → All (λ b. B.gives b ≡ gives) benches.items → (o : Opening) → o.gives ≡ gives → IsRun o (seen D.story W.written state) → is_unsteady result.status ≡ false }
+    ensures steady { D.tells → B.tells → (gives : Gives) → All (λ b. B.gives b ≡ gives) benches.items → (o : Opening)
+        → o.gives ≡ gives → IsRun o (seen D.story W.written state) → is_unsteady result.status ≡ false }
 {
     let mut last = take_last(&mut benches);
     let (state, mut benches) = with_workers(rt, alloc, state, benches);
@@ -249,18 +278,22 @@ where
     // What a run leaves where its devices tell, and the benches give the same.
     ensures leaves { D.tells → B.tells → (gives : Gives) → All (λ b. B.gives b ≡ gives) benches.items
         → (reading : Reading) (book : Book) → IsEntry gives reading book (D.story disk).held plan
-        → Leaves gives reading book (D.story disk).held plan options result.tale.items result.status (D.story result.disk) (map (λ b. (B.place b).runs) benches.items) (map (λ b. (B.place b).runs) result.benches.items) }
+        → Leaves gives reading book (D.story disk).held plan options result.tale.items result.status
+        (D.story result.disk) (map (λ b. (B.place b).runs) benches.items)
+        (map (λ b. (B.place b).runs) result.benches.items) }
 
     // Where no device failed, memory wasn't wanting and no signatures collide, the answer is Ok just where every task of the plan has a clean
     // output.
     ensures exactly { D.tells → B.tells → (gives : Gives) → All (λ b. B.gives b ≡ gives) benches.items
         → (reading : Reading) (book : Book) → IsEntry gives reading book (D.story disk).held plan → AreWanted plan
-        → D.faults result.disk ≡ 0 → (SomeRose (map B.faults benches.items) (map B.faults result.benches.items) → ⊥) → (Rose (W.faults sink) (W.faults result.sink) → ⊥)
-        → result.status ≢ ends.OutOfMemory → is_collision result.status ≡ false
-        → ((result.status ≡ ends.Ok) ↔ AllClean gives plan) }
+        → D.faults result.disk ≡ 0 → (SomeRose (map B.faults benches.items) (map B.faults result.benches.items) → ⊥)
+        → (Rose (W.faults sink) (W.faults result.sink) → ⊥) → result.status ≢ ends.OutOfMemory
+        → is_collision result.status ≡ false → ((result.status ≡ ends.Ok) ↔ AllClean gives plan) }
 
     // Whatever the disk tells, each bench ran the scripts of just those tasks whose start had been printed.
-    ensures printed { W.tells → B.tells → RanPrinted plan result.tale.items (map (λ b. (B.place b).runs) benches.items) (map (λ b. (B.place b).runs) result.benches.items) (W.written sink) (W.written result.sink) }
+    ensures printed { W.tells → B.tells → RanPrinted plan result.tale.items
+        (map (λ b. (B.place b).runs) benches.items) (map (λ b. (B.place b).runs) result.benches.items)
+        (W.written sink) (W.written result.sink) }
 
     // Whatever the devices tell, Ok comes only where nothing is left to do and no task failed, and where a task failed it is told. Neither
     // comes where a bench that failed, or want of memory, broke a task off. The failed tasks are those of the tale.
@@ -268,11 +301,14 @@ where
     ensures failed { result.status ≡ ends.TaskFailed → result.failed.items ≡ failed_in result.tale.items }
 
     // What was written is the text of the tale and of the status, or a front of one where the sink failed.
-    ensures text { W.tells → WritesReport (Rose (W.faults sink) (W.faults result.sink)) (W.written sink) (W.written result.sink) plan result.tale.items result.status }
+    ensures text { W.tells → WritesReport (Rose (W.faults sink) (W.faults result.sink)) (W.written sink)
+        (W.written result.sink) plan result.tale.items result.status }
 
     // Each status has its cause, and so has each task that broke off since its bench failed.
-    ensures ends { MayEndSo (D.faults result.disk) (SomeRose (map B.faults benches.items) (map B.faults result.benches.items)) (Rose (W.faults sink) (W.faults result.sink)) result.status }
-    ensures broke { AtSeats (BreaksByFault result.tale.items) (map B.faults benches.items) (map B.faults result.benches.items) }
+    ensures ends { MayEndSo (D.faults result.disk) (SomeRose (map B.faults benches.items)
+        (map B.faults result.benches.items)) (Rose (W.faults sink) (W.faults result.sink)) result.status }
+    ensures broke { AtSeats (BreaksByFault result.tale.items) (map B.faults benches.items)
+        (map B.faults result.benches.items) }
 {
     match open_store(alloc, disk) {
         Ok(store) => match RunState::begin(alloc, plan, options, store, sink) {

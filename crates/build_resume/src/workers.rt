@@ -52,14 +52,26 @@ where
     ensures same { SameRun state result.0 }
     ensures none { NoneRuns (fates_of result.0) }
     ensures seats { HasSeats (length benches.items) result.0.tale }
-    ensures sink { (before : ℕ) → Counts before (W.faults state.sink) state.sink_failed → Counts before (W.faults result.0.sink) result.0.sink_failed }
-    ensures text { W.tells → (base : List ℕ) → Prints base (W.written state.sink) (tale_text state.plan.tasks state.tale) state.sink_failed → Prints base (W.written result.0.sink) (tale_text state.plan.tasks result.0.tale) result.0.sink_failed }
-    ensures stays { W.tells → (front : List ℕ) → IsFront front (W.written state.sink) → IsFront front (W.written result.0.sink) }
+    ensures sink { (before : ℕ) → Counts before (W.faults state.sink) state.sink_failed
+        → Counts before (W.faults result.0.sink) result.0.sink_failed }
+    ensures text { W.tells → (base : List ℕ) → Prints base (W.written state.sink)
+        (tale_text state.plan.tasks state.tale) state.sink_failed
+        → Prints base (W.written result.0.sink) (tale_text state.plan.tasks result.0.tale) result.0.sink_failed }
+    ensures stays { W.tells → (front : List ℕ) → IsFront front (W.written state.sink)
+        → IsFront front (W.written result.0.sink) }
     ensures room { vec_capacity result.1 ≡ vec_capacity benches }
-    ensures broke { AtWorkers (λ seat old new. BreaksByFault result.0.tale seat (B.faults old) (B.faults new)) benches.items result.1.items }
-    ensures printed { W.tells → B.tells → state.sink_failed ≡ false → state.fault ≡ None → SaidByWorkers (λ b. (B.place b).runs) state.plan result.0.fault result.0.tale benches.items result.1.items (W.written state.sink) (W.written result.0.sink) }
-    ensures run { D.tells → B.tells → (gives : Gives) → All (λ b. B.gives b ≡ gives) benches.items → (o : Opening) → o.gives ≡ gives → IsRun o (seen D.story W.written state) → IsRun o (seen D.story W.written result.0) × AtWorkers (λ seat old new. RanStarted gives state.plan result.0.tale seat (B.place old).runs (B.place new).runs) benches.items result.1.items }
-    ensures steady { D.tells → B.tells → (gives : Gives) → All (λ b. B.gives b ≡ gives) benches.items → (o : Opening) → o.gives ≡ gives → IsRun o (seen D.story W.written state) → IsSteady state.fault → IsSteady result.0.fault }
+    ensures broke { AtWorkers (λ seat old new. BreaksByFault result.0.tale seat (B.faults old) (B.faults new))
+        benches.items result.1.items }
+    ensures printed { W.tells → B.tells → state.sink_failed ≡ false → state.fault ≡ None
+        → SaidByWorkers (λ b. (B.place b).runs) state.plan result.0.fault result.0.tale benches.items result.1.items
+        (W.written state.sink) (W.written result.0.sink) }
+    ensures run { D.tells → B.tells → (gives : Gives) → All (λ b. B.gives b ≡ gives) benches.items → (o : Opening)
+        → o.gives ≡ gives → IsRun o (seen D.story W.written state)
+        → IsRun o (seen D.story W.written result.0) × AtWorkers
+        (λ seat old new. RanStarted gives state.plan result.0.tale seat (B.place old).runs (B.place new).runs)
+        benches.items result.1.items }
+    ensures steady { D.tells → B.tells → (gives : Gives) → All (λ b. B.gives b ≡ gives) benches.items → (o : Opening)
+        → o.gives ≡ gives → IsRun o (seen D.story W.written state) → IsSteady state.fault → IsSteady result.0.fault }
 {
     if benches.len() <= workers {
         if benches.is_empty() {
@@ -94,14 +106,26 @@ where
     ensures seats { started_by 0 result.0.tale ≡ [] }
     ensures wide { HasSeats (length benches.items) result.0.tale }
     ensures calm { BreaksBench 0 result.0.tale → ⊥ }
-    ensures sink { (before : ℕ) → Counts before (W.faults state.sink) state.sink_failed → Counts before (W.faults result.0.sink) result.0.sink_failed }
-    ensures text { W.tells → (base : List ℕ) → Prints base (W.written state.sink) (tale_text state.plan.tasks state.tale) state.sink_failed → Prints base (W.written result.0.sink) (tale_text state.plan.tasks result.0.tale) result.0.sink_failed }
-    ensures stays { W.tells → (front : List ℕ) → IsFront front (W.written state.sink) → IsFront front (W.written result.0.sink) }
+    ensures sink { (before : ℕ) → Counts before (W.faults state.sink) state.sink_failed
+        → Counts before (W.faults result.0.sink) result.0.sink_failed }
+    ensures text { W.tells → (base : List ℕ) → Prints base (W.written state.sink)
+        (tale_text state.plan.tasks state.tale) state.sink_failed
+        → Prints base (W.written result.0.sink) (tale_text state.plan.tasks result.0.tale) result.0.sink_failed }
+    ensures stays { W.tells → (front : List ℕ) → IsFront front (W.written state.sink)
+        → IsFront front (W.written result.0.sink) }
     ensures room { vec_capacity result.1 ≡ vec_capacity benches }
-    ensures broke { AtWorkers (λ seat old new. BreaksByFault result.0.tale seat (B.faults old) (B.faults new)) benches.items result.1.items }
-    ensures printed { W.tells → B.tells → state.sink_failed ≡ false → state.fault ≡ None → SaidByWorkers (λ b. (B.place b).runs) state.plan result.0.fault result.0.tale benches.items result.1.items (W.written state.sink) (W.written result.0.sink) }
-    ensures run { D.tells → B.tells → (gives : Gives) → All (λ b. B.gives b ≡ gives) benches.items → (o : Opening) → o.gives ≡ gives → IsRun o (seen D.story W.written state) → IsRun o (seen D.story W.written result.0) × AtWorkers (λ seat old new. RanStarted gives state.plan result.0.tale seat (B.place old).runs (B.place new).runs) benches.items result.1.items }
-    ensures steady { D.tells → B.tells → (gives : Gives) → All (λ b. B.gives b ≡ gives) benches.items → (o : Opening) → o.gives ≡ gives → IsRun o (seen D.story W.written state) → IsSteady state.fault → IsSteady result.0.fault }
+    ensures broke { AtWorkers (λ seat old new. BreaksByFault result.0.tale seat (B.faults old) (B.faults new))
+        benches.items result.1.items }
+    ensures printed { W.tells → B.tells → state.sink_failed ≡ false → state.fault ≡ None
+        → SaidByWorkers (λ b. (B.place b).runs) state.plan result.0.fault result.0.tale benches.items result.1.items
+        (W.written state.sink) (W.written result.0.sink) }
+    ensures run { D.tells → B.tells → (gives : Gives) → All (λ b. B.gives b ≡ gives) benches.items → (o : Opening)
+        → o.gives ≡ gives → IsRun o (seen D.story W.written state)
+        → IsRun o (seen D.story W.written result.0) × AtWorkers
+        (λ seat old new. RanStarted gives state.plan result.0.tale seat (B.place old).runs (B.place new).runs)
+        benches.items result.1.items }
+    ensures steady { D.tells → B.tells → (gives : Gives) → All (λ b. B.gives b ≡ gives) benches.items → (o : Opening)
+        → o.gives ≡ gives → IsRun o (seen D.story W.written state) → IsSteady state.fault → IsSteady result.0.fault }
 {
     let workers = (state.plan().threads as usize).min(60);
     with_at_most(rt, alloc, state, benches, workers)

@@ -84,7 +84,8 @@ fn known_unihash(
     sig: &[u8],
     manifest: &Manifest,
 ) -> Result<Hash, StoreFault>
-    ensures ok { IfOk result (λ unihash. (unihash ≡ row.now.unihash) × (row.now.sig ≡ sig.now) × (row.now.manifest ≡ manifest.now)) }
+    ensures ok { IfOk result (λ unihash. (unihash ≡ row.now.unihash) × (row.now.sig ≡ sig.now)
+        × (row.now.manifest ≡ manifest.now)) }
     ensures err { IfErr result (IsKnownFault task.now row.now sig.now manifest.now) }
     ensures inside { store_failed result ≡ false }
 {
@@ -158,7 +159,9 @@ fn new_record(
     requires name { own.name ≡ name_of sig.now }
     ensures file { IfOk result (λ made. made.file ≡ record_file (new_stored index.now sig.now manifest.now)) }
     ensures row { IfOk result (λ made. made.row ≡ row_of_stored (new_stored index.now sig.now manifest.now)) }
-    ensures spelled { IfOk result (λ made. IsInOrder (new_stored index.now sig.now manifest.now) → SpellsStored (record_bytes (new_stored index.now sig.now manifest.now)) (new_stored index.now sig.now manifest.now)) }
+    ensures spelled { IfOk result (λ made. IsInOrder (new_stored index.now sig.now manifest.now)
+        → SpellsStored (record_bytes (new_stored index.now sig.now manifest.now))
+        (new_stored index.now sig.now manifest.now)) }
 {
     let unihash = new_unihash(index, sig, &own.name, manifest);
     let manifest = manifest_again(alloc, manifest)?;
@@ -248,8 +251,10 @@ pub(crate) fn draft_of(
     requires spelled { IsSpelled sig.now }
     requires rows { AllByRecursion IsRow index.now }
     ensures bytes { IfOk result (λ draft. draft.bytes ≡ signature_bytes sig.now) }
-    ensures draft { IfOk result (λ draft. (tree : Entries) → manifest.now ≡ manifest_lines tree → IsDraft index.now (signed_by task.now sig.now) tree draft) }
-    ensures refused { IfErr result (λ fault. (tree : Entries) → manifest.now ≡ manifest_lines tree → IsRefusal index.now (signed_by task.now sig.now) tree fault) }
+    ensures draft { IfOk result (λ draft. (tree : Entries) → manifest.now ≡ manifest_lines tree
+        → IsDraft index.now (signed_by task.now sig.now) tree draft) }
+    ensures refused { IfErr result (λ fault. (tree : Entries) → manifest.now ≡ manifest_lines tree
+        → IsRefusal index.now (signed_by task.now sig.now) tree fault) }
     ensures inside { store_failed result ≡ false }
 {
     let own = name_of_sig(alloc, sig)?;

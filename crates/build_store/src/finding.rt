@@ -49,7 +49,8 @@ pub(crate) fn are_short(tree: &Tree) -> bool
 
 /// The tree, where no path is too long.
 fn short_enough(tree: Tree) -> Option<Tree>
-    ensures output { (folder : List ℕ) (held : Store) → IsReading folder output_limit held (Some tree) → IsOutput folder held result }
+    ensures output { (folder : List ℕ) (held : Store) → IsReading folder output_limit held (Some tree)
+        → IsOutput folder held result }
     ensures short { IfSome result AreShort }
 {
     if are_short(&tree) {
@@ -103,7 +104,9 @@ fn is_stamped<D: Disk>(
     folder: &str,
     name: &Hash,
 ) -> Result<bool, DiskFault>
-    ensures found { D.tells → IfOk result (λ is. MatchBool is (IsStampedFor folder.now name.now (D.story disk.old).held) (IsStampedFor folder.now name.now (D.story disk.old).held → ⊥)) }
+    ensures found { D.tells → IfOk result (λ is. MatchBool is
+        (IsStampedFor folder.now name.now (D.story disk.old).held)
+        (IsStampedFor folder.now name.now (D.story disk.old).held → ⊥)) }
     ensures others { D.tells → Passes (D.story disk.old) (D.story disk.new) Same }
     ensures cause { Counts (D.faults disk.old) (D.faults disk.new) (disk_failed result) }
 {
@@ -121,7 +124,9 @@ fn is_matching<D: Disk>(
     folder: &str,
     manifest: &Manifest,
 ) -> Result<bool, DiskFault>
-    ensures found { D.tells → IfOk result (λ is. MatchBool is (Matches (D.story disk.old).held folder.now manifest.now) (Matches (D.story disk.old).held folder.now manifest.now → ⊥)) }
+    ensures found { D.tells → IfOk result (λ is. MatchBool is
+        (Matches (D.story disk.old).held folder.now manifest.now)
+        (Matches (D.story disk.old).held folder.now manifest.now → ⊥)) }
     ensures others { D.tells → Passes (D.story disk.old) (D.story disk.new) Same }
     ensures cause { Counts (D.faults disk.old) (D.faults disk.new) (disk_failed result) }
 {
@@ -135,7 +140,9 @@ fn is_object<D: Disk>(
     unihash: &Hash,
     manifest: &Manifest,
 ) -> Result<bool, DiskFault>
-    ensures found { D.tells → IfOk result (λ is. MatchBool is (Matches (D.story disk.old).held (object_folder unihash.now) manifest.now) (Matches (D.story disk.old).held (object_folder unihash.now) manifest.now → ⊥)) }
+    ensures found { D.tells → IfOk result (λ is. MatchBool is
+        (Matches (D.story disk.old).held (object_folder unihash.now) manifest.now)
+        (Matches (D.story disk.old).held (object_folder unihash.now) manifest.now → ⊥)) }
     ensures others { D.tells → Passes (D.story disk.old) (D.story disk.new) Same }
     ensures cause { Counts (D.faults disk.old) (D.faults disk.new) (disk_failed result) }
 {
@@ -149,7 +156,8 @@ fn is_in_work<D: Disk>(
     task: &PlanTask,
     row: &EquivRow,
 ) -> Result<bool, DiskFault>
-    ensures found { D.tells → IfOk result (λ is. MatchBool is (IsWorkOf task.now row.now (D.story disk.old).held) (IsWorkOf task.now row.now (D.story disk.old).held → ⊥)) }
+    ensures found { D.tells → IfOk result (λ is. MatchBool is (IsWorkOf task.now row.now (D.story disk.old).held)
+        (IsWorkOf task.now row.now (D.story disk.old).held → ⊥)) }
     ensures others { D.tells → Passes (D.story disk.old) (D.story disk.new) Same }
     ensures cause { Counts (D.faults disk.old) (D.faults disk.new) (disk_failed result) }
 {
@@ -168,7 +176,8 @@ fn is_in_object<D: Disk>(
     counts: bool,
     row: &EquivRow,
 ) -> Result<bool, DiskFault>
-    ensures found { D.tells → IfOk result (λ is. MatchBool is (IsSharedOf counts row.now (D.story disk.old).held) (IsSharedOf counts row.now (D.story disk.old).held → ⊥)) }
+    ensures found { D.tells → IfOk result (λ is. MatchBool is (IsSharedOf counts row.now (D.story disk.old).held)
+        (IsSharedOf counts row.now (D.story disk.old).held → ⊥)) }
     ensures others { D.tells → Passes (D.story disk.old) (D.story disk.new) Same }
     ensures cause { Counts (D.faults disk.old) (D.faults disk.new) (disk_failed result) }
 {
@@ -235,7 +244,8 @@ pub(crate) fn available<D: Disk>(
     setscene: bool,
 ) -> Result<Avail, StoreFault>
     requires { AllByRecursion IsRow index.now }
-    ensures found { D.tells → IfOk result (IsAvailable (D.story disk.old).held index.now setscene (signed_by task.now sig.now)) }
+    ensures found { D.tells → IfOk result (IsAvailable (D.story disk.old).held index.now setscene
+        (signed_by task.now sig.now)) }
     ensures answered { IfOk result (IsAnswered index.now (signed_by task.now sig.now)) }
     ensures refused { IfErr result (IsClash index.now (name_of sig.now) (signature_bytes sig.now)) }
     ensures others { D.tells → Passes (D.story disk.old) (D.story disk.new) Same }

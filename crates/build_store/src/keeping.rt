@@ -31,7 +31,8 @@ pub(crate) fn keep(
     task: &PlanTask,
     sig: &[u8],
 ) -> Result<(), Mem>
-    ensures ok { OnOk result ((own : SigRecord) → sig.now ≡ signature_bytes own → kept.new.items ≡ kept_with (signed_by task.now own) kept.old.items) }
+    ensures ok { OnOk result ((own : SigRecord) → sig.now ≡ signature_bytes own
+        → kept.new.items ≡ kept_with (signed_by task.now own) kept.old.items) }
     ensures err { OnErr result (kept.new.items ≡ kept.old.items) }
 {
     if is_any_for(kept.as_slice(), task.id.pn.as_str(), task.id.task.as_str()) {

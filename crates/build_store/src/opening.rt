@@ -104,7 +104,8 @@ fn doom_unbelieved(
 
 /// What the records of a disk are: which are believed, and the paths of what goes.
 fn survey_records<D: Disk>(alloc: Global, disk: &mut D) -> Result<Survey, DiskFault>
-    ensures survey { D.tells → IfOk result (λ survey. IsRecordSurvey (D.story disk.old).held survey.candidates.items survey.places.items survey.doomed.items) }
+    ensures survey { D.tells → IfOk result (λ survey. IsRecordSurvey (D.story disk.old).held survey.candidates.items
+        survey.places.items survey.doomed.items) }
     ensures ascend { IfOk result (λ survey. Ascend survey.candidates.items) }
     ensures good { IfOk result (λ survey. AllByRecursion IsGood survey.candidates.items) }
     ensures believed { IfOk result (λ survey. AreBelieved survey.candidates.items survey.places.items) }
@@ -129,7 +130,8 @@ fn survey_others<D: Disk>(
     disk: &mut D,
     doomed: &mut Vec<Text>,
 ) -> Result<(), DiskFault>
-    ensures dooms { D.tells → OnOk result (Dooms (D.story disk.old).held IsOtherArea doomed.old.items doomed.new.items) }
+    ensures dooms { D.tells → OnOk result (Dooms (D.story disk.old).held IsOtherArea doomed.old.items
+        doomed.new.items) }
     ensures others { D.tells → Passes (D.story disk.old) (D.story disk.new) Same }
     ensures cause { Counts (D.faults disk.old) (D.faults disk.new) (disk_failed result) }
 {

@@ -32,7 +32,8 @@ fn lay_work<D: Disk>(
     requires short { AreShort tree.now }
     ensures held { D.tells → OnOk result (HoldsTree (work_at folder.now) tree.now (D.story disk.new).held) }
     ensures others { D.tells → Passes (D.story disk.old) (D.story disk.new) (AgreesApart (work_at folder.now)) }
-    ensures round { D.tells → Passes (D.story disk.old) (D.story disk.new) (AgreesRound (work_at folder.now) (D.story disk.old).held) }
+    ensures round { D.tells → Passes (D.story disk.old) (D.story disk.new)
+        (AgreesRound (work_at folder.now) (D.story disk.old).held) }
     ensures cause { Counts (D.faults disk.old) (D.faults disk.new) (disk_failed result) }
 {
     let work = work_at(alloc, folder)?;
@@ -51,9 +52,11 @@ fn lay_object<D: Disk>(
     requires name { (unihash : AHash) → object.now ≡ Some unihash → IsName unihash }
     requires short { AreShort tree.now }
     ensures held { D.tells → OnOk result (HoldsObject (D.story disk.new).held object.now tree.now) }
-    ensures unwritten { D.tells → HoldsObject (D.story disk.old).held object.now tree.now → Passes (D.story disk.old) (D.story disk.new) Same }
+    ensures unwritten { D.tells → HoldsObject (D.story disk.old).held object.now tree.now
+        → Passes (D.story disk.old) (D.story disk.new) Same }
     ensures others { D.tells → Passes (D.story disk.old) (D.story disk.new) (Shares object.now) }
-    ensures round { D.tells → Passes (D.story disk.old) (D.story disk.new) (SharesRound object.now (D.story disk.old).held) }
+    ensures round { D.tells → Passes (D.story disk.old) (D.story disk.new)
+        (SharesRound object.now (D.story disk.old).held) }
     ensures cause { Counts (D.faults disk.old) (D.faults disk.new) (disk_failed result) }
 {
     match object {
@@ -79,9 +82,11 @@ fn lay<D: Disk>(
     requires short { AreShort tree.now }
     ensures work { D.tells → OnOk result (HoldsTree (work_at folder.now) tree.now (D.story disk.new).held) }
     ensures shared { D.tells → OnOk result (HoldsObject (D.story disk.new).held object.now tree.now) }
-    ensures unwritten { D.tells → HoldsObject (D.story disk.old).held object.now tree.now → Passes (D.story disk.old) (D.story disk.new) SameObjects }
+    ensures unwritten { D.tells → HoldsObject (D.story disk.old).held object.now tree.now
+        → Passes (D.story disk.old) (D.story disk.new) SameObjects }
     ensures others { D.tells → Passes (D.story disk.old) (D.story disk.new) (Lays folder.now object.now) }
-    ensures round { D.tells → Passes (D.story disk.old) (D.story disk.new) (KeepsOthers folder.now object.now (D.story disk.old).held) }
+    ensures round { D.tells → Passes (D.story disk.old) (D.story disk.new)
+        (KeepsOthers folder.now object.now (D.story disk.old).held) }
     ensures cause { Counts (D.faults disk.old) (D.faults disk.new) (disk_failed result) }
 {
     lay_work(alloc, disk, folder, tree)?;
@@ -140,7 +145,8 @@ fn stage_all<D: Disk>(
     requires name { IsName name.now }
     requires laid_out { D.tells → IsLaidOut (D.story disk.old).held }
     ensures staged { D.tells → OnOk result (IsStagedFile name.now file.now (D.story disk.new).held) }
-    ensures stamp { D.tells → OnOk result ((D.story disk.new).held (staged_path folder.now) ≡ Some (stamp_file name.now)) }
+    ensures stamp { D.tells → OnOk result ((D.story disk.new).held (staged_path folder.now)
+        ≡ Some (stamp_file name.now)) }
     ensures synced { D.tells → OnOk result (EachNow (D.story disk.new) (λ image. image ≡ (D.story disk.new).held)) }
     ensures others { D.tells → Passes (D.story disk.old) (D.story disk.new) (Stages name.now file.now) }
     ensures cause { Counts (D.faults disk.old) (D.faults disk.new) (disk_failed result) }
@@ -156,9 +162,12 @@ fn rename_record<D: Disk>(alloc: Global, disk: &mut D, name: &Hash) -> Result<()
     requires name { IsName name.now }
     requires laid_out { D.tells → IsLaidOut (D.story disk.old).held }
     requires settled { D.tells → IsSettled (staged_record_path name.now) (D.story disk.old) }
-    ensures stored { D.tells → OnOk result ((D.story disk.new).held (record_path name.now) ≡ (D.story disk.old).held (staged_record_path name.now)) }
+    ensures stored { D.tells → OnOk result ((D.story disk.new).held (record_path name.now)
+        ≡ (D.story disk.old).held (staged_record_path name.now)) }
     ensures synced { D.tells → OnOk result (EachNow (D.story disk.new) (λ image. image ≡ (D.story disk.new).held)) }
-    ensures others { D.tells → Passes (D.story disk.old) (D.story disk.new) (Moves (staged_record_path name.now) (record_path name.now) ((D.story disk.old).held (staged_record_path name.now))) }
+    ensures others { D.tells → Passes (D.story disk.old) (D.story disk.new)
+        (Moves (staged_record_path name.now) (record_path name.now)
+        ((D.story disk.old).held (staged_record_path name.now))) }
     ensures cause { Counts (D.faults disk.old) (D.faults disk.new) (disk_failed result) }
 {
     let from = staged_record_path(alloc, name)?;
@@ -209,11 +218,16 @@ pub(crate) fn put<D: Disk>(
     requires object { (unihash : AHash) → object.now ≡ Some unihash → IsName unihash }
     requires short { AreShort tree.now }
     requires laid_out { D.tells → IsLaidOut (D.story disk.old).held }
-    ensures published { D.tells → OnOk result ((f : AnEntry) → IsFileOf name.now file.now (D.story disk.old).held f → EachNow (D.story disk.new) (IsPublished (put_of folder.now name.now tree.now object.now file.now f))) }
-    ensures unwritten { D.tells → HoldsObject (D.story disk.old).held object.now tree.now → Passes (D.story disk.old) (D.story disk.new) SameObjects }
-    ensures others { D.tells → (f : AnEntry) → IsFileOf name.now file.now (D.story disk.old).held f → Passes (D.story disk.old) (D.story disk.new) (Publishes (put_of folder.now name.now tree.now object.now file.now f)) }
+    ensures published { D.tells → OnOk result ((f : AnEntry) → IsFileOf name.now file.now (D.story disk.old).held f
+        → EachNow (D.story disk.new) (IsPublished (put_of folder.now name.now tree.now object.now file.now f))) }
+    ensures unwritten { D.tells → HoldsObject (D.story disk.old).held object.now tree.now
+        → Passes (D.story disk.old) (D.story disk.new) SameObjects }
+    ensures others { D.tells → (f : AnEntry) → IsFileOf name.now file.now (D.story disk.old).held f
+        → Passes (D.story disk.old) (D.story disk.new)
+        (Publishes (put_of folder.now name.now tree.now object.now file.now f)) }
     ensures laid_out { D.tells → IsLaidOut (D.story disk.new).held }
-    ensures round { D.tells → Passes (D.story disk.old) (D.story disk.new) (KeepsOthers folder.now object.now (D.story disk.old).held) }
+    ensures round { D.tells → Passes (D.story disk.old) (D.story disk.new)
+        (KeepsOthers folder.now object.now (D.story disk.old).held) }
     ensures cause { Counts (D.faults disk.old) (D.faults disk.new) (disk_failed result) }
 {
     invalidate(alloc, disk, folder)?;

@@ -48,12 +48,18 @@ pub(crate) fn put_task<D: Disk>(
     requires object { (unihash : AHash) → object.now ≡ Some unihash → IsName unihash }
     requires short { AreShort tree.now }
     requires laid_out { D.tells → IsLaidOut (D.story disk.old).held }
-    ensures published { D.tells → OnOk result ((f : AnEntry) → IsFileOf name.now file.now (D.story disk.old).held f → EachNow (D.story disk.new) (IsPublished (put_of (task_folder task.now) name.now tree.now object.now file.now f))) }
-    ensures unwritten { D.tells → HoldsObject (D.story disk.old).held object.now tree.now → Passes (D.story disk.old) (D.story disk.new) SameObjects }
-    ensures others { D.tells → (f : AnEntry) → IsFileOf name.now file.now (D.story disk.old).held f → Passes (D.story disk.old) (D.story disk.new) (Publishes (put_of (task_folder task.now) name.now tree.now object.now file.now f)) }
+    ensures published { D.tells → OnOk result ((f : AnEntry) → IsFileOf name.now file.now (D.story disk.old).held f
+        → EachNow (D.story disk.new) (IsPublished (put_of (task_folder task.now) name.now tree.now object.now file.now
+        f))) }
+    ensures unwritten { D.tells → HoldsObject (D.story disk.old).held object.now tree.now
+        → Passes (D.story disk.old) (D.story disk.new) SameObjects }
+    ensures others { D.tells → (f : AnEntry) → IsFileOf name.now file.now (D.story disk.old).held f
+        → Passes (D.story disk.old) (D.story disk.new)
+        (Publishes (put_of (task_folder task.now) name.now tree.now object.now file.now f)) }
     ensures laid_out { D.tells → IsLaidOut (D.story disk.new).held }
     ensures refused { IfErr result IsOutside }
-    ensures round { D.tells → Passes (D.story disk.old) (D.story disk.new) (KeepsOthers (task_folder task.now) object.now (D.story disk.old).held) }
+    ensures round { D.tells → Passes (D.story disk.old) (D.story disk.new)
+        (KeepsOthers (task_folder task.now) object.now (D.story disk.old).held) }
     ensures cause { Counts (D.faults disk.old) (D.faults disk.new) (store_failed result) }
 {
     let folder = task_folder(alloc, task)?;
@@ -129,16 +135,22 @@ fn put_draft<D: Disk>(
     requires rows { AllByRecursion IsRow index.old }
     requires keeps { D.tells → IsKept index.old (D.story disk.old) }
     ensures unihash { IfOk result (λ unihash. unihash ≡ unihash_for index.old (signed_by task.now sig.now) tree.now) }
-    ensures published { D.tells → OnOk result (EachNow (D.story disk.new) (IsPublished (publication index.old (signed_by task.now sig.now) tree.now))) }
+    ensures published { D.tells → OnOk result (EachNow (D.story disk.new)
+        (IsPublished (publication index.old (signed_by task.now sig.now) tree.now))) }
     ensures rows { OnOk result (index.new ≡ rows_with index.old (signed_by task.now sig.now) tree.now) }
     ensures refused { IfErr result IsOutside }
     ensures refused_rows { OnErr result (index.new ≡ index.old) }
-    ensures images { D.tells → Passes (D.story disk.old) (D.story disk.new) (Publishes (publication index.old (signed_by task.now sig.now) tree.now)) }
-    ensures unwritten { D.tells → HoldsObject (D.story disk.old).held (object_for index.old (signed_by task.now sig.now) tree.now) tree.now → Passes (D.story disk.old) (D.story disk.new) SameObjects }
+    ensures images { D.tells → Passes (D.story disk.old) (D.story disk.new)
+        (Publishes (publication index.old (signed_by task.now sig.now) tree.now)) }
+    ensures unwritten { D.tells → HoldsObject (D.story disk.old).held
+        (object_for index.old (signed_by task.now sig.now) tree.now) tree.now
+        → Passes (D.story disk.old) (D.story disk.new) SameObjects }
     ensures readable { IsReadable (line_for index.old (signed_by task.now sig.now) tree.now) }
     ensures sound { AllByRecursion IsRow index.new }
     ensures keeps { D.tells → IsKept index.new (D.story disk.new) }
-    ensures round { D.tells → Passes (D.story disk.old) (D.story disk.new) (KeepsOthers (task_folder task.now) (object_for index.old (signed_by task.now sig.now) tree.now) (D.story disk.old).held) }
+    ensures round { D.tells → Passes (D.story disk.old) (D.story disk.new)
+        (KeepsOthers (task_folder task.now) (object_for index.old (signed_by task.now sig.now) tree.now)
+        (D.story disk.old).held) }
     ensures cause { Counts (D.faults disk.old) (D.faults disk.new) (store_failed result) }
 {
     let _entries = tree.entries();
@@ -174,20 +186,29 @@ pub(crate) fn publish<D: Disk>(
     requires rows { AllByRecursion IsRow index.old }
     requires keeps { D.tells → IsKept index.old (D.story disk.old) }
     ensures unihash { IfOk result (λ unihash. unihash ≡ unihash_for index.old (signed_by task.now sig.now) tree.now) }
-    ensures published { D.tells → OnOk result (EachNow (D.story disk.new) (IsPublished (publication index.old (signed_by task.now sig.now) tree.now))) }
+    ensures published { D.tells → OnOk result (EachNow (D.story disk.new)
+        (IsPublished (publication index.old (signed_by task.now sig.now) tree.now))) }
     ensures agrees { OnOk result (IsAgreed index.old (signed_by task.now sig.now) tree.now) }
     ensures rows { OnOk result (index.new ≡ rows_with index.old (signed_by task.now sig.now) tree.now) }
     ensures kept { OnOk result (kept.new.items ≡ kept_without (signed_by task.now sig.now) kept.old.items) }
     ensures refused { IfErr result (IsRefusal index.old (signed_by task.now sig.now) tree.now) }
     ensures refused_rows { OnErr result (index.new ≡ index.old) }
-    ensures unchanged { IfErr result (λ fault. OnDifference fault ((disk.new ≡ disk.old) × (kept.new.items ≡ kept.old.items))) }
-    ensures wanting { IfErr result (λ fault. OnMemory fault (((disk.new ≡ disk.old) × (kept.new.items ≡ kept.old.items)) ⊎ (kept.new.items ≡ kept_with (signed_by task.now sig.now) kept.old.items))) }
-    ensures images { D.tells → Passes (D.story disk.old) (D.story disk.new) (Publishes (publication index.old (signed_by task.now sig.now) tree.now)) }
-    ensures unwritten { D.tells → HoldsObject (D.story disk.old).held (object_for index.old (signed_by task.now sig.now) tree.now) tree.now → Passes (D.story disk.old) (D.story disk.new) SameObjects }
+    ensures unchanged { IfErr result (λ fault. OnDifference fault
+        ((disk.new ≡ disk.old) × (kept.new.items ≡ kept.old.items))) }
+    ensures wanting { IfErr result (λ fault. OnMemory fault
+        (((disk.new ≡ disk.old) × (kept.new.items ≡ kept.old.items))
+        ⊎ (kept.new.items ≡ kept_with (signed_by task.now sig.now) kept.old.items))) }
+    ensures images { D.tells → Passes (D.story disk.old) (D.story disk.new)
+        (Publishes (publication index.old (signed_by task.now sig.now) tree.now)) }
+    ensures unwritten { D.tells → HoldsObject (D.story disk.old).held
+        (object_for index.old (signed_by task.now sig.now) tree.now) tree.now
+        → Passes (D.story disk.old) (D.story disk.new) SameObjects }
     ensures readable { IsReadable (line_for index.old (signed_by task.now sig.now) tree.now) ⊎ (disk.new ≡ disk.old) }
     ensures sound { AllByRecursion IsRow index.new }
     ensures keeps { D.tells → IsKept index.new (D.story disk.new) }
-    ensures round { D.tells → Passes (D.story disk.old) (D.story disk.new) (KeepsOthers (task_folder task.now) (object_for index.old (signed_by task.now sig.now) tree.now) (D.story disk.old).held) }
+    ensures round { D.tells → Passes (D.story disk.old) (D.story disk.new)
+        (KeepsOthers (task_folder task.now) (object_for index.old (signed_by task.now sig.now) tree.now)
+        (D.story disk.old).held) }
     ensures cause { Counts (D.faults disk.old) (D.faults disk.new) (store_failed result) }
 {
     let draft = draft_of(alloc, index, task, sig, manifest)?;

@@ -58,8 +58,10 @@ fn is_path_of(alloc: Global, path: &str, name: &Hash) -> Result<bool, Mem>
 
 /// The candidate that a record is, which was read at a path.
 fn judged(alloc: Global, path: &str, stored: StoredSig) -> Result<Option<Candidate>, Mem>
-    ensures some { IfOk result (λ found. IfSome found (λ c. (c.stored ≡ stored) × (c.name ≡ name_of stored.sig) × HasShortPaths stored.manifest × (path.now ≡ record_path c.name))) }
-    ensures none { IfOk result (λ found. IfNone found (HasShortPaths stored.manifest → path.now ≡ record_path (name_of stored.sig) → ⊥)) }
+    ensures some { IfOk result (λ found. IfSome found (λ c. (c.stored ≡ stored) × (c.name ≡ name_of stored.sig)
+        × HasShortPaths stored.manifest × (path.now ≡ record_path c.name))) }
+    ensures none { IfOk result (λ found. IfNone found (HasShortPaths stored.manifest
+        → path.now ≡ record_path (name_of stored.sig) → ⊥)) }
 {
     let own = name_of_sig(alloc, &stored.sig)?;
     if is_path_of(alloc, path, &own.name)? && are_short(stored.manifest.lines()) {
@@ -71,8 +73,10 @@ fn judged(alloc: Global, path: &str, stored: StoredSig) -> Result<Option<Candida
 
 /// The candidate that some bytes are, which were read at a path.
 fn candidate_in(alloc: Global, path: &str, bytes: &[u8]) -> Result<Option<Candidate>, Mem>
-    ensures some { IfOk result (λ found. IfSome found (λ c. IsGood c × (path.now ≡ record_path c.name) × (bytes.now ≡ record_bytes c.stored))) }
-    ensures none { IfOk result (λ found. IfNone found ((c : ACandidate) → IsGood c → path.now ≡ record_path c.name → bytes.now ≡ record_bytes c.stored → ⊥)) }
+    ensures some { IfOk result (λ found. IfSome found (λ c. IsGood c × (path.now ≡ record_path c.name)
+        × (bytes.now ≡ record_bytes c.stored))) }
+    ensures none { IfOk result (λ found. IfNone found ((c : ACandidate) → IsGood c → path.now ≡ record_path c.name
+        → bytes.now ≡ record_bytes c.stored → ⊥)) }
 {
     match decode_stored(alloc, bytes) {
         Ok(stored) => judged(alloc, path, stored),
@@ -83,8 +87,10 @@ fn candidate_in(alloc: Global, path: &str, bytes: &[u8]) -> Result<Option<Candid
 
 /// The candidate that an entry is, which was read at a path.
 fn candidate_of(alloc: Global, path: &str, entry: &Entry) -> Result<Option<Candidate>, Mem>
-    ensures some { IfOk result (λ found. IfSome found (λ c. IsGood c × (path.now ≡ record_path c.name) × (entry.now ≡ record_file c.stored))) }
-    ensures none { IfOk result (λ found. IfNone found ((c : ACandidate) → IsGood c → path.now ≡ record_path c.name → entry.now ≡ record_file c.stored → ⊥)) }
+    ensures some { IfOk result (λ found. IfSome found (λ c. IsGood c × (path.now ≡ record_path c.name)
+        × (entry.now ≡ record_file c.stored))) }
+    ensures none { IfOk result (λ found. IfNone found ((c : ACandidate) → IsGood c → path.now ≡ record_path c.name
+        → entry.now ≡ record_file c.stored → ⊥)) }
 {
     match entry {
         Entry::File { exec: false, bytes } => candidate_in(alloc, path, bytes.as_slice()),
@@ -153,7 +159,8 @@ fn found_among<D: Disk>(alloc: Global, disk: &mut D, paths: &[Text]) -> Result<F
 
 /// What stands under `rec/`.
 pub(crate) fn found_records<D: Disk>(alloc: Global, disk: &mut D) -> Result<Found, DiskFault>
-    ensures found { D.tells → IfOk result (λ found. IsFoundIn (D.story disk.old).held found.candidates.items found.rejected.items) }
+    ensures found { D.tells → IfOk result (λ found. IsFoundIn (D.story disk.old).held found.candidates.items
+        found.rejected.items) }
     ensures good { IfOk result (λ found. AllByRecursion IsGood found.candidates.items) }
     ensures others { D.tells → Passes (D.story disk.old) (D.story disk.new) Same }
     ensures cause { Counts (D.faults disk.old) (D.faults disk.new) (disk_failed result) }

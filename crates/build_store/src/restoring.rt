@@ -49,7 +49,8 @@ fn object_of<D: Disk>(
     row: &EquivRow,
 ) -> Result<Option<Tree>, DiskFault>
     requires { HasShortPaths row.now.manifest }
-    ensures found { D.tells → IfOk result (IsMatching (object_folder row.now.unihash) row.now.manifest (D.story disk.old).held) }
+    ensures found { D.tells → IfOk result (IsMatching (object_folder row.now.unihash) row.now.manifest
+        (D.story disk.old).held) }
     ensures short { IfOk result (λ found. IfSome found AreShort) }
     ensures others { D.tells → Passes (D.story disk.old) (D.story disk.new) Same }
     ensures cause { Counts (D.faults disk.old) (D.faults disk.new) (disk_failed result) }
@@ -71,12 +72,16 @@ fn restore_by<D: Disk>(
     requires place { HasPlace task.now }
     requires row { IsRow row.now }
     requires laid_out { D.tells → IsLaidOut (D.story disk.old).held }
-    ensures restored { D.tells → IfOk result (λ found. MatchBool found (IsPutBack task.now row.now (D.story disk.old) (D.story disk.new)) (Matches (D.story disk.old).held (object_folder row.now.unihash) row.now.manifest → ⊥)) }
-    ensures unchanged { D.tells → IfOk result (λ found. OnFalse found (Passes (D.story disk.old) (D.story disk.new) Same)) }
+    ensures restored { D.tells → IfOk result (λ found. MatchBool found
+        (IsPutBack task.now row.now (D.story disk.old) (D.story disk.new))
+        (Matches (D.story disk.old).held (object_folder row.now.unihash) row.now.manifest → ⊥)) }
+    ensures unchanged { D.tells → IfOk result (λ found. OnFalse found
+        (Passes (D.story disk.old) (D.story disk.new) Same)) }
     ensures images { D.tells → PutsBack task.now row.now (D.story disk.old) (D.story disk.new) }
     ensures laid_out { D.tells → IsLaidOut (D.story disk.new).held }
     ensures refused { IfErr result IsOutside }
-    ensures round { D.tells → Passes (D.story disk.old) (D.story disk.new) (KeepsOthers (task_folder task.now) None (D.story disk.old).held) }
+    ensures round { D.tells → Passes (D.story disk.old) (D.story disk.new)
+        (KeepsOthers (task_folder task.now) None (D.story disk.old).held) }
     ensures cause { Counts (D.faults disk.old) (D.faults disk.new) (store_failed result) }
 {
     match object_of(alloc, disk, row) {
@@ -102,14 +107,18 @@ fn restore_at<D: Disk>(
     requires place { HasPlace task.now }
     requires row { IsRow row.now }
     requires laid_out { D.tells → IsLaidOut (D.story disk.old).held }
-    ensures restored { D.tells → IfOk result (λ found. MatchBool found (IsPutBack task.now row.now (D.story disk.old) (D.story disk.new)) (Matches (D.story disk.old).held (object_folder row.now.unihash) row.now.manifest → ⊥)) }
-    ensures unchanged { D.tells → IfOk result (λ found. OnFalse found (Passes (D.story disk.old) (D.story disk.new) Same)) }
+    ensures restored { D.tells → IfOk result (λ found. MatchBool found
+        (IsPutBack task.now row.now (D.story disk.old) (D.story disk.new))
+        (Matches (D.story disk.old).held (object_folder row.now.unihash) row.now.manifest → ⊥)) }
+    ensures unchanged { D.tells → IfOk result (λ found. OnFalse found
+        (Passes (D.story disk.old) (D.story disk.new) Same)) }
     ensures clear { OnOk result (row.now.sig ≡ sig.now) }
     ensures images { D.tells → PutsBack task.now row.now (D.story disk.old) (D.story disk.new) }
     ensures other { D.tells → (row.now.sig ≡ sig.now → ⊥) → Passes (D.story disk.old) (D.story disk.new) Same }
     ensures laid_out { D.tells → IsLaidOut (D.story disk.new).held }
     ensures refused { IfErr result (IsOtherOrOutside row.now sig.now) }
-    ensures round { D.tells → Passes (D.story disk.old) (D.story disk.new) (KeepsOthers (task_folder task.now) None (D.story disk.old).held) }
+    ensures round { D.tells → Passes (D.story disk.old) (D.story disk.new)
+        (KeepsOthers (task_folder task.now) None (D.story disk.old).held) }
     ensures cause { Counts (D.faults disk.old) (D.faults disk.new) (store_failed result) }
 {
     compare_row(alloc, row, sig)?;
@@ -129,13 +138,18 @@ pub(crate) fn restore<D: Disk>(
     requires spelled { IsSpelled sig.now }
     requires rows { AllByRecursion IsRow index.now }
     requires keeps { D.tells → IsKept index.now (D.story disk.old) }
-    ensures restored { D.tells → IfOk result (λ found. MatchBool found (EachNow (D.story disk.new) (IsRestored (D.story disk.old).held index.now (signed_by task.now sig.now))) (HasNoObject (D.story disk.old).held index.now (signed_by task.now sig.now))) }
-    ensures unchanged { D.tells → IfOk result (λ found. OnFalse found (Passes (D.story disk.old) (D.story disk.new) Same)) }
+    ensures restored { D.tells → IfOk result (λ found. MatchBool found
+        (EachNow (D.story disk.new) (IsRestored (D.story disk.old).held index.now (signed_by task.now sig.now)))
+        (HasNoObject (D.story disk.old).held index.now (signed_by task.now sig.now))) }
+    ensures unchanged { D.tells → IfOk result (λ found. OnFalse found
+        (Passes (D.story disk.old) (D.story disk.new) Same)) }
     ensures clear { OnOk result (IsClear index.now (name_of sig.now) (signature_bytes sig.now)) }
     ensures refused { IfErr result (IsClash index.now (name_of sig.now) (signature_bytes sig.now)) }
-    ensures images { D.tells → Passes (D.story disk.old) (D.story disk.new) (Restores (D.story disk.old).held index.now (signed_by task.now sig.now)) }
+    ensures images { D.tells → Passes (D.story disk.old) (D.story disk.new)
+        (Restores (D.story disk.old).held index.now (signed_by task.now sig.now)) }
     ensures keeps { D.tells → IsKept index.now (D.story disk.new) }
-    ensures round { D.tells → Passes (D.story disk.old) (D.story disk.new) (KeepsOthers (task_folder task.now) None (D.story disk.old).held) }
+    ensures round { D.tells → Passes (D.story disk.old) (D.story disk.new)
+        (KeepsOthers (task_folder task.now) None (D.story disk.old).held) }
     ensures cause { Counts (D.faults disk.old) (D.faults disk.new) (store_failed result) }
 {
     let own = name_of_sig(alloc, sig)?;

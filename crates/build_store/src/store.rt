@@ -65,8 +65,10 @@ impl<D: Disk> Model for Store<D> {
 pub fn open_store<D: Disk>(alloc: Global, disk: D) -> Result<Store<D>, OpenRefused<D>>
     requires reach { 3600 ≤ D.reach }
     requires fresh { D.tells → IsFresh (D.story disk) }
-    ensures opened { D.tells → IfOk result (λ store. IsOpened (D.story disk).held (D.story store.disk).held store.rows) }
-    ensures durable { D.tells → IfOk result (λ store. EachNow (D.story store.disk) (λ image. image ≡ (D.story store.disk).held)) }
+    ensures opened { D.tells → IfOk result (λ store. IsOpened (D.story disk).held (D.story store.disk).held
+        store.rows) }
+    ensures durable { D.tells → IfOk result (λ store. EachNow (D.story store.disk)
+        (λ image. image ≡ (D.story store.disk).held)) }
     ensures kept { IfOk result (λ store. store.kept ≡ []) }
     ensures fault { IfErr result (λ refused. IsOutside refused.fault) }
 
@@ -115,7 +117,8 @@ impl<D: Disk> Store<D> {
         sig: &SigRecord,
         setscene: bool,
     ) -> Result<Avail, StoreFault>
-        ensures found { D.tells → IfOk result (IsAvailable (D.story self.old.disk).held self.old.rows setscene (signed_by task.now sig.now)) }
+        ensures found { D.tells → IfOk result (IsAvailable (D.story self.old.disk).held self.old.rows setscene
+            (signed_by task.now sig.now)) }
         ensures answered { IfOk result (IsAnswered self.old.rows (signed_by task.now sig.now)) }
         ensures refused { IfErr result (IsClash self.old.rows (name_of sig.now) (signature_bytes sig.now)) }
 
@@ -160,15 +163,21 @@ impl<D: Disk> Store<D> {
         requires reach { 3600 ≤ D.reach }
         requires place { HasPlace task.now }
         requires sig { IsSpelled sig.now }
-        ensures restored { D.tells → IfOk result (λ found. MatchBool found (EachNow (D.story self.new.disk) (IsRestored (D.story self.old.disk).held self.old.rows (signed_by task.now sig.now))) (HasNoObject (D.story self.old.disk).held self.old.rows (signed_by task.now sig.now))) }
-        ensures unchanged { D.tells → IfOk result (λ found. OnFalse found (Passes (D.story self.old.disk) (D.story self.new.disk) Same)) }
+        ensures restored { D.tells → IfOk result (λ found. MatchBool found
+            (EachNow (D.story self.new.disk) (IsRestored (D.story self.old.disk).held self.old.rows
+            (signed_by task.now sig.now))) (HasNoObject (D.story self.old.disk).held self.old.rows
+            (signed_by task.now sig.now))) }
+        ensures unchanged { D.tells → IfOk result (λ found. OnFalse found
+            (Passes (D.story self.old.disk) (D.story self.new.disk) Same)) }
         ensures clear { OnOk result (IsClear self.old.rows (name_of sig.now) (signature_bytes sig.now)) }
         ensures refused { IfErr result (IsClash self.old.rows (name_of sig.now) (signature_bytes sig.now)) }
 
         // Whatever it answers.
         ensures same { SameBooks self.old self.new }
-        ensures images { D.tells → Passes (D.story self.old.disk) (D.story self.new.disk) (Restores (D.story self.old.disk).held self.old.rows (signed_by task.now sig.now)) }
-        ensures others { D.tells → Passes (D.story self.old.disk) (D.story self.new.disk) (KeepsOthers (task_folder task.now) None (D.story self.old.disk).held) }
+        ensures images { D.tells → Passes (D.story self.old.disk) (D.story self.new.disk)
+            (Restores (D.story self.old.disk).held self.old.rows (signed_by task.now sig.now)) }
+        ensures others { D.tells → Passes (D.story self.old.disk) (D.story self.new.disk)
+            (KeepsOthers (task_folder task.now) None (D.story self.old.disk).held) }
         ensures cause { Counts (D.faults self.old.disk) (D.faults self.new.disk) (store_failed result) }
     {
         restore(alloc, &mut self.disk, &self.index, task, sig)
@@ -195,21 +204,30 @@ impl<D: Disk> Store<D> {
         requires named { IsSignatureOf task.now sig.now }
         requires short { AreShort tree.now }
         requires listed { manifest.now ≡ manifest_lines tree.now }
-        ensures unihash { IfOk result (λ unihash. unihash ≡ unihash_for self.old.rows (signed_by task.now sig.now) tree.now) }
-        ensures published { D.tells → OnOk result (EachNow (D.story self.new.disk) (IsPublished (publication self.old.rows (signed_by task.now sig.now) tree.now))) }
+        ensures unihash { IfOk result (λ unihash. unihash
+            ≡ unihash_for self.old.rows (signed_by task.now sig.now) tree.now) }
+        ensures published { D.tells → OnOk result (EachNow (D.story self.new.disk)
+            (IsPublished (publication self.old.rows (signed_by task.now sig.now) tree.now))) }
         ensures agrees { OnOk result (IsAgreed self.old.rows (signed_by task.now sig.now) tree.now) }
         ensures rows { OnOk result (self.new.rows ≡ rows_with self.old.rows (signed_by task.now sig.now) tree.now) }
         ensures kept { OnOk result (self.new.kept ≡ kept_without (signed_by task.now sig.now) self.old.kept) }
         ensures refused { IfErr result (IsRefusal self.old.rows (signed_by task.now sig.now) tree.now) }
         ensures refused_rows { OnErr result (self.new.rows ≡ self.old.rows) }
         ensures unchanged { IfErr result (λ fault. OnDifference fault (self.new ≡ self.old)) }
-        ensures wanting { IfErr result (λ fault. OnMemory fault (IsWanting self.old self.new (signed_by task.now sig.now))) }
+        ensures wanting { IfErr result (λ fault. OnMemory fault
+            (IsWanting self.old self.new (signed_by task.now sig.now))) }
 
         // Whatever it answers.
-        ensures images { D.tells → Passes (D.story self.old.disk) (D.story self.new.disk) (Publishes (publication self.old.rows (signed_by task.now sig.now) tree.now)) }
-        ensures unwritten { D.tells → HoldsObject (D.story self.old.disk).held (object_for self.old.rows (signed_by task.now sig.now) tree.now) tree.now → Passes (D.story self.old.disk) (D.story self.new.disk) SameObjects }
-        ensures readable { IsReadable (line_for self.old.rows (signed_by task.now sig.now) tree.now) ⊎ (self.new.disk ≡ self.old.disk) }
-        ensures others { D.tells → Passes (D.story self.old.disk) (D.story self.new.disk) (KeepsOthers (task_folder task.now) (object_for self.old.rows (signed_by task.now sig.now) tree.now) (D.story self.old.disk).held) }
+        ensures images { D.tells → Passes (D.story self.old.disk) (D.story self.new.disk)
+            (Publishes (publication self.old.rows (signed_by task.now sig.now) tree.now)) }
+        ensures unwritten { D.tells → HoldsObject (D.story self.old.disk).held
+            (object_for self.old.rows (signed_by task.now sig.now) tree.now) tree.now
+            → Passes (D.story self.old.disk) (D.story self.new.disk) SameObjects }
+        ensures readable { IsReadable (line_for self.old.rows (signed_by task.now sig.now) tree.now)
+            ⊎ (self.new.disk ≡ self.old.disk) }
+        ensures others { D.tells → Passes (D.story self.old.disk) (D.story self.new.disk)
+            (KeepsOthers (task_folder task.now) (object_for self.old.rows (signed_by task.now sig.now) tree.now)
+            (D.story self.old.disk).held) }
         ensures cause { Counts (D.faults self.old.disk) (D.faults self.new.disk) (store_failed result) }
     {
         publish(

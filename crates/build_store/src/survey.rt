@@ -32,7 +32,8 @@ fn visit_stamp<D: Disk>(
     path: &str,
     doomed: &mut Vec<Text>,
 ) -> Result<(), DiskFault>
-    ensures visits { D.tells → OnOk result (VisitsStamp (D.story disk.old).held path.now doomed.old.items doomed.new.items) }
+    ensures visits { D.tells → OnOk result (VisitsStamp (D.story disk.old).held path.now doomed.old.items
+        doomed.new.items) }
     ensures others { D.tells → Passes (D.story disk.old) (D.story disk.new) Same }
     ensures cause { Counts (D.faults disk.old) (D.faults disk.new) (disk_failed result) }
 {
@@ -49,8 +50,10 @@ fn doom_stamps<D: Disk>(
     paths: &[Text],
     doomed: &mut Vec<Text>,
 ) -> Result<(), DiskFault>
-    requires { D.tells → (q : List ℕ) → Contains paths.now q → BeginsWith (codes "stamp/") q × IsSome ((D.story disk.old).held q) }
-    ensures dooms { D.tells → OnOk result (Dooms (D.story disk.old).held (IsOneOf paths.now) doomed.old.items doomed.new.items) }
+    requires { D.tells → (q : List ℕ) → Contains paths.now q
+        → BeginsWith (codes "stamp/") q × IsSome ((D.story disk.old).held q) }
+    ensures dooms { D.tells → OnOk result (Dooms (D.story disk.old).held (IsOneOf paths.now) doomed.old.items
+        doomed.new.items) }
     ensures others { D.tells → Passes (D.story disk.old) (D.story disk.new) Same }
     ensures cause { Counts (D.faults disk.old) (D.faults disk.new) (disk_failed result) }
 {
@@ -66,7 +69,8 @@ pub(crate) fn survey_stamps<D: Disk>(
     disk: &mut D,
     doomed: &mut Vec<Text>,
 ) -> Result<(), DiskFault>
-    ensures dooms { D.tells → OnOk result (Dooms (D.story disk.old).held (BeginsWith (codes "stamp/")) doomed.old.items doomed.new.items) }
+    ensures dooms { D.tells → OnOk result (Dooms (D.story disk.old).held (BeginsWith (codes "stamp/"))
+        doomed.old.items doomed.new.items) }
     ensures others { D.tells → Passes (D.story disk.old) (D.story disk.new) Same }
     ensures cause { Counts (D.faults disk.old) (D.faults disk.new) (disk_failed result) }
 {
@@ -90,7 +94,8 @@ pub(crate) fn survey_temporary<D: Disk>(
     disk: &mut D,
     doomed: &mut Vec<Text>,
 ) -> Result<(), DiskFault>
-    ensures dooms { D.tells → OnOk result (Dooms (D.story disk.old).held (BeginsWith (codes "tmp/")) doomed.old.items doomed.new.items) }
+    ensures dooms { D.tells → OnOk result (Dooms (D.story disk.old).held (BeginsWith (codes "tmp/")) doomed.old.items
+        doomed.new.items) }
     ensures others { D.tells → Passes (D.story disk.old) (D.story disk.new) Same }
     ensures cause { Counts (D.faults disk.old) (D.faults disk.new) (disk_failed result) }
 {
@@ -122,7 +127,8 @@ pub(crate) fn survey_at<D: Disk>(
     doomed: &mut Vec<Text>,
 ) -> Result<(), DiskFault>
     requires { IsTop path.now }
-    ensures dooms { D.tells → OnOk result (Dooms (D.story disk.old).held (IsAt path.now) doomed.old.items doomed.new.items) }
+    ensures dooms { D.tells → OnOk result (Dooms (D.story disk.old).held (IsAt path.now) doomed.old.items
+        doomed.new.items) }
     ensures others { D.tells → Passes (D.story disk.old) (D.story disk.new) Same }
     ensures cause { Counts (D.faults disk.old) (D.faults disk.new) (disk_failed result) }
 {
@@ -181,7 +187,8 @@ pub(crate) fn doom_unmarked(
     doomed: &mut Vec<Text>,
 ) -> Result<(), Mem>
     requires { length marks.now ≡ length candidates.now }
-    ensures { OnOk result (DoomsUnmarked candidates.now marks.now (length candidates.now) doomed.old.items doomed.new.items) }
+    ensures { OnOk result (DoomsUnmarked candidates.now marks.now (length candidates.now) doomed.old.items
+        doomed.new.items) }
 {
     for (place, candidate) in candidates.iter().enumerate() {
         doom_unless(alloc, marks[place], candidate, doomed)?;

@@ -54,8 +54,11 @@ fn read_first<L: Layers>(
     path: &str,
     contents: Contents,
 ) -> Result<Reading, LoadFault>
-    ensures ok { IfOk result (λ made. L.tells → read_first (sources_for layer.now (L.files layers.old)) nowhere (origin_of kind path.now) (contents_for layer.now (contents_meant contents)) reading ≡ Ok made) }
-    ensures err { IfErr result (λ fault. L.tells → IsLoadFault fault (read_first (sources_for layer.now (L.files layers.old)) nowhere (origin_of kind path.now) (contents_for layer.now (contents_meant contents)) reading)) }
+    ensures ok { IfOk result (λ made. L.tells → read_first (sources_for layer.now (L.files layers.old)) nowhere
+        (origin_of kind path.now) (contents_for layer.now (contents_meant contents)) reading ≡ Ok made) }
+    ensures err { IfErr result (λ fault. L.tells → IsLoadFault fault
+        (read_first (sources_for layer.now (L.files layers.old)) nowhere (origin_of kind path.now)
+        (contents_for layer.now (contents_meant contents)) reading)) }
     ensures same { L.files layers.new ≡ L.files layers.old }
     ensures cause { Counts (L.faults layers.old) (L.faults layers.new) (load_failed result) }
 {
@@ -89,8 +92,10 @@ fn read_searched<L: Layers>(
     path: &str,
     found: Option<Found>,
 ) -> Result<Reading, LoadFault>
-    ensures ok { IfOk result (λ made. L.tells → file_found (sources_of (L.files layers.old)) kind must path.now (option_map found_meant found) reading ≡ Ok made) }
-    ensures err { IfErr result (λ fault. L.tells → IsLoadFault fault (file_found (sources_of (L.files layers.old)) kind must path.now (option_map found_meant found) reading)) }
+    ensures ok { IfOk result (λ made. L.tells → file_found (sources_of (L.files layers.old)) kind must path.now
+        (option_map found_meant found) reading ≡ Ok made) }
+    ensures err { IfErr result (λ fault. L.tells → IsLoadFault fault
+        (file_found (sources_of (L.files layers.old)) kind must path.now (option_map found_meant found) reading)) }
     ensures same { L.files layers.new ≡ L.files layers.old }
     ensures cause { Counts (L.faults layers.old) (L.faults layers.new) (load_failed result) }
 {
@@ -122,7 +127,8 @@ fn words_of_value(alloc: Global, reading: &Reading, name: &str) -> Result<Texts,
 /// The classes that INHERIT names.
 fn inherited(alloc: Global, reading: &Reading) -> Result<Texts, LoadFault>
     ensures ok { IfOk result (λ made. asked_at nowhere (words_of reading.now.lines (codes "INHERIT")) ≡ Ok made) }
-    ensures err { IfErr result (λ fault. IsLoadFault fault (asked_at nowhere (words_of reading.now.lines (codes "INHERIT")))) }
+    ensures err { IfErr result (λ fault. IsLoadFault fault
+        (asked_at nowhere (words_of reading.now.lines (codes "INHERIT")))) }
     ensures not_read { load_failed result ≡ false }
 {
     match words_of_value(alloc, reading, "INHERIT") {
@@ -138,8 +144,11 @@ fn read_inherited<L: Layers>(
     reading: Reading,
     names: &[Text],
 ) -> Result<Reading, LoadFault>
-    ensures ok { IfOk result (λ made. L.tells → classes_after (read_first (sources_of (L.files layers.old))) (sources_of (L.files layers.old)) nowhere true names.now reading ≡ Ok made) }
-    ensures err { IfErr result (λ fault. L.tells → IsLoadFault fault (classes_after (read_first (sources_of (L.files layers.old))) (sources_of (L.files layers.old)) nowhere true names.now reading)) }
+    ensures ok { IfOk result (λ made. L.tells → classes_after (read_first (sources_of (L.files layers.old)))
+        (sources_of (L.files layers.old)) nowhere true names.now reading ≡ Ok made) }
+    ensures err { IfErr result (λ fault. L.tells → IsLoadFault fault
+        (classes_after (read_first (sources_of (L.files layers.old))) (sources_of (L.files layers.old)) nowhere true
+        names.now reading)) }
     ensures same { L.files layers.new ≡ L.files layers.old }
     ensures cause { Counts (L.faults layers.old) (L.faults layers.new) (load_failed result) }
 {
@@ -170,8 +179,10 @@ impl Reading {
         path: &str,
         kind: Kind,
     ) -> Result<Reading, LoadFault>
-        ensures ok { IfOk result (λ made. L.tells → entries (sources_of (L.files layers.old)) kind path.now self ≡ Ok made) }
-        ensures err { IfErr result (λ fault. L.tells → IsLoadFault fault (entries (sources_of (L.files layers.old)) kind path.now self)) }
+        ensures ok { IfOk result (λ made. L.tells → entries (sources_of (L.files layers.old)) kind path.now self
+            ≡ Ok made) }
+        ensures err { IfErr result (λ fault. L.tells → IsLoadFault fault
+            (entries (sources_of (L.files layers.old)) kind path.now self)) }
         ensures same { L.files layers.new ≡ L.files layers.old }
         ensures cause { Counts (L.faults layers.old) (L.faults layers.new) (load_failed result) }
     {
@@ -194,10 +205,14 @@ impl Reading {
         path: &str,
         kind: Kind,
     ) -> Result<Option<Reading>, LoadFault>
-        ensures there { IfOk result (λ made. L.tells → is_some (sources_of (L.files layers.old) path.now kind) ≡ is_some made) }
-        ensures ok { IfOk result (λ made. L.tells → IfSome made (λ reading. entries (sources_for layer.now (L.files layers.old)) kind path.now self ≡ Ok reading)) }
-        ensures err { IfErr result (λ fault. L.tells → IsLoadFault fault (entries (sources_for layer.now (L.files layers.old)) kind path.now self)) }
-        ensures refused { IfErr result (λ fault. L.tells → is_some (cause_of fault.kind) ≡ true → is_some (sources_of (L.files layers.old) path.now kind) ≡ true) }
+        ensures there { IfOk result (λ made. L.tells → is_some (sources_of (L.files layers.old) path.now kind)
+            ≡ is_some made) }
+        ensures ok { IfOk result (λ made. L.tells → IfSome made
+            (λ reading. entries (sources_for layer.now (L.files layers.old)) kind path.now self ≡ Ok reading)) }
+        ensures err { IfErr result (λ fault. L.tells → IsLoadFault fault
+            (entries (sources_for layer.now (L.files layers.old)) kind path.now self)) }
+        ensures refused { IfErr result (λ fault. L.tells → is_some (cause_of fault.kind) ≡ true
+            → is_some (sources_of (L.files layers.old) path.now kind) ≡ true) }
         ensures same { L.files layers.new ≡ L.files layers.old }
         ensures cause { Counts (L.faults layers.old) (L.faults layers.new) (load_failed result) }
     {
@@ -225,8 +240,10 @@ impl Reading {
         kind: Kind,
         must: bool,
     ) -> Result<Reading, LoadFault>
-        ensures ok { IfOk result (λ made. L.tells → searched_entries (sources_of (L.files layers.old)) kind must path.now self ≡ Ok made) }
-        ensures err { IfErr result (λ fault. L.tells → IsLoadFault fault (searched_entries (sources_of (L.files layers.old)) kind must path.now self)) }
+        ensures ok { IfOk result (λ made. L.tells → searched_entries (sources_of (L.files layers.old)) kind must
+            path.now self ≡ Ok made) }
+        ensures err { IfErr result (λ fault. L.tells → IsLoadFault fault
+            (searched_entries (sources_of (L.files layers.old)) kind must path.now self)) }
         ensures same { L.files layers.new ≡ L.files layers.old }
         ensures cause { Counts (L.faults layers.old) (L.faults layers.new) (load_failed result) }
     {
@@ -247,8 +264,10 @@ impl Reading {
         name: &str,
         must: bool,
     ) -> Result<Reading, LoadFault>
-        ensures ok { IfOk result (λ made. L.tells → class_entries (sources_of (L.files layers.old)) must name.now self ≡ Ok made) }
-        ensures err { IfErr result (λ fault. L.tells → IsLoadFault fault (class_entries (sources_of (L.files layers.old)) must name.now self)) }
+        ensures ok { IfOk result (λ made. L.tells → class_entries (sources_of (L.files layers.old)) must name.now self
+            ≡ Ok made) }
+        ensures err { IfErr result (λ fault. L.tells → IsLoadFault fault
+            (class_entries (sources_of (L.files layers.old)) must name.now self)) }
         ensures same { L.files layers.new ≡ L.files layers.old }
         ensures cause { Counts (L.faults layers.old) (L.faults layers.new) (load_failed result) }
     {
@@ -272,7 +291,8 @@ impl Reading {
     /// Refused as `file` is.
     pub fn inherit<L: Layers>(self, alloc: Global, layers: &mut L) -> Result<Reading, LoadFault>
         ensures ok { IfOk result (λ made. L.tells → with_inherit (sources_of (L.files layers.old)) self ≡ Ok made) }
-        ensures err { IfErr result (λ fault. L.tells → IsLoadFault fault (with_inherit (sources_of (L.files layers.old)) self)) }
+        ensures err { IfErr result (λ fault. L.tells → IsLoadFault fault
+            (with_inherit (sources_of (L.files layers.old)) self)) }
         ensures same { L.files layers.new ≡ L.files layers.old }
         ensures cause { Counts (L.faults layers.old) (L.faults layers.new) (load_failed result) }
     {

@@ -73,7 +73,8 @@ pub(crate) fn contents_at<L: Layers>(
     kind: Kind,
     path: &str,
 ) -> Result<Option<Contents>, LoadFault>
-    ensures ok { IfOk result (λ found. L.tells → option_map contents_meant found ≡ sources_of (L.files layers.old) path.now kind) }
+    ensures ok { IfOk result (λ found. L.tells → option_map contents_meant found
+        ≡ sources_of (L.files layers.old) path.now kind) }
     ensures err { IfErr result IsUntold }
     ensures same { L.files layers.new ≡ L.files layers.old }
     ensures cause { Counts (L.faults layers.old) (L.faults layers.new) (load_failed result) }

@@ -104,7 +104,8 @@ fn add_flag(alloc: Global, reading: &mut Reading, name: &str, flag: &str) -> Res
 
 /// A function: its body by `=`, and the flag `func` of its name up to the first colon.
 fn add_function(alloc: Global, reading: &mut Reading, name: &str, body: &Text) -> Result<(), Mem>
-    ensures { OnOk result (reading.new ≡ with_lines (entries.assignment_line name.now op.Set body.now ∷ entries.set_flag (names.first_part name.now) (codes "func") ∷ []) reading.old) }
+    ensures { OnOk result (reading.new ≡ with_lines (entries.assignment_line name.now op.Set body.now
+        ∷ entries.set_flag (names.first_part name.now) (codes "func") ∷ []) reading.old) }
 {
     add_line(alloc, reading, name, Op::Set, body.copy()?)?;
     add_flag(alloc, reading, first_part(name), "func")
@@ -176,7 +177,8 @@ fn add_tasks(
     after: &Texts,
     before: &Texts,
 ) -> Result<(), Mem>
-    ensures { OnOk result (reading.new ≡ with_lines (map (λ name. entry.Task name after.now before.now) names.now) reading.old) }
+    ensures { OnOk result (reading.new ≡ with_lines (map (λ name. entry.Task name after.now before.now) names.now)
+        reading.old) }
 {
     for name in names.as_slice() {
         add_task(alloc, reading, name, after, before)?;
@@ -250,8 +252,10 @@ pub(crate) fn add_assignment(
     op: Op,
     text: &Text,
 ) -> Result<(), DataFault>
-    ensures ok { OnOk result (added reading.old (entries.lines_of [] reading.old.lines (statement.Assign export name.now op text.now)) ≡ Ok reading.new) }
-    ensures err { IfErr result (λ fault. IsDataFault fault (entries.lines_of [] reading.old.lines (statement.Assign export name.now op text.now))) }
+    ensures ok { OnOk result (added reading.old (entries.lines_of [] reading.old.lines
+        (statement.Assign export name.now op text.now)) ≡ Ok reading.new) }
+    ensures err { IfErr result (λ fault. IsDataFault fault
+        (entries.lines_of [] reading.old.lines (statement.Assign export name.now op text.now))) }
 {
     let (op, text) = taken(alloc, reading, op, text)?;
     told(add_taken(alloc, reading, export, name, op, text))
@@ -286,8 +290,10 @@ pub(crate) fn add_flag_assignment(
     op: Op,
     text: &Text,
 ) -> Result<(), DataFault>
-    ensures ok { OnOk result (added reading.old (entries.lines_of [] reading.old.lines (statement.Flag name.now flag.now op text.now)) ≡ Ok reading.new) }
-    ensures err { IfErr result (λ fault. IsDataFault fault (entries.lines_of [] reading.old.lines (statement.Flag name.now flag.now op text.now))) }
+    ensures ok { OnOk result (added reading.old (entries.lines_of [] reading.old.lines
+        (statement.Flag name.now flag.now op text.now)) ≡ Ok reading.new) }
+    ensures err { IfErr result (λ fault. IsDataFault fault
+        (entries.lines_of [] reading.old.lines (statement.Flag name.now flag.now op text.now))) }
 {
     let (op, text) = taken(alloc, reading, op, text)?;
     told(add_taken_flag(alloc, reading, name, flag, op, text))
@@ -314,8 +320,10 @@ pub(crate) fn add_statement(
     class: &str,
     statement: &Statement,
 ) -> Result<(), DataFault>
-    ensures ok { OnOk result (added reading.old (entries.lines_of class.now reading.old.lines statement.now) ≡ Ok reading.new) }
-    ensures err { IfErr result (λ fault. IsDataFault fault (entries.lines_of class.now reading.old.lines statement.now)) }
+    ensures ok { OnOk result (added reading.old (entries.lines_of class.now reading.old.lines statement.now)
+        ≡ Ok reading.new) }
+    ensures err { IfErr result (λ fault. IsDataFault fault
+        (entries.lines_of class.now reading.old.lines statement.now)) }
 {
     match statement {
         Statement::Assign {

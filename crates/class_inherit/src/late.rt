@@ -19,7 +19,8 @@ pub(crate) struct LateName {
 
 /// The part before the first colon and what stands behind the colon, where there is one.
 fn cut_at_colon(text: &str) -> Option<(&str, &str)>
-    ensures parts { MatchOption result (slice_split is_colon text.now ≡ text.now ∷ []) (λ cut. slice_split is_colon text.now ≡ cut.0.now ∷ slice_split is_colon cut.1.now) }
+    ensures parts { MatchOption result (slice_split is_colon text.now ≡ text.now ∷ [])
+        (λ cut. slice_split is_colon text.now ≡ cut.0.now ∷ slice_split is_colon cut.1.now) }
     ensures shorter { IfSome result (λ cut. length cut.1.now < length text.now) }
 {
     text.split_once(':')
@@ -82,7 +83,8 @@ fn push_part(target: &mut Text, part: &str) -> Result<(), Mem>
 
 /// What a name says that has a keyword behind `target`, and behind that the parts of a text.
 fn late_at(alloc: Global, target: Text, kind: Late, behind: &str) -> Result<Option<LateName>, Mem>
-    ensures { IfOk result (λ made. option_map late_meant made ≡ Some (record { target = target; kind = kind; when = slice_split is_colon behind.now })) }
+    ensures { IfOk result (λ made. option_map late_meant made
+        ≡ Some (record { target = target; kind = kind; when = slice_split is_colon behind.now })) }
 {
     match parts_of(alloc, behind) {
         Ok(when) => Ok(Some(LateName { target, kind, when })),
@@ -92,7 +94,8 @@ fn late_at(alloc: Global, target: Text, kind: Late, behind: &str) -> Result<Opti
 
 /// What a name says whose parts behind `front` are those of a text.
 fn late_from(alloc: Global, front: Text, behind: &str) -> Result<Option<LateName>, Mem>
-    ensures { IfOk result (λ made. option_map late_meant made ≡ names.late_from front (slice_split is_colon behind.now)) }
+    ensures { IfOk result (λ made. option_map late_meant made
+        ≡ names.late_from front (slice_split is_colon behind.now)) }
 {
     let mut target = front;
     let mut rest = behind;

@@ -17,7 +17,8 @@ use var_expand::words;
 
 /// What stands before the first `${LAYERDIR}`, and what behind it, where there is one.
 fn cut_at_layer(text: &str) -> Option<(&str, &str)>
-    ensures parts { (layer : List ℕ) → MatchOption result (with_folder layer text.now ≡ text.now) (λ cut. with_folder layer text.now ≡ cut.0.now ++ (layer ++ with_folder layer cut.1.now)) }
+    ensures parts { (layer : List ℕ) → MatchOption result (with_folder layer text.now ≡ text.now)
+        (λ cut. with_folder layer text.now ≡ cut.0.now ++ (layer ++ with_folder layer cut.1.now)) }
     ensures shorter { IfSome result (λ cut. length cut.1.now < length text.now) }
 {
     text.split_once("${LAYERDIR}")
@@ -53,8 +54,10 @@ fn add_in_layer(
     layer: &str,
     statement: &Statement,
 ) -> Result<(), DataFault>
-    ensures ok { OnOk result (added reading.old (entries.lines_of class.now reading.old.lines (statement_in_layer layer.now statement.now)) ≡ Ok reading.new) }
-    ensures err { IfErr result (λ fault. IsDataFault fault (entries.lines_of class.now reading.old.lines (statement_in_layer layer.now statement.now))) }
+    ensures ok { OnOk result (added reading.old (entries.lines_of class.now reading.old.lines
+        (statement_in_layer layer.now statement.now)) ≡ Ok reading.new) }
+    ensures err { IfErr result (λ fault. IsDataFault fault
+        (entries.lines_of class.now reading.old.lines (statement_in_layer layer.now statement.now))) }
 {
     match statement {
         Statement::Assign {
@@ -87,8 +90,10 @@ pub(crate) fn add_for(
     layer: &Option<Text>,
     statement: &Statement,
 ) -> Result<(), DataFault>
-    ensures ok { OnOk result (added reading.old (entries.lines_of class.now reading.old.lines (statement_for layer.now statement.now)) ≡ Ok reading.new) }
-    ensures err { IfErr result (λ fault. IsDataFault fault (entries.lines_of class.now reading.old.lines (statement_for layer.now statement.now))) }
+    ensures ok { OnOk result (added reading.old (entries.lines_of class.now reading.old.lines
+        (statement_for layer.now statement.now)) ≡ Ok reading.new) }
+    ensures err { IfErr result (λ fault. IsDataFault fault
+        (entries.lines_of class.now reading.old.lines (statement_for layer.now statement.now))) }
 {
     match layer {
         Some(layer) => add_in_layer(alloc, reading, class, layer.as_str(), statement),

@@ -37,8 +37,10 @@ fn words_at(
     place: &Place,
     text: &Text,
 ) -> Result<Texts, LoadFault>
-    ensures ok { IfOk result (λ made. asked_at (where_is place.now) (words_in reading.now.lines (text_for layer.now text.now)) ≡ Ok made) }
-    ensures err { IfErr result (λ fault. IsLoadFault fault (asked_at (where_is place.now) (words_in reading.now.lines (text_for layer.now text.now)))) }
+    ensures ok { IfOk result (λ made. asked_at (where_is place.now)
+        (words_in reading.now.lines (text_for layer.now text.now)) ≡ Ok made) }
+    ensures err { IfErr result (λ fault. IsLoadFault fault
+        (asked_at (where_is place.now) (words_in reading.now.lines (text_for layer.now text.now)))) }
     ensures not_read { load_failed result ≡ false }
 {
     match words_for(alloc, reading, layer, text) {
@@ -56,8 +58,12 @@ fn add_at(
     class: &str,
     statement: &Statement,
 ) -> Result<(), LoadFault>
-    ensures ok { OnOk result (asked_at (where_is place.now) (added reading.old (entries.lines_of class.now reading.old.lines (statement_for layer.now statement.now))) ≡ Ok reading.new) }
-    ensures err { IfErr result (λ fault. IsLoadFault fault (asked_at (where_is place.now) (added reading.old (entries.lines_of class.now reading.old.lines (statement_for layer.now statement.now))))) }
+    ensures ok { OnOk result (asked_at (where_is place.now)
+        (added reading.old (entries.lines_of class.now reading.old.lines (statement_for layer.now statement.now)))
+        ≡ Ok reading.new) }
+    ensures err { IfErr result (λ fault. IsLoadFault fault
+        (asked_at (where_is place.now) (added reading.old
+        (entries.lines_of class.now reading.old.lines (statement_for layer.now statement.now))))) }
     ensures not_read { load_failed result ≡ false }
 {
     match add_for(alloc, reading, class, layer, statement) {
@@ -85,7 +91,8 @@ pub(crate) fn pass_file(
     path: &str,
 ) -> Result<(), LoadFault>
     ensures ok { OnOk result (must ≡ false) }
-    ensures err { IfErr result (λ fault. (must ≡ true) × IsSaid fault (where_is place.now) (Some (missing_required path.now))) }
+    ensures err { IfErr result (λ fault. (must ≡ true)
+        × IsSaid fault (where_is place.now) (Some (missing_required path.now))) }
     ensures not_read { load_failed result ≡ false }
 {
     if must {
@@ -98,7 +105,8 @@ pub(crate) fn pass_file(
 /// A class that isn't there is refused where it has to be.
 fn pass_class(alloc: Global, place: &Place, must: bool, name: &str) -> Result<(), LoadFault>
     ensures ok { OnOk result (must ≡ false) }
-    ensures err { IfErr result (λ fault. (must ≡ true) × IsSaid fault (where_is place.now) (Some (missing_class name.now))) }
+    ensures err { IfErr result (λ fault. (must ≡ true)
+        × IsSaid fault (where_is place.now) (Some (missing_class name.now))) }
     ensures not_read { load_failed result ≡ false }
 {
     if !must {
@@ -135,8 +143,12 @@ pub(crate) fn read_found<L: Layers>(
     origin: &Origin,
     contents: &Contents,
 ) -> Result<(), LoadFault>
-    ensures ok { OnOk result (L.tells → read_within left (sources_for layer.now (L.files layers.old)) (where_is place.now) (origin_meant origin.now) (contents_for layer.now (contents_meant contents.now)) reading.old ≡ Ok reading.new) }
-    ensures err { IfErr result (λ fault. L.tells → IsLoadFault fault (read_within left (sources_for layer.now (L.files layers.old)) (where_is place.now) (origin_meant origin.now) (contents_for layer.now (contents_meant contents.now)) reading.old)) }
+    ensures ok { OnOk result (L.tells → read_within left (sources_for layer.now (L.files layers.old))
+        (where_is place.now) (origin_meant origin.now) (contents_for layer.now (contents_meant contents.now))
+        reading.old ≡ Ok reading.new) }
+    ensures err { IfErr result (λ fault. L.tells → IsLoadFault fault
+        (read_within left (sources_for layer.now (L.files layers.old)) (where_is place.now) (origin_meant origin.now)
+        (contents_for layer.now (contents_meant contents.now)) reading.old)) }
     ensures same { L.files layers.new ≡ L.files layers.old }
     ensures cause { Counts (L.faults layers.old) (L.faults layers.new) (load_failed result) }
 {
@@ -181,8 +193,14 @@ fn run_statements<L: Layers>(
     origin: &Origin,
     list: &[(u32, Statement)],
 ) -> Result<(), LoadFault>
-    ensures ok { OnOk result (L.tells → statements_after (read_within left (sources_for layer.now (L.files layers.old))) (sources_for layer.now (L.files layers.old)) (origin_meant origin.now) (map (λ s. (s.0, statement_for layer.now s.1)) list.now) reading.old ≡ Ok reading.new) }
-    ensures err { IfErr result (λ fault. L.tells → IsLoadFault fault (statements_after (read_within left (sources_for layer.now (L.files layers.old))) (sources_for layer.now (L.files layers.old)) (origin_meant origin.now) (map (λ s. (s.0, statement_for layer.now s.1)) list.now) reading.old)) }
+    ensures ok { OnOk result (L.tells → statements_after
+        (read_within left (sources_for layer.now (L.files layers.old))) (sources_for layer.now (L.files layers.old))
+        (origin_meant origin.now) (map (λ s. (s.0, statement_for layer.now s.1)) list.now) reading.old
+        ≡ Ok reading.new) }
+    ensures err { IfErr result (λ fault. L.tells → IsLoadFault fault
+        (statements_after (read_within left (sources_for layer.now (L.files layers.old)))
+        (sources_for layer.now (L.files layers.old)) (origin_meant origin.now)
+        (map (λ s. (s.0, statement_for layer.now s.1)) list.now) reading.old)) }
     ensures same { L.files layers.new ≡ L.files layers.old }
     ensures cause { Counts (L.faults layers.old) (L.faults layers.new) (load_failed result) }
 {
@@ -211,8 +229,14 @@ fn run_statement<L: Layers>(
     origin: &Origin,
     statement: &Statement,
 ) -> Result<(), LoadFault>
-    ensures ok { OnOk result (L.tells → statement_after (read_within left (sources_for layer.now (L.files layers.old))) (sources_for layer.now (L.files layers.old)) (where_is place.now) (origin_meant origin.now) (statement_for layer.now statement.now) reading.old ≡ Ok reading.new) }
-    ensures err { IfErr result (λ fault. L.tells → IsLoadFault fault (statement_after (read_within left (sources_for layer.now (L.files layers.old))) (sources_for layer.now (L.files layers.old)) (where_is place.now) (origin_meant origin.now) (statement_for layer.now statement.now) reading.old)) }
+    ensures ok { OnOk result (L.tells → statement_after
+        (read_within left (sources_for layer.now (L.files layers.old))) (sources_for layer.now (L.files layers.old))
+        (where_is place.now) (origin_meant origin.now) (statement_for layer.now statement.now) reading.old
+        ≡ Ok reading.new) }
+    ensures err { IfErr result (λ fault. L.tells → IsLoadFault fault
+        (statement_after (read_within left (sources_for layer.now (L.files layers.old)))
+        (sources_for layer.now (L.files layers.old)) (where_is place.now) (origin_meant origin.now)
+        (statement_for layer.now statement.now) reading.old)) }
     ensures same { L.files layers.new ≡ L.files layers.old }
     ensures cause { Counts (L.faults layers.old) (L.faults layers.new) (load_failed result) }
 {
@@ -243,8 +267,13 @@ fn include_named<L: Layers>(
     must: bool,
     text: &Text,
 ) -> Result<(), LoadFault>
-    ensures ok { OnOk result (L.tells → includes_named (read_within left (sources_for layer.now (L.files layers.old))) (sources_for layer.now (L.files layers.old)) (where_is place.now) (origin_meant origin.now) must layer.now text.now reading.old ≡ Ok reading.new) }
-    ensures err { IfErr result (λ fault. L.tells → IsLoadFault fault (includes_named (read_within left (sources_for layer.now (L.files layers.old))) (sources_for layer.now (L.files layers.old)) (where_is place.now) (origin_meant origin.now) must layer.now text.now reading.old)) }
+    ensures ok { OnOk result (L.tells → includes_named (read_within left (sources_for layer.now (L.files layers.old)))
+        (sources_for layer.now (L.files layers.old)) (where_is place.now) (origin_meant origin.now) must layer.now
+        text.now reading.old ≡ Ok reading.new) }
+    ensures err { IfErr result (λ fault. L.tells → IsLoadFault fault
+        (includes_named (read_within left (sources_for layer.now (L.files layers.old)))
+        (sources_for layer.now (L.files layers.old)) (where_is place.now) (origin_meant origin.now) must layer.now
+        text.now reading.old)) }
     ensures same { L.files layers.new ≡ L.files layers.old }
     ensures cause { Counts (L.faults layers.old) (L.faults layers.new) (load_failed result) }
 {
@@ -270,8 +299,11 @@ fn inherit_named<L: Layers>(
     place: &Place,
     text: &Text,
 ) -> Result<(), LoadFault>
-    ensures ok { OnOk result (L.tells → classes_named (read_within left (sources_for layer.now (L.files layers.old))) (sources_for layer.now (L.files layers.old)) (where_is place.now) text.now reading.old ≡ Ok reading.new) }
-    ensures err { IfErr result (λ fault. L.tells → IsLoadFault fault (classes_named (read_within left (sources_for layer.now (L.files layers.old))) (sources_for layer.now (L.files layers.old)) (where_is place.now) text.now reading.old)) }
+    ensures ok { OnOk result (L.tells → classes_named (read_within left (sources_for layer.now (L.files layers.old)))
+        (sources_for layer.now (L.files layers.old)) (where_is place.now) text.now reading.old ≡ Ok reading.new) }
+    ensures err { IfErr result (λ fault. L.tells → IsLoadFault fault
+        (classes_named (read_within left (sources_for layer.now (L.files layers.old)))
+        (sources_for layer.now (L.files layers.old)) (where_is place.now) text.now reading.old)) }
     ensures same { L.files layers.new ≡ L.files layers.old }
     ensures cause { Counts (L.faults layers.old) (L.faults layers.new) (load_failed result) }
 {
@@ -294,8 +326,13 @@ fn include_words<L: Layers>(
     must: bool,
     words: &[Text],
 ) -> Result<(), LoadFault>
-    ensures ok { OnOk result (L.tells → includes_after (read_within left (sources_for layer.now (L.files layers.old))) (sources_for layer.now (L.files layers.old)) (where_is place.now) (origin_meant origin.now) must words.now reading.old ≡ Ok reading.new) }
-    ensures err { IfErr result (λ fault. L.tells → IsLoadFault fault (includes_after (read_within left (sources_for layer.now (L.files layers.old))) (sources_for layer.now (L.files layers.old)) (where_is place.now) (origin_meant origin.now) must words.now reading.old)) }
+    ensures ok { OnOk result (L.tells → includes_after (read_within left (sources_for layer.now (L.files layers.old)))
+        (sources_for layer.now (L.files layers.old)) (where_is place.now) (origin_meant origin.now) must words.now
+        reading.old ≡ Ok reading.new) }
+    ensures err { IfErr result (λ fault. L.tells → IsLoadFault fault
+        (includes_after (read_within left (sources_for layer.now (L.files layers.old)))
+        (sources_for layer.now (L.files layers.old)) (where_is place.now) (origin_meant origin.now) must words.now
+        reading.old)) }
     ensures same { L.files layers.new ≡ L.files layers.old }
     ensures cause { Counts (L.faults layers.old) (L.faults layers.new) (load_failed result) }
 {
@@ -330,8 +367,13 @@ fn include_word<L: Layers>(
     must: bool,
     word: &str,
 ) -> Result<(), LoadFault>
-    ensures ok { OnOk result (L.tells → include_after (read_within left (sources_for layer.now (L.files layers.old))) (sources_for layer.now (L.files layers.old)) (where_is place.now) (origin_meant origin.now) must word.now reading.old ≡ Ok reading.new) }
-    ensures err { IfErr result (λ fault. L.tells → IsLoadFault fault (include_after (read_within left (sources_for layer.now (L.files layers.old))) (sources_for layer.now (L.files layers.old)) (where_is place.now) (origin_meant origin.now) must word.now reading.old)) }
+    ensures ok { OnOk result (L.tells → include_after (read_within left (sources_for layer.now (L.files layers.old)))
+        (sources_for layer.now (L.files layers.old)) (where_is place.now) (origin_meant origin.now) must word.now
+        reading.old ≡ Ok reading.new) }
+    ensures err { IfErr result (λ fault. L.tells → IsLoadFault fault
+        (include_after (read_within left (sources_for layer.now (L.files layers.old)))
+        (sources_for layer.now (L.files layers.old)) (where_is place.now) (origin_meant origin.now) must word.now
+        reading.old)) }
     ensures same { L.files layers.new ≡ L.files layers.old }
     ensures cause { Counts (L.faults layers.old) (L.faults layers.new) (load_failed result) }
 {
@@ -378,8 +420,12 @@ pub(crate) fn inherit_words<L: Layers>(
     place: &Place,
     names: &[Text],
 ) -> Result<(), LoadFault>
-    ensures ok { OnOk result (L.tells → classes_after (read_within left (sources_for layer.now (L.files layers.old))) (sources_for layer.now (L.files layers.old)) (where_is place.now) true names.now reading.old ≡ Ok reading.new) }
-    ensures err { IfErr result (λ fault. L.tells → IsLoadFault fault (classes_after (read_within left (sources_for layer.now (L.files layers.old))) (sources_for layer.now (L.files layers.old)) (where_is place.now) true names.now reading.old)) }
+    ensures ok { OnOk result (L.tells → classes_after (read_within left (sources_for layer.now (L.files layers.old)))
+        (sources_for layer.now (L.files layers.old)) (where_is place.now) true names.now reading.old
+        ≡ Ok reading.new) }
+    ensures err { IfErr result (λ fault. L.tells → IsLoadFault fault
+        (classes_after (read_within left (sources_for layer.now (L.files layers.old)))
+        (sources_for layer.now (L.files layers.old)) (where_is place.now) true names.now reading.old)) }
     ensures same { L.files layers.new ≡ L.files layers.old }
     ensures cause { Counts (L.faults layers.old) (L.faults layers.new) (load_failed result) }
 {
@@ -410,8 +456,12 @@ pub(crate) fn inherit_word<L: Layers>(
     must: bool,
     name: &str,
 ) -> Result<(), LoadFault>
-    ensures ok { OnOk result (L.tells → class_after (read_within left (sources_for layer.now (L.files layers.old))) (sources_for layer.now (L.files layers.old)) (where_is place.now) must name.now reading.old ≡ Ok reading.new) }
-    ensures err { IfErr result (λ fault. L.tells → IsLoadFault fault (class_after (read_within left (sources_for layer.now (L.files layers.old))) (sources_for layer.now (L.files layers.old)) (where_is place.now) must name.now reading.old)) }
+    ensures ok { OnOk result (L.tells → class_after (read_within left (sources_for layer.now (L.files layers.old)))
+        (sources_for layer.now (L.files layers.old)) (where_is place.now) must name.now reading.old
+        ≡ Ok reading.new) }
+    ensures err { IfErr result (λ fault. L.tells → IsLoadFault fault
+        (class_after (read_within left (sources_for layer.now (L.files layers.old)))
+        (sources_for layer.now (L.files layers.old)) (where_is place.now) must name.now reading.old)) }
     ensures same { L.files layers.new ≡ L.files layers.old }
     ensures cause { Counts (L.faults layers.old) (L.faults layers.new) (load_failed result) }
 {

@@ -29,7 +29,8 @@ fn found_in<L: Layers>(
     folder: &str,
     word: &str,
 ) -> Result<Option<Found>, LoadFault>
-    ensures ok { IfOk result (λ found. L.tells → option_map found_meant found ≡ first_found (sources_of (L.files layers.old)) kind (paths_in (folder.now ∷ []) word.now)) }
+    ensures ok { IfOk result (λ found. L.tells → option_map found_meant found
+        ≡ first_found (sources_of (L.files layers.old)) kind (paths_in (folder.now ∷ []) word.now)) }
     ensures err { IfErr result IsUntold }
     ensures same { L.files layers.new ≡ L.files layers.old }
     ensures cause { Counts (L.faults layers.old) (L.faults layers.new) (load_failed result) }
@@ -54,7 +55,8 @@ fn first_in<L: Layers>(
     folders: &[Text],
     word: &str,
 ) -> Result<Option<Found>, LoadFault>
-    ensures ok { IfOk result (λ found. L.tells → option_map found_meant found ≡ first_found (sources_of (L.files layers.old)) kind (paths_in folders.now word.now)) }
+    ensures ok { IfOk result (λ found. L.tells → option_map found_meant found
+        ≡ first_found (sources_of (L.files layers.old)) kind (paths_in folders.now word.now)) }
     ensures err { IfErr result IsUntold }
     ensures same { L.files layers.new ≡ L.files layers.old }
     ensures cause { Counts (L.faults layers.old) (L.faults layers.new) (load_failed result) }
@@ -75,7 +77,8 @@ fn first_in_project<L: Layers>(
     folders: &[Text],
     word: &str,
 ) -> Result<Option<Found>, LoadFault>
-    ensures ok { IfOk result (λ found. L.tells → option_map found_meant found ≡ first_found (sources_of (L.files layers.old)) kind (paths_in (codes "." ∷ folders.now) word.now)) }
+    ensures ok { IfOk result (λ found. L.tells → option_map found_meant found
+        ≡ first_found (sources_of (L.files layers.old)) kind (paths_in (codes "." ∷ folders.now) word.now)) }
     ensures err { IfErr result IsUntold }
     ensures same { L.files layers.new ≡ L.files layers.old }
     ensures cause { Counts (L.faults layers.old) (L.faults layers.new) (load_failed result) }
@@ -96,7 +99,9 @@ fn first_from<L: Layers>(
     folders: &[Text],
     word: &str,
 ) -> Result<Option<Found>, LoadFault>
-    ensures ok { IfOk result (λ found. L.tells → option_map found_meant found ≡ first_found (sources_of (L.files layers.old)) kind (paths_in (option_to_list (option_copied first.entry) ++ codes "." ∷ folders.now) word.now)) }
+    ensures ok { IfOk result (λ found. L.tells → option_map found_meant found
+        ≡ first_found (sources_of (L.files layers.old)) kind
+        (paths_in (option_to_list (option_copied first.entry) ++ codes "." ∷ folders.now) word.now)) }
     ensures err { IfErr result IsUntold }
     ensures same { L.files layers.new ≡ L.files layers.old }
     ensures cause { Counts (L.faults layers.old) (L.faults layers.new) (load_failed result) }
@@ -134,8 +139,12 @@ pub(crate) fn search<L: Layers>(
     first: Option<&str>,
     word: &str,
 ) -> Result<Option<Found>, LoadFault>
-    ensures ok { IfOk result (λ found. L.tells → asked_at (where_is place.now) (searched (sources_of (L.files layers.old)) kind reading.now.lines (option_to_list (option_copied first.entry)) word.now) ≡ Ok (option_map found_meant found)) }
-    ensures err { IfErr result (λ fault. L.tells → IsLoadFault fault (asked_at (where_is place.now) (searched (sources_of (L.files layers.old)) kind reading.now.lines (option_to_list (option_copied first.entry)) word.now))) }
+    ensures ok { IfOk result (λ found. L.tells → asked_at (where_is place.now)
+        (searched (sources_of (L.files layers.old)) kind reading.now.lines
+        (option_to_list (option_copied first.entry)) word.now) ≡ Ok (option_map found_meant found)) }
+    ensures err { IfErr result (λ fault. L.tells → IsLoadFault fault
+        (asked_at (where_is place.now) (searched (sources_of (L.files layers.old)) kind reading.now.lines
+        (option_to_list (option_copied first.entry)) word.now))) }
     ensures same { L.files layers.new ≡ L.files layers.old }
     ensures cause { Counts (L.faults layers.old) (L.faults layers.new) (load_failed result) }
 {
@@ -156,8 +165,12 @@ pub(crate) fn search_class<L: Layers>(
     place: &Place,
     name: &str,
 ) -> Result<Option<Found>, LoadFault>
-    ensures ok { IfOk result (λ found. L.tells → asked_at (where_is place.now) (class_searched (sources_of (L.files layers.old)) reading.now.lines name.now) ≡ Ok (option_map found_meant found)) }
-    ensures err { IfErr result (λ fault. L.tells → IsLoadFault fault (asked_at (where_is place.now) (class_searched (sources_of (L.files layers.old)) reading.now.lines name.now))) }
+    ensures ok { IfOk result (λ found. L.tells → asked_at (where_is place.now)
+        (class_searched (sources_of (L.files layers.old)) reading.now.lines name.now)
+        ≡ Ok (option_map found_meant found)) }
+    ensures err { IfErr result (λ fault. L.tells → IsLoadFault fault
+        (asked_at (where_is place.now) (class_searched (sources_of (L.files layers.old)) reading.now.lines
+        name.now))) }
     ensures same { L.files layers.new ≡ L.files layers.old }
     ensures cause { Counts (L.faults layers.old) (L.faults layers.new) (load_failed result) }
 {

@@ -85,7 +85,8 @@ pub fn example_of_samples()
     ensures fifty { request_of (codes "--sample" ∷ codes "50" ∷ []) ≡ Some (record (run_of []) { sample = Some 50 }) }
     ensures equals_sign { request_of (codes "--sample=50" ∷ []) ≡ Some (record (run_of []) { sample = Some 50 }) }
     ensures least { request_of (codes "--sample" ∷ codes "1" ∷ []) ≡ Some (record (run_of []) { sample = Some 1 }) }
-    ensures most { request_of (codes "--sample" ∷ codes "1000" ∷ []) ≡ Some (record (run_of []) { sample = Some 1000 }) }
+    ensures most { request_of (codes "--sample" ∷ codes "1000" ∷ [])
+        ≡ Some (record (run_of []) { sample = Some 1000 }) }
     ensures too_small { request_of (codes "--sample" ∷ codes "0" ∷ []) ≡ None }
     ensures too_large { request_of (codes "--sample" ∷ codes "1001" ∷ []) ≡ None }
     // zeros and a sign before the digits are taken
@@ -116,6 +117,7 @@ pub fn example_of_modes()
     ensures both_stay { request_of (codes "-s" ∷ codes "-p" ∷ [])
         ≡ Some (record (run_of []) { show = true; parse_only = true }) }
     ensures letters_in_one_word { mode_asked (codes "-nesp" ∷ []) ≡ Some Parse }
-    ensures long_names { mode_asked (codes "--dry-run" ∷ codes "--environment" ∷ codes "--show-versions" ∷ []) ≡ Some Versions }
+    ensures long_names { mode_asked (codes "--dry-run" ∷ codes "--environment" ∷ codes "--show-versions" ∷ [])
+        ≡ Some Versions }
     ensures long_parse { mode_asked (codes "--parse-only" ∷ codes "a" ∷ []) ≡ Some Parse }
 {}

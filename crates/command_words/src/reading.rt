@@ -73,7 +73,8 @@ fn texts_of(alloc: Global, words: &[&str]) -> Result<Texts, Mem>
 
 // The words that belong to no option.
 fn targets_of(alloc: Global, matches: &ArgMatches<'_>) -> Result<Texts, Mem>
-    ensures { IfOk result (λ targets. targets ≡ unwrap_or (all_of (codes "target") (rows_of (found_of matches.now))) []) }
+    ensures { IfOk result (λ targets. targets ≡ unwrap_or (all_of (codes "target") (rows_of (found_of matches.now)))
+        []) }
 {
     match matches.get_strs("target") {
         Some(words) => texts_of(alloc, words),
@@ -104,7 +105,8 @@ fn asked(alloc: Global, matches: &ArgMatches<'_>) -> Result<Request, Mem>
 // The matches of the program's command on the words.
 fn matches_of<'w>(alloc: Global, words: &'w [&'w str]) -> Result<ArgMatches<'w>, WordsFault>
     ensures taken { IfOk result (λ made. are_taken (map (λ word. word.now) words.entry.now) ≡ true) }
-    ensures rows { IfOk result (λ made. rows_of (found_of made) ≡ matches_of command (map (λ word. word.now) words.entry.now)) }
+    ensures rows { IfOk result (λ made. rows_of (found_of made)
+        ≡ matches_of command (map (λ word. word.now) words.entry.now)) }
     ensures number { IfOk result (λ made. HasNumber (found_of made)) }
     ensures usage { IfErr result (λ fault. fault ≡ Usage → are_taken (map (λ word. word.now) words.entry.now) ≡ false) }
 {

@@ -68,7 +68,9 @@ fn put_flag(
     flags: &BTreeMap<String, Kept>,
     flag: &str,
 ) -> Result<(), Mem>
-    ensures { OnOk result ((f : List ℕ) → flag_kept (get_by_text made.new f) ≡ (if bytes_eq flag.now f then flag_kept (get_by_text flags.now flag.now) else flag_kept (get_by_text made.old f))) }
+    ensures { OnOk result ((f : List ℕ) → flag_kept (get_by_text made.new f)
+        ≡ (if bytes_eq flag.now f then flag_kept (get_by_text flags.now flag.now) else flag_kept
+        (get_by_text made.old f))) }
 {
     match flags.get(flag) {
         Some(kept) => {
@@ -84,7 +86,8 @@ fn put_flag(
 
 /// The same flags again.
 fn flags_again(alloc: Global, flags: &BTreeMap<String, Kept>) -> Result<BTreeMap<String, Kept>, Mem>
-    ensures { IfOk result (λ made. (f : List ℕ) → flag_kept (get_by_text made f) ≡ flag_kept (get_by_text flags.now f)) }
+    ensures { IfOk result (λ made. (f : List ℕ) → flag_kept (get_by_text made f)
+        ≡ flag_kept (get_by_text flags.now f)) }
 {
     let names = names_of(alloc, flags)?;
     let mut made = BTreeMap::new(alloc);

@@ -16,7 +16,8 @@ pub(crate) fn put_value<V: Drop>(
     name: &str,
     value: V,
 ) -> Result<(), Mem>
-    ensures ok { OnOk result ((q : List ℕ) → get_by_text map.new q ≡ update bytes_eq (get_by_text map.old) name.now (Some value) q) }
+    ensures ok { OnOk result ((q : List ℕ) → get_by_text map.new q
+        ≡ update bytes_eq (get_by_text map.old) name.now (Some value) q) }
     ensures err { OnErr result ((q : List ℕ) → get_by_text map.new q ≡ get_by_text map.old q) }
 {
     let key = String::from_str(alloc, name)?;

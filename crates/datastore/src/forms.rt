@@ -32,7 +32,8 @@ fn first_rest(alloc: Global, rest: &str) -> Result<Vec<Text>, Mem>
 
 /// Notes one text behind a name and a colon. None is lost, also where memory is wanting.
 fn note_form(forms: &mut Forms, alloc: Global, front: &str, rest: &str) -> Result<(), Mem>
-    ensures keeps { KeepsRests (λ name. rests (get_by_text forms.old name)) (λ name. rests (get_by_text forms.new name)) }
+    ensures keeps { KeepsRests (λ name. rests (get_by_text forms.old name))
+        (λ name. rests (get_by_text forms.new name)) }
     ensures ok { OnOk result (is_in rest.now (rests (get_by_text forms.new front.now)) ≡ true) }
 {
     match forms.get_mut(front) {
@@ -48,15 +49,18 @@ fn note_form(forms: &mut Forms, alloc: Global, front: &str, rest: &str) -> Resul
 fn note_cut(forms: &mut Forms, alloc: Global, name: &str, place: usize) -> Result<(), Mem>
     requires within { place < length name.now }
     requires colon { slice_index name.now place ≡ colon }
-    ensures keeps { KeepsRests (λ name. rests (get_by_text forms.old name)) (λ name. rests (get_by_text forms.new name)) }
-    ensures ok { OnOk result (is_in (drop (place + 1) name.now) (rests (get_by_text forms.new (take place name.now))) ≡ true) }
+    ensures keeps { KeepsRests (λ name. rests (get_by_text forms.old name))
+        (λ name. rests (get_by_text forms.new name)) }
+    ensures ok { OnOk result (is_in (drop (place + 1) name.now) (rests (get_by_text forms.new (take place name.now)))
+        ≡ true) }
 {
     note_form(forms, alloc, &name[..place], &name[place + 1..])
 }
 
 /// Notes a name for each part of it that a colon follows. None is lost, also where memory is wanting.
 pub(crate) fn note_forms(forms: &mut Forms, alloc: Global, name: &str) -> Result<(), Mem>
-    ensures keeps { KeepsRests (λ name. rests (get_by_text forms.old name)) (λ name. rests (get_by_text forms.new name)) }
+    ensures keeps { KeepsRests (λ name. rests (get_by_text forms.old name))
+        (λ name. rests (get_by_text forms.new name)) }
     ensures ok { OnOk result (HasForms (λ name. rests (get_by_text forms.new name)) name.now) }
 {
     let bytes = name.as_bytes();

@@ -142,7 +142,8 @@ impl Maps {
         rest: &Text,
         active: &[Text],
     ) -> Result<(), Mem>
-        ensures { OnOk result (list.new ≡ list.old ++ (if is_present self.now active.now name.now rest.now then rest.now ∷ [] else [])) }
+        ensures { OnOk result (list.new ≡ list.old ++ (if is_present self.now active.now name.now rest.now then
+            rest.now ∷ [] else [])) }
     {
         let asked = self.is_present(alloc, name, rest.as_str(), active)?;
         push_if(list, rest, asked)
@@ -178,7 +179,8 @@ impl Maps {
 
     /// The own value of the winning form of a name, where it has one.
     fn winner(&self, alloc: Global, name: &str, active: &[Text]) -> Result<Option<Resolved>, Mem>
-        ensures { (list : List Line) → Keeps list self.now → IfOk result (λ won. won ≡ own_of list active.now (winning list active.now name.now)) }
+        ensures { (list : List Line) → Keeps list self.now
+            → IfOk result (λ won. won ≡ own_of list active.now (winning list active.now name.now)) }
     {
         let forms = self.present_forms(alloc, name, active)?;
         let all = forms.as_slice();
@@ -193,7 +195,8 @@ impl Maps {
 
     /// The flags that are told with a value.
     fn told_flags(&self, alloc: Global, name: &str) -> Result<ListOf<(Text, Text)>, Mem>
-        ensures { IfOk result (λ made. made ≡ told_flag (named_at self.now name.now) (codes "export") ++ told_flag (named_at self.now name.now) (codes "func")) }
+        ensures { IfOk result (λ made. made ≡ told_flag (named_at self.now name.now) (codes "export")
+            ++ told_flag (named_at self.now name.now) (codes "func")) }
     {
         let mut made = ListOf::new(alloc);
         push_flag(&mut made, alloc, "export", self.flag_of(name, "export"))?;
@@ -228,7 +231,8 @@ impl Maps {
         removes: Texts,
         active: &[Text],
     ) -> Result<Option<Resolved>, Mem>
-        ensures { IfOk result (λ made. made ≡ joined_at active.now (named_at self.now name.now) (option_copied value.entry) removes) }
+        ensures { IfOk result (λ made. made ≡ joined_at active.now (named_at self.now name.now)
+            (option_copied value.entry) removes) }
     {
         match apply_ops(alloc, value, self.lates_of(name), active)? {
             Some(own) => {
@@ -246,7 +250,8 @@ impl Maps {
         name: &str,
         active: &[Text],
     ) -> Result<Option<Resolved>, Mem>
-        ensures { (list : List Line) → Keeps list self.now → IfOk result (λ made. made ≡ resolved list active.now name.now) }
+        ensures { (list : List Line) → Keeps list self.now
+            → IfOk result (λ made. made ≡ resolved list active.now name.now) }
     {
         match self.winner(alloc, name, active)? {
             Some(own) => {
@@ -269,7 +274,8 @@ fn push_flag(
     flag: &str,
     text: Option<&str>,
 ) -> Result<(), Mem>
-    ensures { OnOk result (list.new ≡ list.old ++ option_to_list (option_map (λ t. (flag.now, t)) (option_copied text.entry))) }
+    ensures { OnOk result (list.new ≡ list.old ++ option_to_list
+        (option_map (λ t. (flag.now, t)) (option_copied text.entry))) }
 {
     match text {
         Some(text) => list.push((Text::from_str(alloc, flag)?, Text::from_str(alloc, text)?)),

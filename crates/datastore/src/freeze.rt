@@ -43,7 +43,8 @@ fn target_of(
 ) -> Result<Text, DataFault>
     requires { IsMeant overrides.now (entries.active store.now) }
     ensures ok { IfOk result (λ made. frozen.target_of store.now name.now (frozen.holds_reference name.now) ≡ Ok made) }
-    ensures err { IfErr result (λ fault. IsDataFault fault (frozen.target_of store.now name.now (frozen.holds_reference name.now))) }
+    ensures err { IfErr result (λ fault. IsDataFault fault
+        (frozen.target_of store.now name.now (frozen.holds_reference name.now))) }
 {
     if !holds_opening(name.as_bytes()) {
         return Ok(Text::from_str(alloc, name)?);
@@ -107,7 +108,8 @@ fn push_late(
     late: &LateLine,
     when: Texts,
 ) -> Result<(), Mem>
-    ensures { OnOk result (lines.new.items ≡ lines.old.items ++ Later target.now late.now.kind when late.now.text ∷ []) }
+    ensures { OnOk result (lines.new.items ≡ lines.old.items ++ Later target.now late.now.kind when late.now.text
+        ∷ []) }
 {
     push_line(lines, late_of(target, late.kind, when, &late.text)?)
 }
@@ -122,7 +124,8 @@ fn push_lates(
     lates: &[LateLine],
 ) -> Result<(), DataFault>
     requires { IsMeant overrides.now (entries.active store.now) }
-    ensures ok { OnOk result (behind lines.old.items (frozen.told_lates store.now target.now lates.now) ≡ Ok lines.new.items) }
+    ensures ok { OnOk result (behind lines.old.items (frozen.told_lates store.now target.now lates.now)
+        ≡ Ok lines.new.items) }
     ensures err { IfErr result (λ fault. IsDataFault fault (frozen.told_lates store.now target.now lates.now)) }
 {
     for late in lates {
@@ -251,7 +254,8 @@ impl Maps {
         source: &str,
         target: &Text,
     ) -> Result<(), Mem>
-        ensures { (list : List Line) → Keeps list self.now → OnOk result (lines.new.items ≡ lines.old.items ++ named_lines list (move_of (source.now, target.now))) }
+        ensures { (list : List Line) → Keeps list self.now
+            → OnOk result (lines.new.items ≡ lines.old.items ++ named_lines list (move_of (source.now, target.now))) }
     {
         match self.of(source) {
             Some(named) => {
@@ -274,7 +278,8 @@ fn push_told(
     target: &Text,
 ) -> Result<(), DataFault>
     requires { IsMeant overrides.now (entries.active store.now) }
-    ensures ok { OnOk result (behind lines.old.items (frozen.told store.now (move_of (source.now, target.now))) ≡ Ok lines.new.items) }
+    ensures ok { OnOk result (behind lines.old.items (frozen.told store.now (move_of (source.now, target.now)))
+        ≡ Ok lines.new.items) }
     ensures err { IfErr result (λ fault. IsDataFault fault (frozen.told store.now (move_of (source.now, target.now)))) }
 {
     let maps = store.maps();
@@ -299,7 +304,8 @@ fn push_move(
     pair: &(Text, Text),
 ) -> Result<(), DataFault>
     requires { IsMeant overrides.now (entries.active store.now) }
-    ensures ok { OnOk result (IsPushed staying.old.items moving.old.items staying.new.items moving.new.items (frozen.stays (move_of pair.now)) (frozen.told store.now (move_of pair.now))) }
+    ensures ok { OnOk result (IsPushed staying.old.items moving.old.items staying.new.items moving.new.items
+        (frozen.stays (move_of pair.now)) (frozen.told store.now (move_of pair.now))) }
     ensures err { IfErr result (λ fault. IsDataFault fault (frozen.told store.now (move_of pair.now))) }
 {
     let source = pair.0.as_str();
@@ -321,8 +327,10 @@ fn push_moves(
     moves: &[(Text, Text)],
 ) -> Result<(), DataFault>
     requires { IsMeant overrides.now (entries.active store.now) }
-    ensures ok { OnOk result (parted staying.old.items moving.old.items (frozen.told_all store.now (map move_of moves.now)) ≡ Ok (staying.new.items, moving.new.items)) }
-    ensures err { IfErr result (λ fault. IsDataFault fault (parted staying.old.items moving.old.items (frozen.told_all store.now (map move_of moves.now)))) }
+    ensures ok { OnOk result (parted staying.old.items moving.old.items
+        (frozen.told_all store.now (map move_of moves.now)) ≡ Ok (staying.new.items, moving.new.items)) }
+    ensures err { IfErr result (λ fault. IsDataFault fault
+        (parted staying.old.items moving.old.items (frozen.told_all store.now (map move_of moves.now)))) }
 {
     for pair in moves {
         push_move(staying, moving, alloc, store, overrides, pair)?;
@@ -346,8 +354,10 @@ fn lines_of(
     moves: &[(Text, Text)],
 ) -> Result<(Vec<EntryLine>, Vec<EntryLine>), DataFault>
     requires { IsMeant overrides.now (entries.active store.now) }
-    ensures ok { IfOk result (λ made. parted [] [] (frozen.told_all store.now (map move_of moves.now)) ≡ Ok (made.0.items, made.1.items)) }
-    ensures err { IfErr result (λ fault. IsDataFault fault (parted [] [] (frozen.told_all store.now (map move_of moves.now)))) }
+    ensures ok { IfOk result (λ made. parted [] [] (frozen.told_all store.now (map move_of moves.now))
+        ≡ Ok (made.0.items, made.1.items)) }
+    ensures err { IfErr result (λ fault. IsDataFault fault
+        (parted [] [] (frozen.told_all store.now (map move_of moves.now)))) }
 {
     let mut staying = Vec::new(alloc);
     let mut moving = Vec::new(alloc);
@@ -366,7 +376,8 @@ fn moves_among(
     requires overrides { IsMeant overrides.now (entries.active store.now) }
     requires keeps { Keeps store.now maps.now }
     requires names { AreKeys names.now (is_anew maps.now) }
-    ensures ok { IfOk result (λ made. frozen.moves store.now (filter (is_anew maps.now) (base.names store.now)) ≡ Ok (map move_of made.items)) }
+    ensures ok { IfOk result (λ made. frozen.moves store.now (filter (is_anew maps.now) (base.names store.now))
+        ≡ Ok (map move_of made.items)) }
     ensures err { IfErr result (λ fault. IsDataFault fault (frozen.frozen store.now)) }
 {
     let left = maps.left_among(alloc, names)?;
@@ -409,7 +420,8 @@ fn hidden(alloc: Global, names: &[Text]) -> Result<BTreeMap<String, Named>, Mem>
 
 /// The maps once names are moved.
 pub(crate) fn retold(alloc: Global, maps: Maps, anew: Anew) -> Result<Maps, Mem>
-    ensures { (list : List Line) → Keeps list maps → IsAnew list maps anew → IfOk result (λ made. (base_of made ≡ base_of maps) × Keeps (moved list) made) }
+    ensures { (list : List Line) → Keeps list maps → IsAnew list maps anew
+        → IfOk result (λ made. (base_of made ≡ base_of maps) × Keeps (moved list) made) }
 {
     let Maps {
         base,

@@ -74,7 +74,8 @@ fn value_under(
 
 /// No active overrides because of this fault, unless it is want of memory.
 fn refused(fault: ExpandFault) -> Result<Overrides, Mem>
-    ensures { (meant : Result (List (List ℕ)) Refusal) → IfSome (refusal_of fault) (λ refusal. meant ≡ Err refusal) → IfOk result (λ made. IsMeant made meant) }
+    ensures { (meant : Result (List (List ℕ)) Refusal) → IfSome (refusal_of fault) (λ refusal. meant ≡ Err refusal)
+        → IfOk result (λ made. IsMeant made meant) }
 {
     match fault {
         ExpandFault::Memory => Err(Mem),

@@ -135,7 +135,8 @@ impl Maps {
 
     /// What an entry makes of what the shared entries leave of its name.
     fn first(&self, alloc: Global, name: &str, line: &EntryLine) -> Result<Named, Mem>
-        ensures { IfOk result (λ made. Steps (under_named (base_of self.now) name.now) (Some made) (subject line.now) line.now) }
+        ensures { IfOk result (λ made. Steps (under_named (base_of self.now) name.now) (Some made) (subject line.now)
+            line.now) }
     {
         match self.shared(name) {
             Some(named) => named.changed(alloc, line),

@@ -30,8 +30,11 @@ fn assign_flag(
     op: Op,
     text: &str,
 ) -> Result<(), Mem>
-    ensures ok { OnOk result ((f : List ℕ) → flag_kept (get_by_text flags.new f) ≡ (if bytes_eq flag.now f then assigned op text.now (flag_kept (get_by_text flags.old f)) else flag_kept (get_by_text flags.old f))) }
-    ensures err { OnErr result ((f : List ℕ) → flag_kept (get_by_text flags.new f) ≡ flag_kept (get_by_text flags.old f)) }
+    ensures ok { OnOk result ((f : List ℕ) → flag_kept (get_by_text flags.new f)
+        ≡ (if bytes_eq flag.now f then assigned op text.now (flag_kept (get_by_text flags.old f)) else flag_kept
+        (get_by_text flags.old f))) }
+    ensures err { OnErr result ((f : List ℕ) → flag_kept (get_by_text flags.new f)
+        ≡ flag_kept (get_by_text flags.old f)) }
 {
     match flags.get_mut(flag) {
         Some(kept) => kept.assign(alloc, op, text),
@@ -44,7 +47,8 @@ fn assign_flag(
 
 /// Takes a flag away.
 fn drop_flag(flags: &mut BTreeMap<String, Kept>, flag: &str)
-    ensures { (f : List ℕ) → flag_kept (get_by_text flags.new f) ≡ (if bytes_eq flag.now f then nothing else flag_kept (get_by_text flags.old f)) }
+    ensures { (f : List ℕ) → flag_kept (get_by_text flags.new f)
+        ≡ (if bytes_eq flag.now f then nothing else flag_kept (get_by_text flags.old f)) }
 {
     drop_value(flags, flag);
 }
@@ -86,7 +90,8 @@ impl Named {
     /// A late entry behind the others.
     fn put_late(&mut self, kind: Late, when: &Texts, text: &Text) -> Result<(), Mem>
         ensures ok { OnOk result (self.new ≡ record self.old { lates = self.new.lates }) }
-        ensures lates { OnOk result (self.new.lates.items ≡ self.old.lates.items ++ record { kind = kind; when = when.now; text = text.now } ∷ []) }
+        ensures lates { OnOk result (self.new.lates.items ≡ self.old.lates.items
+            ++ record { kind = kind; when = when.now; text = text.now } ∷ []) }
         ensures err { OnErr result (self.new ≡ record self.old { lates = self.new.lates }) }
         ensures same { OnErr result (self.new.lates.items ≡ self.old.lates.items) }
     {

@@ -37,7 +37,8 @@ pub(crate) fn own_keys(alloc: Global, named: &BTreeMap<String, Named>) -> Result
 
 /// Puts names into a set.
 fn put_all(set: &mut Names, alloc: Global, names: &[Text]) -> Result<(), Mem>
-    ensures { OnOk result ((t : List ℕ) → is_some (get_by_text set.new t) ≡ (is_in t names.now || is_some (get_by_text set.old t))) }
+    ensures { OnOk result ((t : List ℕ) → is_some (get_by_text set.new t)
+        ≡ (is_in t names.now || is_some (get_by_text set.old t))) }
 {
     for name in names {
         put(set, alloc, name.as_str())?;
@@ -51,7 +52,8 @@ fn joined_keys(
     own: &BTreeMap<String, Named>,
     shared: &BTreeMap<String, Named>,
 ) -> Result<Texts, Mem>
-    ensures { IfOk result (λ made. AreKeys made (λ name. is_some (option_or (get_by_text own.now name) (get_by_text shared.now name)))) }
+    ensures { IfOk result (λ made. AreKeys made (λ name. is_some
+        (option_or (get_by_text own.now name) (get_by_text shared.now name)))) }
 {
     let first = own_keys(alloc, own)?;
     let second = own_keys(alloc, shared)?;
@@ -123,7 +125,8 @@ impl Maps {
 
     /// Those of some names of which something is left.
     pub(crate) fn left_among(&self, alloc: Global, keys: &[Text]) -> Result<Texts, Mem>
-        ensures { (list : List Line) → Keeps list self.now → IfOk result (λ made. made ≡ filter (base.is_left list) keys.now) }
+        ensures { (list : List Line) → Keeps list self.now
+            → IfOk result (λ made. made ≡ filter (base.is_left list) keys.now) }
     {
         let mut made = Texts::new(alloc);
         for name in keys {

@@ -32,7 +32,8 @@ fn first_of(alloc: Global, name: &str) -> Result<Names, Mem>
 
 /// Notes that a task comes after another.
 fn put_order(orders: &mut Orders, alloc: Global, task: &str, other: &str) -> Result<(), Mem>
-    ensures { OnOk result ((a b : List ℕ) → comes orders.new a b ≡ ((bytes_eq task.now a && bytes_eq other.now b) || comes orders.old a b)) }
+    ensures { OnOk result ((a b : List ℕ) → comes orders.new a b
+        ≡ ((bytes_eq task.now a && bytes_eq other.now b) || comes orders.old a b)) }
 {
     match orders.get_mut(task) {
         Some(set) => put(set, alloc, other),
@@ -58,7 +59,8 @@ fn note_pair(
     task: &str,
     other: &str,
 ) -> Result<(), Mem>
-    ensures { OnOk result ((a b : List ℕ) → comes orders.new a b ≡ (((bytes_eq task.now a && bytes_eq other.now b) && stay gone.now a b) || comes orders.old a b)) }
+    ensures { OnOk result ((a b : List ℕ) → comes orders.new a b
+        ≡ (((bytes_eq task.now a && bytes_eq other.now b) && stay gone.now a b) || comes orders.old a b)) }
 {
     if goes_one(gone, task, other) {
         return Ok(());
@@ -74,7 +76,8 @@ fn note_after(
     task: &str,
     after: &[Text],
 ) -> Result<(), Mem>
-    ensures { OnOk result ((a b : List ℕ) → comes orders.new a b ≡ (((bytes_eq task.now a && is_in b after.now) && stay gone.now a b) || comes orders.old a b)) }
+    ensures { OnOk result ((a b : List ℕ) → comes orders.new a b
+        ≡ (((bytes_eq task.now a && is_in b after.now) && stay gone.now a b) || comes orders.old a b)) }
 {
     for other in after {
         note_pair(orders, gone, alloc, task, other.as_str())?;
@@ -90,7 +93,8 @@ fn note_before(
     task: &str,
     before: &[Text],
 ) -> Result<(), Mem>
-    ensures { OnOk result ((a b : List ℕ) → comes orders.new a b ≡ (((bytes_eq task.now b && is_in a before.now) && stay gone.now a b) || comes orders.old a b)) }
+    ensures { OnOk result ((a b : List ℕ) → comes orders.new a b
+        ≡ (((bytes_eq task.now b && is_in a before.now) && stay gone.now a b) || comes orders.old a b)) }
 {
     for other in before {
         note_pair(orders, gone, alloc, other.as_str(), task)?;
@@ -107,7 +111,9 @@ fn note_added(
     after: &[Text],
     before: &[Text],
 ) -> Result<(), Mem>
-    ensures { OnOk result ((a b : List ℕ) → comes orders.new a b ≡ ((tasks.comes_after_line a b false (Task task.now after.now before.now) && stay gone.now a b) || comes orders.old a b)) }
+    ensures { OnOk result ((a b : List ℕ) → comes orders.new a b
+        ≡ ((tasks.comes_after_line a b false (Task task.now after.now before.now) && stay gone.now a b) || comes
+        orders.old a b)) }
 {
     note_after(orders, gone, alloc, task, after)?;
     note_before(orders, gone, alloc, task, before)
@@ -120,8 +126,10 @@ fn note_line(
     alloc: Global,
     line: &EntryLine,
 ) -> Result<(), Mem>
-    ensures orders { OnOk result ((a b : List ℕ) → comes orders.new a b ≡ ((tasks.comes_after_line a b false line.now && stay gone.old a b) || comes orders.old a b)) }
-    ensures gone { OnOk result ((t : List ℕ) → is_some (get_by_text gone.new t) ≡ (goes t line.now || is_some (get_by_text gone.old t))) }
+    ensures orders { OnOk result ((a b : List ℕ) → comes orders.new a b
+        ≡ ((tasks.comes_after_line a b false line.now && stay gone.old a b) || comes orders.old a b)) }
+    ensures gone { OnOk result ((t : List ℕ) → is_some (get_by_text gone.new t)
+        ≡ (goes t line.now || is_some (get_by_text gone.old t))) }
 {
     match line {
         EntryLine::Task {
@@ -157,7 +165,8 @@ pub(crate) fn orders_of(alloc: Global, lines: &[EntryLine]) -> Result<Orders, Me
 
 /// The names of a set that are tasks, in byte order.
 fn tasks_among(alloc: Global, set: &Names, all: &Names) -> Result<Texts, Mem>
-    ensures names { IfOk result (λ made. made ≡ filter (λ t. is_some (get_by_text all.now t)) (picked (λ there. true) set.now.entries)) }
+    ensures names { IfOk result (λ made. made ≡ filter (λ t. is_some (get_by_text all.now t))
+        (picked (λ there. true) set.now.entries)) }
     ensures ordered { OnOk result (IsOrdered string_cmp set.now) }
 {
     let names = names_of(alloc, set)?;
@@ -175,7 +184,9 @@ pub(crate) fn order_of(
     all: &Names,
     task: &str,
 ) -> Result<Texts, Mem>
-    ensures { (list : List Line) → IsOrderOf list orders.now → ((t : List ℕ) → is_some (get_by_text all.now t) ≡ tasks.is_task list t) → IfOk result (λ made. made ≡ filter (tasks.comes_after list task.now) (tasks.task_names list)) }
+    ensures { (list : List Line) → IsOrderOf list orders.now
+        → ((t : List ℕ) → is_some (get_by_text all.now t) ≡ tasks.is_task list t)
+        → IfOk result (λ made. made ≡ filter (tasks.comes_after list task.now) (tasks.task_names list)) }
 {
     match orders.get(task) {
         Some(set) => Ok(tasks_among(alloc, set, all)?),

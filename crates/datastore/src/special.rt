@@ -66,7 +66,8 @@ fn is_special(named: &BTreeMap<String, Named>, name: &str) -> bool
 
 /// The names that have to be told again where names are moved.
 pub(crate) fn special_of(alloc: Global, named: &BTreeMap<String, Named>) -> Result<Texts, Mem>
-    ensures { IfOk result (λ made. (name : List ℕ) → is_in name made ≡ not (is_plain name (get_by_text named.now name))) }
+    ensures { IfOk result (λ made. (name : List ℕ) → is_in name made
+        ≡ not (is_plain name (get_by_text named.now name))) }
 {
     let names = own_keys(alloc, named)?;
     let mut made = Texts::new(alloc);

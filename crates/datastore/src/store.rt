@@ -353,7 +353,8 @@ fn with_part(past: Vec<Vec<EntryLine>>, part: Vec<EntryLine>) -> Result<Vec<Vec<
 
 /// Puts copies of the entries of tasks behind those of what names that were moved made of.
 fn push_past(lines: &mut Vec<EntryLine>, past: &[Vec<EntryLine>]) -> Result<(), Mem>
-    ensures { OnOk result ((list : List Line) → lines.old.items ≡ filter frozen.is_task_line list → lines.new.items ≡ filter frozen.is_task_line (fold moved_with list past.now)) }
+    ensures { OnOk result ((list : List Line) → lines.old.items ≡ filter frozen.is_task_line list
+        → lines.new.items ≡ filter frozen.is_task_line (fold moved_with list past.now)) }
 {
     for part in past {
         push_tasks(lines, part.as_slice())?;

@@ -19,21 +19,24 @@ pub(crate) type Names = BTreeMap<String, ()>;
 
 /// Puts a name into the set.
 pub(crate) fn put(set: &mut Names, alloc: Global, name: &str) -> Result<(), Mem>
-    ensures { OnOk result ((b : List ℕ) → is_some (get_by_text set.new b) ≡ (bytes_eq name.now b || is_some (get_by_text set.old b))) }
+    ensures { OnOk result ((b : List ℕ) → is_some (get_by_text set.new b)
+        ≡ (bytes_eq name.now b || is_some (get_by_text set.old b))) }
 {
     put_value(set, alloc, name, ())
 }
 
 /// Takes a name out of the set.
 fn drop_name(set: &mut Names, name: &str)
-    ensures { (b : List ℕ) → is_some (get_by_text set.new b) ≡ (not (bytes_eq name.now b) && is_some (get_by_text set.old b)) }
+    ensures { (b : List ℕ) → is_some (get_by_text set.new b)
+        ≡ (not (bytes_eq name.now b) && is_some (get_by_text set.old b)) }
 {
     drop_value(set, name);
 }
 
 /// What an entry makes of the set of tasks.
 fn note_task(set: &mut Names, alloc: Global, line: &EntryLine) -> Result<(), Mem>
-    ensures { OnOk result ((t : List ℕ) → is_some (get_by_text set.new t) ≡ tasks.is_task_after t (is_some (get_by_text set.old t)) line.now) }
+    ensures { OnOk result ((t : List ℕ) → is_some (get_by_text set.new t)
+        ≡ tasks.is_task_after t (is_some (get_by_text set.old t)) line.now) }
 {
     match line {
         EntryLine::Task { task, .. } => put(set, alloc, task.as_str()),
@@ -64,7 +67,9 @@ fn push_task(
     orders: &Orders,
     task: &Text,
 ) -> Result<(), Mem>
-    ensures { (list : List Line) → IsOrderOf list orders.now → ((t : List ℕ) → is_some (get_by_text set.now t) ≡ tasks.is_task list t) → OnOk result (made.new.items ≡ made.old.items ++ with_order list task.now ∷ []) }
+    ensures { (list : List Line) → IsOrderOf list orders.now
+        → ((t : List ℕ) → is_some (get_by_text set.now t) ≡ tasks.is_task list t)
+        → OnOk result (made.new.items ≡ made.old.items ++ with_order list task.now ∷ []) }
 {
     let before = order_of(alloc, orders, set, task.as_str())?;
     let task = task.copy()?;
@@ -79,7 +84,9 @@ fn push_tasks(
     orders: &Orders,
     all: &[Text],
 ) -> Result<(), Mem>
-    ensures { (list : List Line) → IsOrderOf list orders.now → ((t : List ℕ) → is_some (get_by_text set.now t) ≡ tasks.is_task list t) → OnOk result (made.new.items ≡ made.old.items ++ map (with_order list) all.now) }
+    ensures { (list : List Line) → IsOrderOf list orders.now
+        → ((t : List ℕ) → is_some (get_by_text set.now t) ≡ tasks.is_task list t)
+        → OnOk result (made.new.items ≡ made.old.items ++ map (with_order list) all.now) }
 {
     for task in all {
         push_task(made, alloc, set, orders, task)?;
@@ -89,7 +96,9 @@ fn push_tasks(
 
 /// The tasks of a set in byte order, each with those that it comes after.
 fn with_orders(alloc: Global, set: &Names, orders: &Orders) -> Result<Vec<(Text, Texts)>, Mem>
-    ensures { (list : List Line) → IsOrderOf list orders.now → ((t : List ℕ) → is_some (get_by_text set.now t) ≡ tasks.is_task list t) → IfOk result (λ made. made.items ≡ tasks.tasks list) }
+    ensures { (list : List Line) → IsOrderOf list orders.now
+        → ((t : List ℕ) → is_some (get_by_text set.now t) ≡ tasks.is_task list t)
+        → IfOk result (λ made. made.items ≡ tasks.tasks list) }
 {
     let all = names_of(alloc, set)?;
     let mut made = Vec::new(alloc);
@@ -99,7 +108,8 @@ fn with_orders(alloc: Global, set: &Names, orders: &Orders) -> Result<Vec<(Text,
 
 /// The tasks in byte order, each with those that it comes after. The lines are all entries of tasks.
 pub(crate) fn ordered_tasks(alloc: Global, lines: &[EntryLine]) -> Result<Vec<(Text, Texts)>, Mem>
-    ensures { (list : List Line) → lines.now ≡ filter is_task_line list → IfOk result (λ made. made.items ≡ tasks.tasks list) }
+    ensures { (list : List Line) → lines.now ≡ filter is_task_line list
+        → IfOk result (λ made. made.items ≡ tasks.tasks list) }
 {
     let set = tasks_of(alloc, lines)?;
     let orders = orders_of(alloc, lines)?;

@@ -36,7 +36,8 @@ pub fn depths_of(alloc: Global, edges: &[ListOf<u32>]) -> Result<Depths, Mem>
 fn path_from(alloc: Global, path: &[usize], node: usize) -> Result<Vec<u32>, Mem>
     requires small { All (λ v. v < 2 ^ 32) path.now }
     requires met { Contains path.now node }
-    ensures { IfOk result (λ cycle. (place : ℕ) × (place < length path.now) × (slice_index_or path.now place 0 ≡ node) × (cycle.items ≡ drop place path.now)) }
+    ensures { IfOk result (λ cycle. (place : ℕ) × (place < length path.now) × (slice_index_or path.now place 0 ≡ node)
+        × (cycle.items ≡ drop place path.now)) }
 {
     let place = place_of(path, node);
     let mut cycle = Vec::with_capacity(alloc, path.len() - place)?;

@@ -37,7 +37,8 @@ impl Frontier {
         ensures found { IfOk result (λ place. self.new.found.items ≡ with_node self.old.found.items node) }
         ensures place { IfOk result (λ place. slice_get self.new.found.items place ≡ Some node) }
         ensures count { IfOk result (λ place. length self.new.numbers.items ≡ length self.old.numbers.items) }
-        ensures room { IfOk result (λ place. room self.new.found.items self.new.numbers.items ≡ room self.old.found.items self.old.numbers.items) }
+        ensures room { IfOk result (λ place. room self.new.found.items self.new.numbers.items
+            ≡ room self.old.found.items self.old.numbers.items) }
     {
         if let Some(place) = self.numbers[node] {
             return Ok(place);
@@ -54,9 +55,11 @@ impl Frontier {
         requires within { All (λ node. node < length self.old.numbers.items) nodes.now }
         ensures frontier { IfOk result (λ places. IsFrontier self.new.found.items self.new.numbers.items) }
         ensures found { IfOk result (λ places. self.new.found.items ≡ with_nodes self.old.found.items nodes.now) }
-        ensures places { IfOk result (λ places. AllZip (λ node place. slice_get self.new.found.items place ≡ Some node) nodes.now places.items) }
+        ensures places { IfOk result (λ places. AllZip
+            (λ node place. slice_get self.new.found.items place ≡ Some node) nodes.now places.items) }
         ensures count { IfOk result (λ places. length self.new.numbers.items ≡ length self.old.numbers.items) }
-        ensures room { IfOk result (λ places. room self.new.found.items self.new.numbers.items ≡ room self.old.found.items self.old.numbers.items) }
+        ensures room { IfOk result (λ places. room self.new.found.items self.new.numbers.items
+            ≡ room self.old.found.items self.old.numbers.items) }
     {
         let mut places = Vec::with_capacity(alloc, nodes.len())?;
         for node in nodes {

@@ -78,7 +78,8 @@ impl Walk {
         requires walk { IsWalk edges.now self.old.marks.items self.old.left.items self.old.path.items }
         requires within { node < length edges.now }
         requires few { length edges.now < 2 ^ 32 }
-        ensures marks { self.new.marks.items ≡ slice_set self.old.marks.items node (Mark.Done (depth_over self.old.marks.items (edges_from edges.now node))) }
+        ensures marks { self.new.marks.items ≡ slice_set self.old.marks.items node
+            (Mark.Done (depth_over self.old.marks.items (edges_from edges.now node))) }
         ensures path { self.new.path.items ≡ take (length self.old.path.items - 1) self.old.path.items }
         ensures left { self.new.left ≡ self.old.left }
     {
@@ -95,8 +96,11 @@ impl Walk {
         requires walk { IsWalk edges.now self.old.marks.items self.old.left.items self.old.path.items }
         requires last { slice_get self.old.path.items (length self.old.path.items - 1) ≡ Some node }
         requires opened { mark_at self.old.marks.items node ≡ Mark.Open }
-        ensures walk { IfOk result (λ met. IsWalk edges.now self.new.marks.items self.new.left.items self.new.path.items) }
-        ensures on { IfOk result (λ met. MatchOption met (work_left self.new.marks.items self.new.left.items self.new.path.items < work_left self.old.marks.items self.old.left.items self.old.path.items) (ClosesAt edges.now self.new.path.items)) }
+        ensures walk { IfOk result (λ met. IsWalk edges.now self.new.marks.items self.new.left.items
+            self.new.path.items) }
+        ensures on { IfOk result (λ met. MatchOption met
+            (work_left self.new.marks.items self.new.left.items self.new.path.items < work_left self.old.marks.items
+            self.old.left.items self.old.path.items) (ClosesAt edges.now self.new.path.items)) }
         ensures met { IfOk result (λ met. NeverNew self.old.marks.items self.new.marks.items) }
     {
         let left = self.left[node];
@@ -157,8 +161,11 @@ impl Walk {
         requires few { length edges.now < 2 ^ 32 }
         requires walk { IsWalk edges.now self.old.marks.items self.old.left.items self.old.path.items }
         requires last { slice_get self.old.path.items (length self.old.path.items - 1) ≡ Some node }
-        ensures walk { IfOk result (λ met. IsWalk edges.now self.new.marks.items self.new.left.items self.new.path.items) }
-        ensures on { IfOk result (λ met. MatchOption met (work_left self.new.marks.items self.new.left.items self.new.path.items < work_left self.old.marks.items self.old.left.items self.old.path.items) (ClosesAt edges.now self.new.path.items)) }
+        ensures walk { IfOk result (λ met. IsWalk edges.now self.new.marks.items self.new.left.items
+            self.new.path.items) }
+        ensures on { IfOk result (λ met. MatchOption met
+            (work_left self.new.marks.items self.new.left.items self.new.path.items < work_left self.old.marks.items
+            self.old.left.items self.old.path.items) (ClosesAt edges.now self.new.path.items)) }
         ensures met { IfOk result (λ met. NeverNew self.old.marks.items self.new.marks.items) }
     {
         if self.is_open(node) {
@@ -191,8 +198,10 @@ impl Walk {
         requires root { root < length edges.now }
         requires walk { IsWalk edges.now self.old.marks.items self.old.left.items self.old.path.items }
         requires empty { self.old.path.items ≡ [] }
-        ensures walk { IfOk result (λ met. IsWalk edges.now self.new.marks.items self.new.left.items self.new.path.items) }
-        ensures closed { IfOk result (λ met. MatchOption met (self.new.path.items ≡ []) (ClosesAt edges.now self.new.path.items)) }
+        ensures walk { IfOk result (λ met. IsWalk edges.now self.new.marks.items self.new.left.items
+            self.new.path.items) }
+        ensures closed { IfOk result (λ met. MatchOption met (self.new.path.items ≡ [])
+            (ClosesAt edges.now self.new.path.items)) }
         ensures met { IfOk result (λ met. NeverNew self.old.marks.items self.new.marks.items) }
         ensures root { IfOk result (λ met. mark_at self.new.marks.items root ≡ Mark.New → ⊥) }
     {

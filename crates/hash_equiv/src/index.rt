@@ -117,7 +117,8 @@ fn unihash_at(
     task: &str,
     manifest: &[ManifestLine],
 ) -> Option<Hash>
-    ensures { result ≡ option_map (λ r. r.unihash) (find (is_row_for pn.now task.now manifest.now) (rows_at (values_of rows.now.entries) (place ∷ []))) }
+    ensures { result ≡ option_map (λ r. r.unihash) (find (is_row_for pn.now task.now manifest.now)
+        (rows_at (values_of rows.now.entries) (place ∷ []))) }
 {
     match rows.get_index(place) {
         Some((_, row)) if is_row_for(row, pn, task, manifest) => Some(row.unihash),
@@ -133,7 +134,8 @@ fn first_at(
     task: &str,
     manifest: &[ManifestLine],
 ) -> Option<Hash>
-    ensures { result ≡ option_map (λ r. r.unihash) (find (is_row_for pn.now task.now manifest.now) (rows_at (values_of rows.now.entries) places.now)) }
+    ensures { result ≡ option_map (λ r. r.unihash) (find (is_row_for pn.now task.now manifest.now)
+        (rows_at (values_of rows.now.entries) places.now)) }
 {
     for place in places {
         let found = unihash_at(rows, *place, pn, task, manifest);
@@ -183,7 +185,8 @@ impl Index {
     /// Adds a row, where its name has none. A row that is there changes nothing; where a call is refused, the index is as before.
     pub fn add(&mut self, alloc: Global, row: EquivRow) -> Result<(), EquivFault>
         ensures added { row_at self.old row.name ≡ None → OnOk result (self.new ≡ self.old ++ row ∷ []) }
-        ensures known { (held : EquivRow) → row_at self.old row.name ≡ Some held → OnOk result ((held.sig ≡ row.sig) × (held.manifest ≡ row.manifest) × (self.new ≡ self.old)) }
+        ensures known { (held : EquivRow) → row_at self.old row.name ≡ Some held
+            → OnOk result ((held.sig ≡ row.sig) × (held.manifest ≡ row.manifest) × (self.new ≡ self.old)) }
         ensures err { IfErr result (IsEquivFault self.old row) }
         ensures same { OnErr result (self.new ≡ self.old) }
     {

@@ -24,7 +24,8 @@ pub(crate) fn put_place(
     pn: &str,
     place: usize,
 ) -> Result<(), Mem>
-    ensures ok { OnOk result ((t : List ℕ) → places_of of_pn.new t ≡ places_of of_pn.old t ++ (if bytes_eq pn.now t then place ∷ [] else [])) }
+    ensures ok { OnOk result ((t : List ℕ) → places_of of_pn.new t ≡ places_of of_pn.old t
+        ++ (if bytes_eq pn.now t then place ∷ [] else [])) }
     ensures err { OnErr result ((t : List ℕ) → places_of of_pn.new t ≡ places_of of_pn.old t) }
 {
     match of_pn.get_mut(pn) {

@@ -71,7 +71,8 @@ pub(crate) fn named_files(
     ending: &str,
     paths: &[Text],
 ) -> Result<Texts, Mem>
-    ensures { IfOk result (λ made. IsStrictlySortedBy (slice_cmp nat_cmp) paths.now → (words : List (List ℕ)) → globs.now ≡ filter_map path_named words → made ≡ layers.named_files words ending.now paths.now) }
+    ensures { IfOk result (λ made. IsStrictlySortedBy (slice_cmp nat_cmp) paths.now → (words : List (List ℕ))
+        → globs.now ≡ filter_map path_named words → made ≡ layers.named_files words ending.now paths.now) }
 {
     wanted_files(alloc, globs, ending, paths)
 }

@@ -9,7 +9,8 @@ use tree_model::Mem;
 /// What is left of a pattern and of a path behind the bytes that they share, up to the pattern's first wildcard. None where they
 /// differ before it.
 fn behind_shared<'a, 'b>(pattern: &'a [u8], path: &'b [u8]) -> Option<(&'a [u8], &'b [u8])>
-    ensures { MatchOption result (matches pattern.now path.now ≡ false) (λ left. matches pattern.now path.now ≡ matches left.0.now left.1.now) }
+    ensures { MatchOption result (matches pattern.now path.now ≡ false)
+        (λ left. matches pattern.now path.now ≡ matches left.0.now left.1.now) }
 {
     let mut left = pattern;
     let mut rest = path;
@@ -35,7 +36,8 @@ fn cell(byte: u8, next: u8, row: &[bool], made: &[bool], left: usize, later: usi
     requires row { left + 1 < length row.now }
     requires made { left < length made.now }
     requires later { later ≤ left }
-    ensures { result ≡ cell_of byte next (slice_index_or row.now (left + 1) false) (slice_index_or row.now left false) (slice_index_or row.now later false) (slice_index_or made.now left false) }
+    ensures { result ≡ cell_of byte next (slice_index_or row.now (left + 1) false) (slice_index_or row.now left false)
+        (slice_index_or row.now later false) (slice_index_or made.now left false) }
 {
     match byte {
         b'*' => row[left + 1] || (next != b'/' && made[left]),
@@ -68,7 +70,8 @@ fn first_cell(byte: u8, row: &[bool]) -> bool
 /// The row of a pattern with one byte more in front: whether it matches, for each number of bytes that are left of the path.
 fn with_byte(alloc: Global, byte: u8, path: &[u8], row: &[bool]) -> Result<Vec<bool>, Mem>
     requires { length row.now ≡ length path.now + 1 }
-    ensures { (pattern : List ℕ) → row.now ≡ rows pattern path.now → IfOk result (λ made. made.items ≡ rows (byte ∷ pattern) path.now) }
+    ensures { (pattern : List ℕ) → row.now ≡ rows pattern path.now
+        → IfOk result (λ made. made.items ≡ rows (byte ∷ pattern) path.now) }
 {
     let mut made = Vec::with_capacity(alloc, row.len())?;
     let first = first_cell(byte, row);

@@ -67,7 +67,9 @@ fn listed<L: Layers>(alloc: Global, layers: &mut L) -> Result<Texts, LayerFault>
 
 /// The appends among the paths of all files, in the order of these layers.
 fn appends_of(alloc: Global, layers: &[Text], globs: &[Text], paths: &[Text]) -> Result<Texts, Mem>
-    ensures { IfOk result (λ appends. IsStrictlySortedBy (slice_cmp nat_cmp) paths.now → (words : List (List ℕ)) → globs.now ≡ filter_map path_named words → appends ≡ meant.in_layer_order layers.now (meant.named_files words (codes ".bbappend") paths.now)) }
+    ensures { IfOk result (λ appends. IsStrictlySortedBy (slice_cmp nat_cmp) paths.now → (words : List (List ℕ))
+        → globs.now ≡ filter_map path_named words → appends
+        ≡ meant.in_layer_order layers.now (meant.named_files words (codes ".bbappend") paths.now)) }
 {
     let appends = named_files(alloc, globs, ".bbappend", paths)?;
     in_layer_order(alloc, layers, appends.as_slice())
@@ -80,8 +82,11 @@ fn lists_of(
     globs: &[Text],
     paths: &[Text],
 ) -> Result<(Texts, Texts), Mem>
-    ensures recipes { IfOk result (λ lists. IsStrictlySortedBy (slice_cmp nat_cmp) paths.now → (words : List (List ℕ)) → globs.now ≡ filter_map path_named words → lists.0 ≡ meant.named_files words (codes ".bb") paths.now) }
-    ensures appends { IfOk result (λ lists. IsStrictlySortedBy (slice_cmp nat_cmp) paths.now → (words : List (List ℕ)) → globs.now ≡ filter_map path_named words → lists.1 ≡ meant.in_layer_order layers.now (meant.named_files words (codes ".bbappend") paths.now)) }
+    ensures recipes { IfOk result (λ lists. IsStrictlySortedBy (slice_cmp nat_cmp) paths.now → (words : List (List ℕ))
+        → globs.now ≡ filter_map path_named words → lists.0 ≡ meant.named_files words (codes ".bb") paths.now) }
+    ensures appends { IfOk result (λ lists. IsStrictlySortedBy (slice_cmp nat_cmp) paths.now → (words : List (List ℕ))
+        → globs.now ≡ filter_map path_named words → lists.1
+        ≡ meant.in_layer_order layers.now (meant.named_files words (codes ".bbappend") paths.now)) }
 {
     let recipes = named_files(alloc, globs, ".bb", paths)?;
     let appends = appends_of(alloc, layers, globs, paths)?;
@@ -94,8 +99,10 @@ fn lists_over<L: Layers>(
     layers: &mut L,
     made: &Configured,
 ) -> Result<(Texts, Texts), LayerFault>
-    ensures ok { IfOk result (λ lists. L.tells → (paths : List (List ℕ)) → IsListing [] (L.files layers.old) paths → with_lists paths (configured_meant made.now) ≡ Ok (listed_meant made.now lists.0 lists.1)) }
-    ensures err { IfErr result (λ fault. L.tells → (paths : List (List ℕ)) → IsListing [] (L.files layers.old) paths → IsLayerFault fault (with_lists paths (configured_meant made.now))) }
+    ensures ok { IfOk result (λ lists. L.tells → (paths : List (List ℕ)) → IsListing [] (L.files layers.old) paths
+        → with_lists paths (configured_meant made.now) ≡ Ok (listed_meant made.now lists.0 lists.1)) }
+    ensures err { IfErr result (λ fault. L.tells → (paths : List (List ℕ)) → IsListing [] (L.files layers.old) paths
+        → IsLayerFault fault (with_lists paths (configured_meant made.now))) }
     ensures same { L.files layers.new ≡ L.files layers.old }
     ensures cause { Counts (L.faults layers.old) (L.faults layers.new) (layers_failed result) }
 {
@@ -124,8 +131,10 @@ fn with_lists<L: Layers>(
     layers: &mut L,
     made: Configured,
 ) -> Result<Config, LayerFault>
-    ensures ok { IfOk result (λ config. L.tells → (paths : List (List ℕ)) → IsListing [] (L.files layers.old) paths → with_lists paths (configured_meant made) ≡ Ok (config_meant config)) }
-    ensures err { IfErr result (λ fault. L.tells → (paths : List (List ℕ)) → IsListing [] (L.files layers.old) paths → IsLayerFault fault (with_lists paths (configured_meant made))) }
+    ensures ok { IfOk result (λ config. L.tells → (paths : List (List ℕ)) → IsListing [] (L.files layers.old) paths
+        → with_lists paths (configured_meant made) ≡ Ok (config_meant config)) }
+    ensures err { IfErr result (λ fault. L.tells → (paths : List (List ℕ)) → IsListing [] (L.files layers.old) paths
+        → IsLayerFault fault (with_lists paths (configured_meant made))) }
     ensures same { L.files layers.new ≡ L.files layers.old }
     ensures cause { Counts (L.faults layers.old) (L.faults layers.new) (layers_failed result) }
 {
@@ -149,8 +158,10 @@ fn with_lists<L: Layers>(
 /// Refused as the definition is: NoSuchLayer, BadPattern, Load and Data, each with its place; `List`, and `Load` of the kind
 /// `Read`, only where the layers' count of faults rose; `Memory`. No call changes a file.
 pub fn read_layers<L: Layers>(alloc: Global, layers: &mut L) -> Result<Config, LayerFault>
-    ensures ok { IfOk result (λ made. L.tells → (paths : List (List ℕ)) → IsListing [] (L.files layers.old) paths → meant.config (sources_of (L.files layers.old)) paths ≡ Ok (config_meant made)) }
-    ensures err { IfErr result (λ fault. L.tells → (paths : List (List ℕ)) → IsListing [] (L.files layers.old) paths → IsLayerFault fault (meant.config (sources_of (L.files layers.old)) paths)) }
+    ensures ok { IfOk result (λ made. L.tells → (paths : List (List ℕ)) → IsListing [] (L.files layers.old) paths
+        → meant.config (sources_of (L.files layers.old)) paths ≡ Ok (config_meant made)) }
+    ensures err { IfErr result (λ fault. L.tells → (paths : List (List ℕ)) → IsListing [] (L.files layers.old) paths
+        → IsLayerFault fault (meant.config (sources_of (L.files layers.old)) paths)) }
     ensures same { L.files layers.new ≡ L.files layers.old }
     ensures cause { Counts (L.faults layers.old) (L.faults layers.new) (layers_failed result) }
 {

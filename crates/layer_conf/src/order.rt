@@ -108,7 +108,8 @@ fn places_of(alloc: Global, folders: &[Option<Text>], paths: &[Text]) -> Result<
 /// Puts those paths at the end whose place is this one, as they are given.
 fn push_placed(made: &mut Texts, paths: &[Text], places: &[usize], k: usize) -> Result<(), Mem>
     requires { length paths.now ≡ length places.now }
-    ensures { OnOk result ((place : List ℕ → ℕ) → places.now ≡ map place paths.now → made.new ≡ made.old ++ filter (λ path. place path == k) paths.now) }
+    ensures { OnOk result ((place : List ℕ → ℕ) → places.now ≡ map place paths.now
+        → made.new ≡ made.old ++ filter (λ path. place path == k) paths.now) }
 {
     for (i, path) in paths.iter().enumerate() {
         if places[i] == k {

@@ -24,7 +24,8 @@ fn has_bracket(word: &str) -> bool
 
 /// The first word with a `[`, which is refused: it begins a set of characters elsewhere (own rule).
 pub(crate) fn bad_pattern(words: &[Text]) -> Result<Option<Text>, Mem>
-    ensures { IfOk result (λ found. MatchOption found (layers.patterns words.now ≡ Ok words.now) (λ word. layers.patterns words.now ≡ Err (layers.bad_pattern word))) }
+    ensures { IfOk result (λ found. MatchOption found (layers.patterns words.now ≡ Ok words.now)
+        (λ word. layers.patterns words.now ≡ Err (layers.bad_pattern word))) }
 {
     for word in words {
         if has_bracket(word.as_str()) {

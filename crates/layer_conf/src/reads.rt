@@ -100,8 +100,10 @@ fn bitbake_conf<L: Layers>(
     reading: Reading,
     must: bool,
 ) -> Result<Reading, LayerFault>
-    ensures ok { IfOk result (λ made. L.tells → meant.bitbake_conf (sources_of (L.files layers.old)) must reading ≡ Ok made) }
-    ensures err { IfErr result (λ fault. L.tells → IsLayerFault fault (meant.bitbake_conf (sources_of (L.files layers.old)) must reading)) }
+    ensures ok { IfOk result (λ made. L.tells → meant.bitbake_conf (sources_of (L.files layers.old)) must reading
+        ≡ Ok made) }
+    ensures err { IfErr result (λ fault. L.tells → IsLayerFault fault
+        (meant.bitbake_conf (sources_of (L.files layers.old)) must reading)) }
     ensures same { L.files layers.new ≡ L.files layers.old }
     ensures cause { Counts (L.faults layers.old) (L.faults layers.new) (layers_failed result) }
 {
@@ -121,8 +123,10 @@ fn layer_for<L: Layers>(
     reading: Reading,
 ) -> Result<Reading, LayerFault>
     requires { layer.now ≡ Some word.now }
-    ensures ok { IfOk result (λ made. L.tells → meant.layer_at (sources_of (L.files layers.old)) word.now (Some path.now) reading ≡ Ok made) }
-    ensures err { IfErr result (λ fault. L.tells → IsLayerFault fault (meant.layer_at (sources_of (L.files layers.old)) word.now (Some path.now) reading)) }
+    ensures ok { IfOk result (λ made. L.tells → meant.layer_at (sources_of (L.files layers.old)) word.now
+        (Some path.now) reading ≡ Ok made) }
+    ensures err { IfErr result (λ fault. L.tells → IsLayerFault fault
+        (meant.layer_at (sources_of (L.files layers.old)) word.now (Some path.now) reading)) }
     ensures same { L.files layers.new ≡ L.files layers.old }
     ensures cause { Counts (L.faults layers.old) (L.faults layers.new) (layers_failed result) }
 {
@@ -141,8 +145,10 @@ fn layer_there<L: Layers>(
     path: &str,
     reading: Reading,
 ) -> Result<Reading, LayerFault>
-    ensures ok { IfOk result (λ made. L.tells → meant.layer_at (sources_of (L.files layers.old)) word.now (Some path.now) reading ≡ Ok made) }
-    ensures err { IfErr result (λ fault. L.tells → IsLayerFault fault (meant.layer_at (sources_of (L.files layers.old)) word.now (Some path.now) reading)) }
+    ensures ok { IfOk result (λ made. L.tells → meant.layer_at (sources_of (L.files layers.old)) word.now
+        (Some path.now) reading ≡ Ok made) }
+    ensures err { IfErr result (λ fault. L.tells → IsLayerFault fault
+        (meant.layer_at (sources_of (L.files layers.old)) word.now (Some path.now) reading)) }
     ensures same { L.files layers.new ≡ L.files layers.old }
     ensures cause { Counts (L.faults layers.old) (L.faults layers.new) (layers_failed result) }
 {
@@ -160,8 +166,10 @@ fn layer_named<L: Layers>(
     path: Option<Text>,
     reading: Reading,
 ) -> Result<Reading, LayerFault>
-    ensures ok { IfOk result (λ made. L.tells → meant.layer_at (sources_of (L.files layers.old)) word.now path reading ≡ Ok made) }
-    ensures err { IfErr result (λ fault. L.tells → IsLayerFault fault (meant.layer_at (sources_of (L.files layers.old)) word.now path reading)) }
+    ensures ok { IfOk result (λ made. L.tells → meant.layer_at (sources_of (L.files layers.old)) word.now path reading
+        ≡ Ok made) }
+    ensures err { IfErr result (λ fault. L.tells → IsLayerFault fault
+        (meant.layer_at (sources_of (L.files layers.old)) word.now path reading)) }
     ensures same { L.files layers.new ≡ L.files layers.old }
     ensures cause { Counts (L.faults layers.old) (L.faults layers.new) (layers_failed result) }
 {
@@ -178,8 +186,10 @@ fn layer_at<L: Layers>(
     word: &Text,
     reading: Reading,
 ) -> Result<Reading, LayerFault>
-    ensures ok { IfOk result (λ made. L.tells → meant.layer_at (sources_of (L.files layers.old)) word.now (meant.layer_file word.now) reading ≡ Ok made) }
-    ensures err { IfErr result (λ fault. L.tells → IsLayerFault fault (meant.layer_at (sources_of (L.files layers.old)) word.now (meant.layer_file word.now) reading)) }
+    ensures ok { IfOk result (λ made. L.tells → meant.layer_at (sources_of (L.files layers.old)) word.now
+        (meant.layer_file word.now) reading ≡ Ok made) }
+    ensures err { IfErr result (λ fault. L.tells → IsLayerFault fault
+        (meant.layer_at (sources_of (L.files layers.old)) word.now (meant.layer_file word.now) reading)) }
     ensures same { L.files layers.new ≡ L.files layers.old }
     ensures cause { Counts (L.faults layers.old) (L.faults layers.new) (layers_failed result) }
 {
@@ -196,8 +206,10 @@ fn layers_after<L: Layers>(
     words: &[Text],
     first: Reading,
 ) -> Result<Reading, LayerFault>
-    ensures ok { IfOk result (λ made. L.tells → meant.layers_after (sources_of (L.files layers.old)) words.now first ≡ Ok made) }
-    ensures err { IfErr result (λ fault. L.tells → IsLayerFault fault (meant.layers_after (sources_of (L.files layers.old)) words.now first)) }
+    ensures ok { IfOk result (λ made. L.tells → meant.layers_after (sources_of (L.files layers.old)) words.now first
+        ≡ Ok made) }
+    ensures err { IfErr result (λ fault. L.tells → IsLayerFault fault
+        (meant.layers_after (sources_of (L.files layers.old)) words.now first)) }
     ensures same { L.files layers.new ≡ L.files layers.old }
     ensures cause { Counts (L.faults layers.old) (L.faults layers.new) (layers_failed result) }
 {
@@ -218,8 +230,10 @@ fn with_layers<L: Layers>(
     first: Reading,
     words: Texts,
 ) -> Result<Configured, LayerFault>
-    ensures ok { IfOk result (λ made. L.tells → layered_over (sources_of (L.files layers.old)) first words ≡ Ok (configured_meant made)) }
-    ensures err { IfErr result (λ fault. L.tells → IsLayerFault fault (layered_over (sources_of (L.files layers.old)) first words)) }
+    ensures ok { IfOk result (λ made. L.tells → layered_over (sources_of (L.files layers.old)) first words
+        ≡ Ok (configured_meant made)) }
+    ensures err { IfErr result (λ fault. L.tells → IsLayerFault fault
+        (layered_over (sources_of (L.files layers.old)) first words)) }
     ensures same { L.files layers.new ≡ L.files layers.old }
     ensures cause { Counts (L.faults layers.old) (L.faults layers.new) (layers_failed result) }
 {
@@ -242,8 +256,10 @@ fn layered<L: Layers>(
     layers: &mut L,
     first: Reading,
 ) -> Result<Configured, LayerFault>
-    ensures ok { IfOk result (λ made. L.tells → layered_from (sources_of (L.files layers.old)) first ≡ Ok (configured_meant made)) }
-    ensures err { IfErr result (λ fault. L.tells → IsLayerFault fault (layered_from (sources_of (L.files layers.old)) first)) }
+    ensures ok { IfOk result (λ made. L.tells → layered_from (sources_of (L.files layers.old)) first
+        ≡ Ok (configured_meant made)) }
+    ensures err { IfErr result (λ fault. L.tells → IsLayerFault fault
+        (layered_from (sources_of (L.files layers.old)) first)) }
     ensures same { L.files layers.new ≡ L.files layers.old }
     ensures cause { Counts (L.faults layers.old) (L.faults layers.new) (layers_failed result) }
 {
@@ -255,7 +271,8 @@ fn layered<L: Layers>(
 
 /// The configuration without layers.
 fn flat<L: Layers>(alloc: Global, layers: &mut L) -> Result<Configured, LayerFault>
-    ensures ok { IfOk result (λ made. L.tells → meant.flat (sources_of (L.files layers.old)) ≡ Ok (configured_meant made)) }
+    ensures ok { IfOk result (λ made. L.tells → meant.flat (sources_of (L.files layers.old))
+        ≡ Ok (configured_meant made)) }
     ensures err { IfErr result (λ fault. L.tells → IsLayerFault fault (meant.flat (sources_of (L.files layers.old)))) }
     ensures same { L.files layers.new ≡ L.files layers.old }
     ensures cause { Counts (L.faults layers.old) (L.faults layers.new) (layers_failed result) }
@@ -278,8 +295,10 @@ pub(crate) fn read_configured<L: Layers>(
     alloc: Global,
     layers: &mut L,
 ) -> Result<Configured, LayerFault>
-    ensures ok { IfOk result (λ made. L.tells → meant.configured (sources_of (L.files layers.old)) ≡ Ok (configured_meant made)) }
-    ensures err { IfErr result (λ fault. L.tells → IsLayerFault fault (meant.configured (sources_of (L.files layers.old)))) }
+    ensures ok { IfOk result (λ made. L.tells → meant.configured (sources_of (L.files layers.old))
+        ≡ Ok (configured_meant made)) }
+    ensures err { IfErr result (λ fault. L.tells → IsLayerFault fault
+        (meant.configured (sources_of (L.files layers.old)))) }
     ensures same { L.files layers.new ≡ L.files layers.old }
     ensures cause { Counts (L.faults layers.old) (L.faults layers.new) (layers_failed result) }
 {

@@ -19,7 +19,10 @@ pub fn greatest_law()
 /// Reading a file, a class, or a file that is searched adds entries behind those before, which stay; and no class counts as
 /// read twice.
 pub fn reading_files_laws()
-    ensures file { (sources : Sources) (kind : FileKind) (path : List ℕ) (old new : Loaded) → entries sources kind path old ≡ Ok new → Extends old new }
-    ensures class { (sources : Sources) (must : Bool) (name : List ℕ) (old new : Loaded) → class_entries sources must name old ≡ Ok new → Extends old new }
-    ensures searched { (sources : Sources) (kind : FileKind) (must : Bool) (path : List ℕ) (old new : Loaded) → searched_entries sources kind must path old ≡ Ok new → Extends old new }
+    ensures file { (sources : Sources) (kind : FileKind) (path : List ℕ) (old new : Loaded)
+        → entries sources kind path old ≡ Ok new → Extends old new }
+    ensures class { (sources : Sources) (must : Bool) (name : List ℕ) (old new : Loaded)
+        → class_entries sources must name old ≡ Ok new → Extends old new }
+    ensures searched { (sources : Sources) (kind : FileKind) (must : Bool) (path : List ℕ) (old new : Loaded)
+        → searched_entries sources kind must path old ≡ Ok new → Extends old new }
 {}

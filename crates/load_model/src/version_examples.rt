@@ -38,7 +38,8 @@ pub fn example_of_version_order()
     // the tie counts only behind all pieces
     ensures tie_last { version_cmp (codes "01.2") (codes "1.1") ≡ Greater }
     // digits have any length
-    ensures long_numbers { version_cmp (codes "99999999999999999999999999999999999999998") (codes "99999999999999999999999999999999999999999") ≡ Less }
+    ensures long_numbers { version_cmp (codes "99999999999999999999999999999999999999998")
+        (codes "99999999999999999999999999999999999999999") ≡ Less }
     // one text
     ensures same { version_cmp (codes "1.2~rc3+git") (codes "1.2~rc3+git") ≡ Equal }
     // nothing is less than a digit

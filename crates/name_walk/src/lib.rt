@@ -112,8 +112,10 @@ fn step_on<L: Leading>(
     requires ordered { in_byte_order more.old.items ≡ more.old.items }
     ensures ready { L.IsReady from.new }
     ensures ordered { OnOk result (in_byte_order more.new.items ≡ more.new.items) }
-    ensures done { OnOk result (with_more done.now more.new.items ≡ done_after name (with_more done.now more.old.items)) }
-    ensures todo { OnOk result (todo.new.items ≡ todo_after (L.led from.old) name (with_more done.now more.old.items) todo.old.items) }
+    ensures done { OnOk result (with_more done.now more.new.items
+        ≡ done_after name (with_more done.now more.old.items)) }
+    ensures todo { OnOk result (todo.new.items ≡ todo_after (L.led from.old) name (with_more done.now more.old.items)
+        todo.old.items) }
     ensures same { L.led from.new ≡ L.led from.old }
     ensures leaders { L.leaders from.new ≡ L.leaders from.old }
     ensures stays { L.Stays from.old from.new }
@@ -137,7 +139,8 @@ pub fn reach<L: Leading>(
     requires begun { in_byte_order done.now ≡ done.now }
     ensures ready { L.IsReady from.new }
     ensures ordered { IfOk result (λ more. in_byte_order more.items ≡ more.items) }
-    ensures least { (start : List (List ℕ)) → IsWalk (L.led from.old) start done.now todo.items → IfOk result (λ more. IsLeast (L.led from.old) start (with_more done.now more.items)) }
+    ensures least { (start : List (List ℕ)) → IsWalk (L.led from.old) start done.now todo.items
+        → IfOk result (λ more. IsLeast (L.led from.old) start (with_more done.now more.items)) }
     ensures same { L.led from.new ≡ L.led from.old }
     ensures leaders { L.leaders from.new ≡ L.leaders from.old }
     ensures stays { L.Stays from.old from.new }
@@ -157,7 +160,8 @@ pub fn least_of<'a>(
 ) -> Option<(&'a Text, &'a [Text], &'a [Text])>
     requires one { in_byte_order one.now ≡ one.now }
     requires other { in_byte_order other.now ≡ other.now }
-    ensures { MatchOption result (with_more one.now other.now ≡ []) (λ found. IsFirst one.now other.now found.0.now found.1.now found.2.now) }
+    ensures { MatchOption result (with_more one.now other.now ≡ [])
+        (λ found. IsFirst one.now other.now found.0.now found.1.now found.2.now) }
 {
     match one.split_first() {
         Some((first, rest)) => match other.split_first() {

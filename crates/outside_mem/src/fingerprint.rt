@@ -24,14 +24,16 @@ pub(crate) fn fingerprint_of(script: &str, laid: &Tree) -> Hash
 }
 
 fn feed_manifest(hasher: &mut Sha256, entries: &[(Text, Entry)])
-    ensures { (m : List ℕ) → Holds256 hasher.old m → Holds256 hasher.new (m ++ manifest_bytes (manifest_lines entries.now)) }
+    ensures { (m : List ℕ) → Holds256 hasher.old m → Holds256 hasher.new
+        (m ++ manifest_bytes (manifest_lines entries.now)) }
 {
     feed_number(hasher, entries.len());
     feed_lines(hasher, entries);
 }
 
 fn feed_lines(hasher: &mut Sha256, entries: &[(Text, Entry)])
-    ensures { (m : List ℕ) → Holds256 hasher.old m → Holds256 hasher.new (m ++ flat_map line_bytes (map line_of entries.now)) }
+    ensures { (m : List ℕ) → Holds256 hasher.old m → Holds256 hasher.new
+        (m ++ flat_map line_bytes (map line_of entries.now)) }
 {
     for entry in entries {
         feed_line(hasher, entry);

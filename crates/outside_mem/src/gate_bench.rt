@@ -175,7 +175,8 @@ impl<B: Bench> Bench for GateBench<B> {
     /// Fails where the bench is shut, or where the others didn't come.
     fn run(&mut self, alloc: Global, script: &str) -> Result<u32, BenchFault>
         requires cleared { B.tells → IsTrue (B.place (gated self.old)).cleared }
-        ensures told { B.tells → Runs (B.gives (gated self.old)) script.now (B.place (gated self.old)) (B.place (gated self.new)) result }
+        ensures told { B.tells → Runs (B.gives (gated self.old)) script.now (B.place (gated self.old))
+            (B.place (gated self.new)) result }
         ensures gives { B.gives (gated self.new) ≡ B.gives (gated self.old) }
         ensures cause { Counts (gate_faults self.old) (gate_faults self.new) (bench_failed result) }
     {

@@ -33,7 +33,8 @@ fn put_call(alloc: Global, tree: &Tree, path: &str) -> Result<Call, Mem>
 
 /// A rename, which is kept before it is made.
 fn move_call(alloc: Global, tree: &Tree, from: &str, to: &str) -> Result<Call, Mem>
-    ensures { IfOk result (λ call. call ≡ Call.Moved from.now to.now (entry_at tree.now from.now) (entry_at tree.now to.now)) }
+    ensures { IfOk result (λ call. call ≡ Call.Moved from.now to.now (entry_at tree.now from.now)
+        (entry_at tree.now to.now)) }
 {
     Ok(Call::Moved {
         from: Text::from_str(alloc, from)?,
@@ -73,7 +74,8 @@ pub(crate) fn keep_failed_put(
     calls: &mut Vec<Call>,
     path: &str,
 ) -> Result<(), Mem>
-    ensures ok { OnOk result (story_by tree.now calls.new.items ≡ put_at path.now (entry_at tree.now path.now) (story_by tree.now calls.old.items)) }
+    ensures ok { OnOk result (story_by tree.now calls.new.items
+        ≡ put_at path.now (entry_at tree.now path.now) (story_by tree.now calls.old.items)) }
     ensures err { OnErr result (story_by tree.now calls.new.items ≡ story_by tree.now calls.old.items) }
 {
     Ok(calls.push(put_call(alloc, tree, path)?)?)
@@ -87,7 +89,9 @@ pub(crate) fn keep_failed_move(
     from: &str,
     to: &str,
 ) -> Result<(), Mem>
-    ensures ok { OnOk result (story_by tree.now calls.new.items ≡ moved from.now to.now (entry_at tree.now from.now) (entry_at tree.now to.now) (story_by tree.now calls.old.items)) }
+    ensures ok { OnOk result (story_by tree.now calls.new.items
+        ≡ moved from.now to.now (entry_at tree.now from.now) (entry_at tree.now to.now)
+        (story_by tree.now calls.old.items)) }
     ensures err { OnErr result (story_by tree.now calls.new.items ≡ story_by tree.now calls.old.items) }
 {
     Ok(calls.push(move_call(alloc, tree, from, to)?)?)
@@ -103,7 +107,8 @@ pub(crate) fn keep_put(
 ) -> Result<(), Mem>
     requires clean { IsClean path.now }
     requires free { IsFree (entry_at tree.old) path.now }
-    ensures ok { OnOk result (story_by tree.new calls.new.items ≡ put_at path.now (Some entry) (story_by tree.old calls.old.items)) }
+    ensures ok { OnOk result (story_by tree.new calls.new.items
+        ≡ put_at path.now (Some entry) (story_by tree.old calls.old.items)) }
     ensures err { OnErr result (story_by tree.new calls.new.items ≡ story_by tree.old calls.old.items) }
 {
     calls.push(put_call(alloc, tree, path)?)?;
@@ -121,7 +126,8 @@ pub(crate) fn keep_removal(
     calls: &mut Vec<Call>,
     path: &str,
 ) -> Result<(), Mem>
-    ensures ok { OnOk result (story_by tree.new calls.new.items ≡ put_at path.now None (story_by tree.old calls.old.items)) }
+    ensures ok { OnOk result (story_by tree.new calls.new.items
+        ≡ put_at path.now None (story_by tree.old calls.old.items)) }
     ensures err { OnErr result (story_by tree.new calls.new.items ≡ story_by tree.old calls.old.items) }
 {
     calls.push(put_call(alloc, tree, path)?)?;
@@ -140,7 +146,8 @@ pub(crate) fn keep_move(
     requires held { IsSome (entry_at tree.old from.now) }
     requires clean { IsClean to.now }
     requires free { IsFree (entry_at tree.old) to.now }
-    ensures ok { OnOk result (story_by tree.new calls.new.items ≡ moved from.now to.now None (entry_at tree.old from.now) (story_by tree.old calls.old.items)) }
+    ensures ok { OnOk result (story_by tree.new calls.new.items
+        ≡ moved from.now to.now None (entry_at tree.old from.now) (story_by tree.old calls.old.items)) }
     ensures err { OnErr result (story_by tree.new calls.new.items ≡ story_by tree.old calls.old.items) }
 {
     let Some(entry) = copy_of(tree, from)? else {

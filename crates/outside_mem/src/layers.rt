@@ -37,7 +37,8 @@ impl FixedLayers {
     fn find(&self, path: &str, max: u64) -> Result<Option<Bytes>, ReadFault>
         ensures found { IfOk result (λ found. found ≡ fixed_at self.now path.now) }
         ensures within { IfOk result (λ found. IfSome found (λ bytes. length bytes ≤ max)) }
-        ensures too_long { IsErrOf result ReadFault.TooLong → IsSomeAnd (fixed_at self.now path.now) (λ bytes. max < length bytes) }
+        ensures too_long { IsErrOf result ReadFault.TooLong
+            → IsSomeAnd (fixed_at self.now path.now) (λ bytes. max < length bytes) }
         ensures not_failed { read_failed result ≡ false }
     {
         match self.files.get(path) {
@@ -116,7 +117,8 @@ impl Layers for MemLayers {
     fn read(&mut self, alloc: Global, path: &str, max: u64) -> Result<Option<Bytes>, ReadFault>
         ensures found { IfOk result (λ found. found ≡ file_at self.old path.now) }
         ensures within { IfOk result (λ found. IfSome found (λ bytes. length bytes ≤ max)) }
-        ensures too_long { IsErrOf result ReadFault.TooLong → IsSomeAnd (file_at self.old path.now) (λ bytes. max < length bytes) }
+        ensures too_long { IsErrOf result ReadFault.TooLong
+            → IsSomeAnd (file_at self.old path.now) (λ bytes. max < length bytes) }
         ensures same { file_at self.new ≡ file_at self.old }
         ensures cause { Counts (layers_faults self.old) (layers_faults self.new) (read_failed result) }
         ensures plan { Follows (layers_plan self.old) (layers_plan self.new) (read_failed result) }

@@ -86,7 +86,8 @@ impl MemDisk {
 
     /// Keeps a write or a removal that failed.
     pub(crate) fn note_put(&mut self, path: &str) -> Result<(), Mem>
-        ensures ok { OnOk result (story_of self.new ≡ put_at path.now ((story_of self.old).held path.now) (story_of self.old)) }
+        ensures ok { OnOk result (story_of self.new ≡ put_at path.now ((story_of self.old).held path.now)
+            (story_of self.old)) }
         ensures err { OnErr result (story_of self.new ≡ story_of self.old) }
     {
         keep_failed_put(self.alloc, &self.tree, &mut self.calls, path)
@@ -94,7 +95,8 @@ impl MemDisk {
 
     /// Keeps a rename that failed.
     pub(crate) fn note_move(&mut self, from: &str, to: &str) -> Result<(), Mem>
-        ensures ok { OnOk result (story_of self.new ≡ moved from.now to.now ((story_of self.old).held from.now) ((story_of self.old).held to.now) (story_of self.old)) }
+        ensures ok { OnOk result (story_of self.new ≡ moved from.now to.now ((story_of self.old).held from.now)
+            ((story_of self.old).held to.now) (story_of self.old)) }
         ensures err { OnErr result (story_of self.new ≡ story_of self.old) }
     {
         keep_failed_move(self.alloc, &self.tree, &mut self.calls, from, to)

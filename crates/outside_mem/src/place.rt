@@ -61,7 +61,8 @@ impl Place {
         requires clean { IsClean path.now }
         requires vacant { IsVacant self.old.laid path.now }
         ensures laid { OnOk result (Adds path.now entry.now self.old.laid self.new.laid) }
-        ensures rest { OnOk result ((self.new.cleared ≡ self.old.cleared) × (self.new.output ≡ self.old.output) × (self.new.runs ≡ self.old.runs)) }
+        ensures rest { OnOk result ((self.new.cleared ≡ self.old.cleared) × (self.new.output ≡ self.old.output)
+            × (self.new.runs ≡ self.old.runs)) }
         ensures err { OnErr result (self.new ≡ self.old) }
     {
         lay(alloc, &mut self.laid, path, entry)
@@ -74,7 +75,8 @@ impl Place {
         script: &str,
         output: Option<Tree>,
     ) -> Result<(), Mem>
-        ensures ok { OnOk result (self.new ≡ record { laid = []; cleared = false; output = output; runs = run_on self.old script.now }) }
+        ensures ok { OnOk result
+            (self.new ≡ record { laid = []; cleared = false; output = output; runs = run_on self.old script.now }) }
         ensures err { OnErr result (self.new ≡ self.old) }
     {
         note_run(&mut self.runs, alloc, script, &mut self.laid)?;

@@ -139,7 +139,8 @@ fn outcome(
     script: &str,
     laid: &Tree,
 ) -> Result<(u32, Option<Tree>), Mem>
-    ensures { IfOk result (λ ended. Gave (outcome_of (rule_for rules.now script.now) (picked (codes "work") laid.now)) ended.0 ended.1) }
+    ensures { IfOk result (λ ended. Gave (outcome_of (rule_for rules.now script.now) (picked (codes "work") laid.now))
+        ended.0 ended.1) }
 {
     match rule_of(rules, script) {
         None => Ok((0, Some(work_part(alloc, laid)?))),

@@ -27,7 +27,8 @@ pub trait Layers {
     fn read(&mut self, alloc: Global, path: &str, max: u64) -> Result<Option<Bytes>, ReadFault>
         ensures found { IfOk result (λ found. tells → found ≡ files self.old path.now) }
         ensures within { IfOk result (λ found. IfSome found (λ bytes. length bytes ≤ max)) }
-        ensures too_long { IsErrOf result ReadFault.TooLong → tells → IsSomeAnd (files self.old path.now) (λ bytes. max < length bytes) }
+        ensures too_long { IsErrOf result ReadFault.TooLong → tells
+            → IsSomeAnd (files self.old path.now) (λ bytes. max < length bytes) }
         ensures same { files self.new ≡ files self.old }
         ensures cause { Counts (faults self.old) (faults self.new) (read_failed result) };
 

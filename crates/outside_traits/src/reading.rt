@@ -41,7 +41,8 @@ fn read_entries<D: Disk>(
     paths: &[Text],
 ) -> Result<Vec<(Text, Entry)>, DiskFault>
     requires { D.tells → All (λ path. BeginsWith prefix.now path × IsSome ((D.story disk.old).held path)) paths.now }
-    ensures entries { D.tells → IfOk result (λ entries. Stands prefix.now paths.now (length paths.now) (D.story disk.old).held entries.items) }
+    ensures entries { D.tells → IfOk result (λ entries. Stands prefix.now paths.now (length paths.now)
+        (D.story disk.old).held entries.items) }
     ensures others { D.tells → Passes (D.story disk.old) (D.story disk.new) Same }
     ensures cause { Counts (D.faults disk.old) (D.faults disk.new) (disk_failed result) }
 {

@@ -27,7 +27,8 @@ pub fn put_tree<D: Disk>(
 
     // Whatever it answers.
     ensures others { D.tells → Passes (D.story disk.old) (D.story disk.new) (AgreesApart folder.now) }
-    ensures round { D.tells → Passes (D.story disk.old) (D.story disk.new) (AgreesRound folder.now (D.story disk.old).held) }
+    ensures round { D.tells → Passes (D.story disk.old) (D.story disk.new)
+        (AgreesRound folder.now (D.story disk.old).held) }
     ensures cause { Counts (D.faults disk.old) (D.faults disk.new) (disk_failed result) }
 {
     clear_above(alloc, disk, folder)?;
@@ -49,7 +50,8 @@ fn clear_at<D: Disk>(alloc: Global, disk: &mut D, path: &str) -> Result<(), Disk
 /// Removes what stands at the folder or above it.
 fn clear_above<D: Disk>(alloc: Global, disk: &mut D, folder: &str) -> Result<(), DiskFault>
     ensures open { D.tells → OnOk result (IsOpen folder.now (D.story disk.new).held) }
-    ensures round { D.tells → Passes (D.story disk.old) (D.story disk.new) (AgreesRound folder.now (D.story disk.old).held) }
+    ensures round { D.tells → Passes (D.story disk.old) (D.story disk.new)
+        (AgreesRound folder.now (D.story disk.old).held) }
     ensures cause { Counts (D.faults disk.old) (D.faults disk.new) (disk_failed result) }
 {
     clear_at(alloc, disk, folder)?;
@@ -67,7 +69,8 @@ fn clear_under<D: Disk>(alloc: Global, disk: &mut D, folder: &str) -> Result<(),
     requires { D.tells → IsOpen folder.now (D.story disk.old).held }
     ensures open { D.tells → IsOpen folder.now (D.story disk.new).held }
     ensures under { D.tells → OnOk result ((q : List ℕ) → (D.story disk.new).held (inside folder.now q) ≡ None) }
-    ensures round { D.tells → Passes (D.story disk.old) (D.story disk.new) (AgreesRound folder.now (D.story disk.old).held) }
+    ensures round { D.tells → Passes (D.story disk.old) (D.story disk.new)
+        (AgreesRound folder.now (D.story disk.old).held) }
     ensures cause { Counts (D.faults disk.old) (D.faults disk.new) (disk_failed result) }
 {
     let prefix = joined(alloc, folder, "")?;
@@ -93,7 +96,8 @@ fn fill<D: Disk>(
     requires open { D.tells → IsOpen folder.now (D.story disk.old).held }
     requires under { D.tells → (q : List ℕ) → (D.story disk.old).held (inside folder.now q) ≡ None }
     ensures held { D.tells → OnOk result (HoldsTree folder.now tree.now (D.story disk.new).held) }
-    ensures round { D.tells → Passes (D.story disk.old) (D.story disk.new) (AgreesRound folder.now (D.story disk.old).held) }
+    ensures round { D.tells → Passes (D.story disk.old) (D.story disk.new)
+        (AgreesRound folder.now (D.story disk.old).held) }
     ensures cause { Counts (D.faults disk.old) (D.faults disk.new) (disk_failed result) }
 {
     for (path, entry) in tree {

@@ -97,7 +97,9 @@ fn removes_of(alloc: Global, ops: &[LateLine], active: &[Text]) -> Result<Texts,
 
 /// Whether there is neither a base nor an append or prepend that counts.
 fn is_absent(base: Option<&str>, ops: &[LateLine], active: &[Text]) -> bool
-    ensures { result ≡ not (is_some base.entry || (list_any (counts active.now Append) ops.now || list_any (counts active.now Prepend) ops.now)) }
+    ensures { result
+        ≡ not (is_some base.entry || (list_any (counts active.now Append) ops.now || list_any
+        (counts active.now Prepend) ops.now)) }
 {
     base.is_none() && !has(ops, Late::Append, active) && !has(ops, Late::Prepend, active)
 }

@@ -7,7 +7,8 @@ ghost use Rattle.load_model.specs.Paths.{slash, is_slash};
 
 /// The part before the first slash and what stands behind the slash, where there is one.
 pub(crate) fn cut_at_slash(text: &str) -> Option<(&str, &str)>
-    ensures parts { MatchOption result (parts_of text.now ≡ text.now ∷ []) (λ cut. parts_of text.now ≡ cut.0.now ∷ parts_of cut.1.now) }
+    ensures parts { MatchOption result (parts_of text.now ≡ text.now ∷ [])
+        (λ cut. parts_of text.now ≡ cut.0.now ∷ parts_of cut.1.now) }
     ensures shorter { IfSome result (λ cut. length cut.1.now < length text.now) }
 {
     text.split_once('/')

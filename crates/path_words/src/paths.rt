@@ -52,7 +52,8 @@ pub fn without_ending<'a>(ending: &str, text: &'a str) -> &'a str
 /// Goes one part further from the parts so far, from the first to the last: `.` stays, `..` takes the last part away, and an
 /// empty part leads nowhere, as `..` does without a part. Whether it leads somewhere.
 fn goes_further(parts: &mut Vec<Text>, alloc: Global, part: &str) -> Result<bool, Mem>
-    ensures { IfOk result (λ goes. paths.further (Some (reverse parts.old.items)) part.now ≡ (if goes then Some (reverse parts.new.items) else None)) }
+    ensures { IfOk result (λ goes. paths.further (Some (reverse parts.old.items)) part.now
+        ≡ (if goes then Some (reverse parts.new.items) else None)) }
 {
     if part.is_empty() {
         return Ok(false);

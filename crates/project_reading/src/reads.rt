@@ -32,8 +32,10 @@ pub fn or_status<T>(made: Result<T, Mem>) -> Result<T, Status>
 /// Refused as the definition is (`specs/Project.antt`, `read_config`), over the list of the paths of all files. `ReadFault` comes
 /// only where the layers' count of faults rose, and want of memory alone is free. No call changes a file.
 pub fn read_config<L: Layers>(alloc: Global, layers: &mut L) -> Result<Config, Status>
-    ensures ok { IfOk result (λ made. L.tells → (paths : List (List ℕ)) → IsListing [] (L.files layers.old) paths → project.read_config (sources_of (L.files layers.old)) paths ≡ Ok (config_meant made)) }
-    ensures err { IfErr result (λ status. L.tells → (paths : List (List ℕ)) → IsListing [] (L.files layers.old) paths → IsRefusedAs status (project.read_config (sources_of (L.files layers.old)) paths)) }
+    ensures ok { IfOk result (λ made. L.tells → (paths : List (List ℕ)) → IsListing [] (L.files layers.old) paths
+        → project.read_config (sources_of (L.files layers.old)) paths ≡ Ok (config_meant made)) }
+    ensures err { IfErr result (λ status. L.tells → (paths : List (List ℕ)) → IsListing [] (L.files layers.old) paths
+        → IsRefusedAs status (project.read_config (sources_of (L.files layers.old)) paths)) }
     ensures refusal { IfErr result (λ status. is_refusal status ≡ true) }
     ensures same { L.files layers.new ≡ L.files layers.old }
     ensures cause { Counts (L.faults layers.old) (L.faults layers.new) (mode_failed result) }
@@ -53,8 +55,10 @@ pub fn read_recipes<L: Layers>(
     layers: &mut L,
     config: &Config,
 ) -> Result<RecipeSet, Status>
-    ensures ok { IfOk result (λ set. L.tells → project.read_recipes (sources_of (L.files layers.old)) (config_meant config.now) ≡ Ok set) }
-    ensures err { IfErr result (λ status. L.tells → IsRefusedAs status (project.read_recipes (sources_of (L.files layers.old)) (config_meant config.now))) }
+    ensures ok { IfOk result (λ set. L.tells → project.read_recipes (sources_of (L.files layers.old))
+        (config_meant config.now) ≡ Ok set) }
+    ensures err { IfErr result (λ status. L.tells → IsRefusedAs status
+        (project.read_recipes (sources_of (L.files layers.old)) (config_meant config.now))) }
     ensures refusal { IfErr result (λ status. is_refusal status ≡ true) }
     ensures same { L.files layers.new ≡ L.files layers.old }
     ensures cause { Counts (L.faults layers.old) (L.faults layers.new) (mode_failed result) }

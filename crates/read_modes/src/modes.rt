@@ -30,8 +30,10 @@ pub enum ReadMode {
 
 /// How many recipe files were read.
 fn parsed<L: Layers>(alloc: Global, layers: &mut L, config: &Config) -> Result<Text, Status>
-    ensures ok { IfOk result (λ text. L.tells → modes.parsed_over (sources_of (L.files layers.old)) (config_meant config.now) ≡ Ok text) }
-    ensures err { IfErr result (λ status. L.tells → IsRefusedAs status (modes.parsed_over (sources_of (L.files layers.old)) (config_meant config.now))) }
+    ensures ok { IfOk result (λ text. L.tells → modes.parsed_over (sources_of (L.files layers.old))
+        (config_meant config.now) ≡ Ok text) }
+    ensures err { IfErr result (λ status. L.tells → IsRefusedAs status
+        (modes.parsed_over (sources_of (L.files layers.old)) (config_meant config.now))) }
     ensures refusal { IfErr result (λ status. is_refusal status ≡ true) }
     ensures same { L.files layers.new ≡ L.files layers.old }
     ensures cause { Counts (L.faults layers.old) (L.faults layers.new) (mode_failed result) }
@@ -44,8 +46,10 @@ fn parsed<L: Layers>(alloc: Global, layers: &mut L, config: &Config) -> Result<T
 
 /// The chosen versions.
 fn versions<L: Layers>(alloc: Global, layers: &mut L, config: &Config) -> Result<Text, Status>
-    ensures ok { IfOk result (λ text. L.tells → modes.versions_over (sources_of (L.files layers.old)) (config_meant config.now) ≡ Ok text) }
-    ensures err { IfErr result (λ status. L.tells → IsRefusedAs status (modes.versions_over (sources_of (L.files layers.old)) (config_meant config.now))) }
+    ensures ok { IfOk result (λ text. L.tells → modes.versions_over (sources_of (L.files layers.old))
+        (config_meant config.now) ≡ Ok text) }
+    ensures err { IfErr result (λ status. L.tells → IsRefusedAs status
+        (modes.versions_over (sources_of (L.files layers.old)) (config_meant config.now))) }
     ensures refusal { IfErr result (λ status. is_refusal status ≡ true) }
     ensures same { L.files layers.new ≡ L.files layers.old }
     ensures cause { Counts (L.faults layers.old) (L.faults layers.new) (mode_failed result) }
@@ -63,8 +67,10 @@ fn target_values<L: Layers>(
     config: &Config,
     targets: &[Text],
 ) -> Result<Text, Status>
-    ensures ok { IfOk result (λ text. L.tells → modes.targets_over (sources_of (L.files layers.old)) (config_meant config.now) targets.now ≡ Ok text) }
-    ensures err { IfErr result (λ status. L.tells → IsRefusedAs status (modes.targets_over (sources_of (L.files layers.old)) (config_meant config.now) targets.now)) }
+    ensures ok { IfOk result (λ text. L.tells → modes.targets_over (sources_of (L.files layers.old))
+        (config_meant config.now) targets.now ≡ Ok text) }
+    ensures err { IfErr result (λ status. L.tells → IsRefusedAs status
+        (modes.targets_over (sources_of (L.files layers.old)) (config_meant config.now) targets.now)) }
     ensures refusal { IfErr result (λ status. is_refusal status ≡ true) }
     ensures same { L.files layers.new ≡ L.files layers.old }
     ensures cause { Counts (L.faults layers.old) (L.faults layers.new) (mode_failed result) }
@@ -82,8 +88,10 @@ fn environment_of<L: Layers>(
     config: Config,
     targets: &[Text],
 ) -> Result<Text, Status>
-    ensures ok { IfOk result (λ text. L.tells → modes.environment_of (sources_of (L.files layers.old)) (config_meant config) targets.now ≡ Ok text) }
-    ensures err { IfErr result (λ status. L.tells → IsRefusedAs status (modes.environment_of (sources_of (L.files layers.old)) (config_meant config) targets.now)) }
+    ensures ok { IfOk result (λ text. L.tells → modes.environment_of (sources_of (L.files layers.old))
+        (config_meant config) targets.now ≡ Ok text) }
+    ensures err { IfErr result (λ status. L.tells → IsRefusedAs status
+        (modes.environment_of (sources_of (L.files layers.old)) (config_meant config) targets.now)) }
     ensures refusal { IfErr result (λ status. is_refusal status ≡ true) }
     ensures same { L.files layers.new ≡ L.files layers.old }
     ensures cause { Counts (L.faults layers.old) (L.faults layers.new) (mode_failed result) }
@@ -102,8 +110,10 @@ fn text_of<L: Layers>(
     config: Config,
     targets: &[Text],
 ) -> Result<Text, Status>
-    ensures ok { IfOk result (λ text. L.tells → modes.text_of mode (sources_of (L.files layers.old)) (config_meant config) targets.now ≡ Ok text) }
-    ensures err { IfErr result (λ status. L.tells → IsRefusedAs status (modes.text_of mode (sources_of (L.files layers.old)) (config_meant config) targets.now)) }
+    ensures ok { IfOk result (λ text. L.tells → modes.text_of mode (sources_of (L.files layers.old))
+        (config_meant config) targets.now ≡ Ok text) }
+    ensures err { IfErr result (λ status. L.tells → IsRefusedAs status
+        (modes.text_of mode (sources_of (L.files layers.old)) (config_meant config) targets.now)) }
     ensures refusal { IfErr result (λ status. is_refusal status ≡ true) }
     ensures same { L.files layers.new ≡ L.files layers.old }
     ensures cause { Counts (L.faults layers.old) (L.faults layers.new) (mode_failed result) }
@@ -129,8 +139,10 @@ pub fn read_mode<L: Layers>(
     mode: ReadMode,
     targets: &[Text],
 ) -> Result<Text, Status>
-    ensures ok { IfOk result (λ text. L.tells → (paths : List (List ℕ)) → IsListing [] (L.files layers.old) paths → modes.mode_text mode (sources_of (L.files layers.old)) paths targets.now ≡ Ok text) }
-    ensures err { IfErr result (λ status. L.tells → (paths : List (List ℕ)) → IsListing [] (L.files layers.old) paths → IsRefusedAs status (modes.mode_text mode (sources_of (L.files layers.old)) paths targets.now)) }
+    ensures ok { IfOk result (λ text. L.tells → (paths : List (List ℕ)) → IsListing [] (L.files layers.old) paths
+        → modes.mode_text mode (sources_of (L.files layers.old)) paths targets.now ≡ Ok text) }
+    ensures err { IfErr result (λ status. L.tells → (paths : List (List ℕ)) → IsListing [] (L.files layers.old) paths
+        → IsRefusedAs status (modes.mode_text mode (sources_of (L.files layers.old)) paths targets.now)) }
     ensures refusal { IfErr result (λ status. is_refusal status ≡ true) }
     ensures same { L.files layers.new ≡ L.files layers.old }
     ensures cause { Counts (L.faults layers.old) (L.faults layers.new) (mode_failed result) }

@@ -27,7 +27,9 @@ fn bracket_at(bytes: &[u8]) -> Option<usize>
 /// without what stands between them; after another `)` the same text with it.
 fn behind_bracket(kept: &mut Vec<Text>, last: Text, alloc: Global, byte: u8) -> Result<Text, Mem>
     requires { (byte ≡ 40) ⊎ (byte ≡ 41) }
-    ensures { IfOk result (λ made. (text : List ℕ) (texts : List (List ℕ)) → with_open (reverse kept.new.items) made (text ∷ texts) ≡ with_open (reverse kept.old.items) last (facts.bracket_before byte (text ∷ texts))) }
+    ensures { IfOk result (λ made. (text : List ℕ) (texts : List (List ℕ))
+        → with_open (reverse kept.new.items) made (text ∷ texts)
+        ≡ with_open (reverse kept.old.items) last (facts.bracket_before byte (text ∷ texts))) }
 {
     if byte == b'(' {
         kept.push(last)?;

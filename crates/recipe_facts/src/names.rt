@@ -17,7 +17,8 @@ type Names = BTreeMap<String, ()>;
 
 /// Puts a name into the set.
 fn put(set: &mut Names, alloc: Global, name: &str) -> Result<(), Mem>
-    ensures { OnOk result ((t : List ℕ) → is_some (get_by_text set.new t) ≡ (bytes_eq t name.now || is_some (get_by_text set.old t))) }
+    ensures { OnOk result ((t : List ℕ) → is_some (get_by_text set.new t)
+        ≡ (bytes_eq t name.now || is_some (get_by_text set.old t))) }
 {
     set.insert(String::from_str(alloc, name)?, ())?;
     Ok(())
@@ -33,7 +34,8 @@ fn is_behind(rest: &[u8]) -> bool
 /// Puts the front of a name that ends here into the set, where one does.
 fn put_front(set: &mut Names, alloc: Global, name: &str, end: usize) -> Result<(), Mem>
     requires { end ≤ length name.now }
-    ensures { OnOk result ((t : List ℕ) → is_some (get_by_text set.new t) ≡ ((is_behind (drop end name.now) && bytes_eq t (take end name.now)) || is_some (get_by_text set.old t))) }
+    ensures { OnOk result ((t : List ℕ) → is_some (get_by_text set.new t)
+        ≡ ((is_behind (drop end name.now) && bytes_eq t (take end name.now)) || is_some (get_by_text set.old t))) }
 {
     if is_behind(&name.as_bytes()[end..]) {
         return put(set, alloc, &name[..end]);
@@ -43,7 +45,8 @@ fn put_front(set: &mut Names, alloc: Global, name: &str, end: usize) -> Result<(
 
 /// Puts a name and what stands before each of its colons into the set; the empty name is none.
 fn put_fronts(set: &mut Names, alloc: Global, name: &str) -> Result<(), Mem>
-    ensures { OnOk result ((t : List ℕ) → is_some (get_by_text set.new t) ≡ (is_in t (facts.fronts_of name.now) || is_some (get_by_text set.old t))) }
+    ensures { OnOk result ((t : List ℕ) → is_some (get_by_text set.new t)
+        ≡ (is_in t (facts.fronts_of name.now) || is_some (get_by_text set.old t))) }
 {
     let mut end = 0;
     while end < name.len() {
@@ -55,7 +58,8 @@ fn put_fronts(set: &mut Names, alloc: Global, name: &str) -> Result<(), Mem>
 
 /// The set of these names and of what stands before their colons.
 fn fronts_of_all(alloc: Global, names: &[Text]) -> Result<Names, Mem>
-    ensures { IfOk result (λ made. (t : List ℕ) → is_some (get_by_text made t) ≡ is_in t (flat_map facts.fronts_of names.now)) }
+    ensures { IfOk result (λ made. (t : List ℕ) → is_some (get_by_text made t)
+        ≡ is_in t (flat_map facts.fronts_of names.now)) }
 {
     let mut set = BTreeMap::new(alloc);
     for name in names {

@@ -35,7 +35,8 @@ fn with_all(first: &Texts, others: &Texts) -> Result<Texts, Mem>
 /// The words of RPROVIDES for a package.
 fn provided_for(alloc: Global, store: &Datastore, name: &str) -> Result<Texts, DataFault>
     ensures ok { IfOk result (λ made. layers.words_of store.now (facts.form (codes "RPROVIDES") name.now) ≡ Ok made) }
-    ensures err { IfErr result (λ fault. IsDataFault fault (layers.words_of store.now (facts.form (codes "RPROVIDES") name.now))) }
+    ensures err { IfErr result (λ fault. IsDataFault fault
+        (layers.words_of store.now (facts.form (codes "RPROVIDES") name.now))) }
 {
     let own = form(alloc, "RPROVIDES", name)?;
     words_of(alloc, store, own.as_str())
@@ -44,7 +45,8 @@ fn provided_for(alloc: Global, store: &Datastore, name: &str) -> Result<Texts, D
 /// The words of RDEPENDS for a package, without text in parentheses.
 fn needed_for(alloc: Global, store: &Datastore, name: &str) -> Result<Texts, DataFault>
     ensures ok { IfOk result (λ made. facts.needed_words store.now (facts.form (codes "RDEPENDS") name.now) ≡ Ok made) }
-    ensures err { IfErr result (λ fault. IsDataFault fault (facts.needed_words store.now (facts.form (codes "RDEPENDS") name.now))) }
+    ensures err { IfErr result (λ fault. IsDataFault fault
+        (facts.needed_words store.now (facts.form (codes "RDEPENDS") name.now))) }
 {
     let own = form(alloc, "RDEPENDS", name)?;
     needed_words(alloc, store, own.as_str())
@@ -81,7 +83,8 @@ fn package_facts(
     name: &str,
 ) -> Result<Package, DataFault>
     ensures ok { IfOk result (λ made. facts.package_facts store.now provided.now needed.now name.now ≡ Ok made) }
-    ensures err { IfErr result (λ fault. IsDataFault fault (facts.package_facts store.now provided.now needed.now name.now)) }
+    ensures err { IfErr result (λ fault. IsDataFault fault
+        (facts.package_facts store.now provided.now needed.now name.now)) }
 {
     let provides = provided_for(alloc, store, name)?;
     let needs = needed_for(alloc, store, name)?;
@@ -97,7 +100,8 @@ fn all_packages(
     names: &[Text],
 ) -> Result<ListOf<Package>, DataFault>
     ensures ok { IfOk result (λ made. facts.all_packages store.now provided.now needed.now names.now ≡ Ok made) }
-    ensures err { IfErr result (λ fault. IsDataFault fault (facts.all_packages store.now provided.now needed.now names.now)) }
+    ensures err { IfErr result (λ fault. IsDataFault fault
+        (facts.all_packages store.now provided.now needed.now names.now)) }
 {
     let mut made = ListOf::new(alloc);
     for name in names {

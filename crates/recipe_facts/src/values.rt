@@ -13,7 +13,8 @@ use tree_model::Text;
 
 /// A name without its front, where it has that front.
 fn without_front<'a>(front: &str, name: &'a str) -> Option<&'a str>
-    ensures { MatchOption result (begins_with front.now name.now ≡ false) (λ key. (begins_with front.now name.now ≡ true) × (key.now ≡ drop (length front.now) name.now)) }
+    ensures { MatchOption result (begins_with front.now name.now ≡ false)
+        (λ key. (begins_with front.now name.now ≡ true) × (key.now ≡ drop (length front.now) name.now)) }
 {
     name.strip_prefix(front)
 }
@@ -26,8 +27,10 @@ fn push_value(
     front: &str,
     name: &str,
 ) -> Result<(), DataFault>
-    ensures ok { OnOk result (behind list.old (facts.values_behind store.now front.now (filter (begins_with front.now) (name.now ∷ []))) ≡ Ok list.new) }
-    ensures err { IfErr result (λ fault. IsDataFault fault (facts.values_behind store.now front.now (filter (begins_with front.now) (name.now ∷ [])))) }
+    ensures ok { OnOk result (behind list.old (facts.values_behind store.now front.now
+        (filter (begins_with front.now) (name.now ∷ []))) ≡ Ok list.new) }
+    ensures err { IfErr result (λ fault. IsDataFault fault
+        (facts.values_behind store.now front.now (filter (begins_with front.now) (name.now ∷ [])))) }
 {
     let Some(key) = without_front(front, name) else {
         return Ok(());
@@ -45,8 +48,10 @@ fn values_of(
     front: &str,
     names: &[Text],
 ) -> Result<ListOf<(Text, Text)>, DataFault>
-    ensures ok { IfOk result (λ made. facts.values_behind store.now front.now (filter (begins_with front.now) names.now) ≡ Ok made) }
-    ensures err { IfErr result (λ fault. IsDataFault fault (facts.values_behind store.now front.now (filter (begins_with front.now) names.now))) }
+    ensures ok { IfOk result (λ made. facts.values_behind store.now front.now
+        (filter (begins_with front.now) names.now) ≡ Ok made) }
+    ensures err { IfErr result (λ fault. IsDataFault fault
+        (facts.values_behind store.now front.now (filter (begins_with front.now) names.now))) }
 {
     let mut list = ListOf::new(alloc);
     for name in names {

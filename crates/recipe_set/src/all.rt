@@ -38,10 +38,15 @@ fn read_one<L: Layers>(
     picks: &mut Picks,
 ) -> Result<(), SetFault>
     requires { IsIndex known.now.appends.now known.now.index.now }
-    ensures ok { OnOk result (L.tells → (recipe : Read) × ((file_read (sources_of (L.files layers.old)) known.now.config.now known.now.appends.now (file_meant file.now) ≡ Ok recipe)
-        × ((wishes : List (List ℕ × List ℕ)) (before : List Read) → ((t : List ℕ) → get_by_text versions.now t ≡ lookup (bytes_eq t) wishes) → ArePicks wishes before picks.old → ArePicks wishes (before ++ recipe ∷ []) picks.new))) }
+    ensures ok { OnOk result (L.tells → (recipe : Read)
+        × ((file_read (sources_of (L.files layers.old)) known.now.config.now known.now.appends.now
+        (file_meant file.now) ≡ Ok recipe) × ((wishes : List (List ℕ × List ℕ)) (before : List Read)
+        → ((t : List ℕ) → get_by_text versions.now t ≡ lookup (bytes_eq t) wishes) → ArePicks wishes before picks.old
+        → ArePicks wishes (before ++ recipe ∷ []) picks.new))) }
     ensures more { OnOk result (btree_map_len picks.new ≤ btree_map_len picks.old + 1) }
-    ensures err { IfErr result (λ fault. L.tells → IsSetFault fault (file_read (sources_of (L.files layers.old)) known.now.config.now known.now.appends.now (file_meant file.now))) }
+    ensures err { IfErr result (λ fault. L.tells → IsSetFault fault
+        (file_read (sources_of (L.files layers.old)) known.now.config.now known.now.appends.now
+        (file_meant file.now))) }
     ensures same { L.files layers.new ≡ L.files layers.old }
     ensures cause { Counts (L.faults layers.old) (L.faults layers.new) (set_failed result) }
 {
@@ -63,10 +68,14 @@ fn read_each<L: Layers>(
     files: &[(Text, FileName)],
 ) -> Result<Picks, SetFault>
     requires { IsIndex known.now.appends.now known.now.index.now }
-    ensures ok { IfOk result (λ made. L.tells → (wishes : List (List ℕ × List ℕ)) → ((t : List ℕ) → get_by_text versions.now t ≡ lookup (bytes_eq t) wishes)
-        → ArePicked wishes (recipes_read (sources_of (L.files layers.old)) known.now.config.now known.now.appends.now (map file_meant files.now)) made) }
+    ensures ok { IfOk result (λ made. L.tells → (wishes : List (List ℕ × List ℕ))
+        → ((t : List ℕ) → get_by_text versions.now t ≡ lookup (bytes_eq t) wishes)
+        → ArePicked wishes (recipes_read (sources_of (L.files layers.old)) known.now.config.now known.now.appends.now
+        (map file_meant files.now)) made) }
     ensures few { IfOk result (λ made. btree_map_len made ≤ length files.now) }
-    ensures err { IfErr result (λ fault. L.tells → IsSetFault fault (recipes_read (sources_of (L.files layers.old)) known.now.config.now known.now.appends.now (map file_meant files.now))) }
+    ensures err { IfErr result (λ fault. L.tells → IsSetFault fault
+        (recipes_read (sources_of (L.files layers.old)) known.now.config.now known.now.appends.now
+        (map file_meant files.now))) }
     ensures same { L.files layers.new ≡ L.files layers.old }
     ensures cause { Counts (L.faults layers.old) (L.faults layers.new) (set_failed result) }
 {
@@ -87,8 +96,11 @@ fn read_files<L: Layers>(
 ) -> Result<RecipeSet, SetFault>
     requires index { IsIndex known.now.appends.now known.now.index.now }
     requires few { length files.now ≤ 2000 }
-    ensures ok { IfOk result (λ made. L.tells → read_over (sources_of (L.files layers.old)) known.now.config.now (wished wishes) (map file_meant files.now) known.now.appends.now ≡ Ok made) }
-    ensures err { IfErr result (λ fault. L.tells → IsSetFault fault (read_over (sources_of (L.files layers.old)) known.now.config.now (wished wishes) (map file_meant files.now) known.now.appends.now)) }
+    ensures ok { IfOk result (λ made. L.tells → read_over (sources_of (L.files layers.old)) known.now.config.now
+        (wished wishes) (map file_meant files.now) known.now.appends.now ≡ Ok made) }
+    ensures err { IfErr result (λ fault. L.tells → IsSetFault fault
+        (read_over (sources_of (L.files layers.old)) known.now.config.now (wished wishes) (map file_meant files.now)
+        known.now.appends.now)) }
     ensures same { L.files layers.new ≡ L.files layers.old }
     ensures cause { Counts (L.faults layers.old) (L.faults layers.new) (set_failed result) }
 {
@@ -107,8 +119,10 @@ fn read_under<L: Layers>(
     recipes: &[Text],
     appends: &[Text],
 ) -> Result<RecipeSet, SetFault>
-    ensures ok { IfOk result (λ made. L.tells → set_under (sources_of (L.files layers.old)) config.now recipes.now appends.now (wished wishes) ≡ Ok made) }
-    ensures err { IfErr result (λ fault. L.tells → IsSetFault fault (set_under (sources_of (L.files layers.old)) config.now recipes.now appends.now (wished wishes))) }
+    ensures ok { IfOk result (λ made. L.tells → set_under (sources_of (L.files layers.old)) config.now recipes.now
+        appends.now (wished wishes) ≡ Ok made) }
+    ensures err { IfErr result (λ fault. L.tells → IsSetFault fault
+        (set_under (sources_of (L.files layers.old)) config.now recipes.now appends.now (wished wishes))) }
     ensures same { L.files layers.new ≡ L.files layers.old }
     ensures cause { Counts (L.faults layers.old) (L.faults layers.new) (set_failed result) }
 {
@@ -138,8 +152,10 @@ fn read_sharing<L: Layers>(
     recipes: &[Text],
     appends: &[Text],
 ) -> Result<RecipeSet, SetFault>
-    ensures ok { IfOk result (λ made. L.tells → set_under (sources_of (L.files layers.old)) config.now recipes.now appends.now (wished wishes) ≡ Ok made) }
-    ensures err { IfErr result (λ fault. L.tells → IsSetFault fault (set_under (sources_of (L.files layers.old)) config.now recipes.now appends.now (wished wishes))) }
+    ensures ok { IfOk result (λ made. L.tells → set_under (sources_of (L.files layers.old)) config.now recipes.now
+        appends.now (wished wishes) ≡ Ok made) }
+    ensures err { IfErr result (λ fault. L.tells → IsSetFault fault
+        (set_under (sources_of (L.files layers.old)) config.now recipes.now appends.now (wished wishes))) }
     ensures same { L.files layers.new ≡ L.files layers.old }
     ensures cause { Counts (L.faults layers.old) (L.faults layers.new) (set_failed result) }
 {
@@ -165,8 +181,10 @@ pub fn read_all<L: Layers>(
     recipes: &[Text],
     appends: &[Text],
 ) -> Result<RecipeSet, SetFault>
-    ensures ok { IfOk result (λ made. L.tells → facts.recipe_set (sources_of (L.files layers.old)) config.now recipes.now appends.now ≡ Ok made) }
-    ensures err { IfErr result (λ fault. L.tells → IsSetFault fault (facts.recipe_set (sources_of (L.files layers.old)) config.now recipes.now appends.now)) }
+    ensures ok { IfOk result (λ made. L.tells → facts.recipe_set (sources_of (L.files layers.old)) config.now
+        recipes.now appends.now ≡ Ok made) }
+    ensures err { IfErr result (λ fault. L.tells → IsSetFault fault
+        (facts.recipe_set (sources_of (L.files layers.old)) config.now recipes.now appends.now)) }
     ensures same { L.files layers.new ≡ L.files layers.old }
     ensures cause { Counts (L.faults layers.old) (L.faults layers.new) (set_failed result) }
 {

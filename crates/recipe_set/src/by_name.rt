@@ -52,7 +52,8 @@ fn put_named(
     stem: &str,
     append: &Text,
 ) -> Result<(), Mem>
-    ensures { OnOk result ((t : List ℕ) → named_at named.new t ≡ named_at named.old t ++ (if bytes_eq stem.now t then append.now ∷ [] else [])) }
+    ensures { OnOk result ((t : List ℕ) → named_at named.new t ≡ named_at named.old t
+        ++ (if bytes_eq stem.now t then append.now ∷ [] else [])) }
 {
     match named.get_mut(stem) {
         Some(list) => list.push(append.copy()?),
@@ -72,7 +73,8 @@ fn put_append(
     alloc: Global,
     append: &Text,
 ) -> Result<(), Mem>
-    ensures named { OnOk result ((t : List ℕ) → named_at named.new t ≡ named_at named.old t ++ filter (is_named t) (append.now ∷ [])) }
+    ensures named { OnOk result ((t : List ℕ) → named_at named.new t ≡ named_at named.old t
+        ++ filter (is_named t) (append.now ∷ [])) }
     ensures apart { OnOk result (apart.new ≡ apart.old ++ filter is_open (append.now ∷ [])) }
 {
     let stem = append_stem(append.as_str());

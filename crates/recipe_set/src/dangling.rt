@@ -13,7 +13,8 @@ use tree_model::{Mem, Text};
 
 /// Puts a name into the set.
 fn put_stem(set: &mut BTreeMap<String, ()>, alloc: Global, stem: &str) -> Result<(), Mem>
-    ensures { OnOk result ((t : List ℕ) → is_some (get_by_text set.new t) ≡ (bytes_eq t stem.now || is_some (get_by_text set.old t))) }
+    ensures { OnOk result ((t : List ℕ) → is_some (get_by_text set.new t)
+        ≡ (bytes_eq t stem.now || is_some (get_by_text set.old t))) }
 {
     set.insert(String::from_str(alloc, stem)?, ())?;
     Ok(())
@@ -21,7 +22,8 @@ fn put_stem(set: &mut BTreeMap<String, ()>, alloc: Global, stem: &str) -> Result
 
 /// The names of the recipes' files, without `.bb`.
 fn stems_of(alloc: Global, paths: &[Text]) -> Result<BTreeMap<String, ()>, Mem>
-    ensures { IfOk result (λ made. (t : List ℕ) → is_some (get_by_text made t) ≡ list_any (λ path. bytes_eq t (recipe_stem path)) paths.now) }
+    ensures { IfOk result (λ made. (t : List ℕ) → is_some (get_by_text made t)
+        ≡ list_any (λ path. bytes_eq t (recipe_stem path)) paths.now) }
 {
     let mut set = BTreeMap::new(alloc);
     for path in paths {
@@ -45,7 +47,8 @@ fn has_recipe(paths: &[Text], append: &str) -> bool
 /// Whether the append belongs to one of the recipes, whose names are these. All of them are gone through only where its own
 /// name ends with `%`.
 fn is_wanted(stems: &BTreeMap<String, ()>, paths: &[Text], append: &str) -> bool
-    requires { (t : List ℕ) → is_some (get_by_text stems.now t) ≡ list_any (λ path. bytes_eq t (recipe_stem path)) paths.now }
+    requires { (t : List ℕ) → is_some (get_by_text stems.now t)
+        ≡ list_any (λ path. bytes_eq t (recipe_stem path)) paths.now }
     ensures { result ≡ list_any (λ path. recipes.belongs path append.now) paths.now }
 {
     let stem = append_stem(append);
@@ -58,7 +61,8 @@ fn is_wanted(stems: &BTreeMap<String, ()>, paths: &[Text], append: &str) -> bool
 
 /// The first append that belongs to no recipe, which is refused (own rule).
 pub(crate) fn dangling(alloc: Global, paths: &[Text], appends: &[Text]) -> Result<Option<Text>, Mem>
-    ensures { IfOk result (λ found. MatchOption found (recipes.all_belong paths.now appends.now ≡ Ok appends.now) (λ append. recipes.all_belong paths.now appends.now ≡ Err (recipes.dangling_append append))) }
+    ensures { IfOk result (λ found. MatchOption found (recipes.all_belong paths.now appends.now ≡ Ok appends.now)
+        (λ append. recipes.all_belong paths.now appends.now ≡ Err (recipes.dangling_append append))) }
 {
     let stems = stems_of(alloc, paths)?;
     for append in appends {

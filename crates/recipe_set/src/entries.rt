@@ -62,7 +62,8 @@ pub(crate) fn start_of(
     path: &str,
     name: &FileName,
 ) -> Result<Reading, Mem>
-    ensures { IfOk result (λ made. made ≡ starting_with (config.now ++ (recipes.name_lines (name_meant name.now) ++ recipes.file_lines path.now))) }
+    ensures { IfOk result (λ made. made ≡ starting_with
+        (config.now ++ (recipes.name_lines (name_meant name.now) ++ recipes.file_lines path.now))) }
 {
     let lines = name_lines(alloc, name)?;
     let named = Reading::new(alloc, config.top(alloc)?).lines(alloc, lines.as_slice())?;

@@ -25,7 +25,8 @@ fn with_classes<L: Layers>(
     reading: Reading,
 ) -> Result<Reading, LoadFault>
     ensures ok { IfOk result (λ made. L.tells → classes_read (sources_of (L.files layers.old)) reading ≡ Ok made) }
-    ensures err { IfErr result (λ fault. L.tells → IsLoadFault fault (classes_read (sources_of (L.files layers.old)) reading)) }
+    ensures err { IfErr result (λ fault. L.tells → IsLoadFault fault
+        (classes_read (sources_of (L.files layers.old)) reading)) }
     ensures same { L.files layers.new ≡ L.files layers.old }
     ensures cause { Counts (L.faults layers.old) (L.faults layers.new) (load_failed result) }
 {
@@ -42,8 +43,11 @@ fn with_append<L: Layers>(
     reading: Reading,
     append: &str,
 ) -> Result<Reading, LoadFault>
-    ensures ok { IfOk result (λ made. L.tells → entries (sources_of (L.files layers.old)) RecipeFile append.now (with_lines (recipes.file_lines append.now) reading) ≡ Ok made) }
-    ensures err { IfErr result (λ fault. L.tells → IsLoadFault fault (entries (sources_of (L.files layers.old)) RecipeFile append.now (with_lines (recipes.file_lines append.now) reading))) }
+    ensures ok { IfOk result (λ made. L.tells → entries (sources_of (L.files layers.old)) RecipeFile append.now
+        (with_lines (recipes.file_lines append.now) reading) ≡ Ok made) }
+    ensures err { IfErr result (λ fault. L.tells → IsLoadFault fault
+        (entries (sources_of (L.files layers.old)) RecipeFile append.now
+        (with_lines (recipes.file_lines append.now) reading))) }
     ensures same { L.files layers.new ≡ L.files layers.old }
     ensures cause { Counts (L.faults layers.old) (L.faults layers.new) (load_failed result) }
 {
@@ -60,8 +64,10 @@ fn with_appends<L: Layers>(
     first: Reading,
     appends: &[Text],
 ) -> Result<Reading, LoadFault>
-    ensures ok { IfOk result (λ made. L.tells → recipes.appended (sources_of (L.files layers.old)) appends.now first ≡ Ok made) }
-    ensures err { IfErr result (λ fault. L.tells → IsLoadFault fault (recipes.appended (sources_of (L.files layers.old)) appends.now first)) }
+    ensures ok { IfOk result (λ made. L.tells → recipes.appended (sources_of (L.files layers.old)) appends.now first
+        ≡ Ok made) }
+    ensures err { IfErr result (λ fault. L.tells → IsLoadFault fault
+        (recipes.appended (sources_of (L.files layers.old)) appends.now first)) }
     ensures same { L.files layers.new ≡ L.files layers.old }
     ensures cause { Counts (L.faults layers.old) (L.faults layers.new) (load_failed result) }
 {
@@ -83,8 +89,10 @@ fn with_files<L: Layers>(
     path: &str,
     appends: &[Text],
 ) -> Result<Reading, LoadFault>
-    ensures ok { IfOk result (λ made. L.tells → files_read (sources_of (L.files layers.old)) path.now appends.now reading ≡ Ok made) }
-    ensures err { IfErr result (λ fault. L.tells → IsLoadFault fault (files_read (sources_of (L.files layers.old)) path.now appends.now reading)) }
+    ensures ok { IfOk result (λ made. L.tells → files_read (sources_of (L.files layers.old)) path.now appends.now
+        reading ≡ Ok made) }
+    ensures err { IfErr result (λ fault. L.tells → IsLoadFault fault
+        (files_read (sources_of (L.files layers.old)) path.now appends.now reading)) }
     ensures same { L.files layers.new ≡ L.files layers.old }
     ensures cause { Counts (L.faults layers.old) (L.faults layers.new) (load_failed result) }
 {
@@ -111,8 +119,10 @@ pub(crate) fn loaded<L: Layers>(
     name: &FileName,
     appends: &[Text],
 ) -> Result<Reading, LoadFault>
-    ensures ok { IfOk result (λ made. L.tells → entries_with (sources_of (L.files layers.old)) config.now path.now (name_meant name.now) appends.now ≡ Ok made) }
-    ensures err { IfErr result (λ fault. L.tells → IsLoadFault fault (entries_with (sources_of (L.files layers.old)) config.now path.now (name_meant name.now) appends.now)) }
+    ensures ok { IfOk result (λ made. L.tells → entries_with (sources_of (L.files layers.old)) config.now path.now
+        (name_meant name.now) appends.now ≡ Ok made) }
+    ensures err { IfErr result (λ fault. L.tells → IsLoadFault fault
+        (entries_with (sources_of (L.files layers.old)) config.now path.now (name_meant name.now) appends.now)) }
     ensures same { L.files layers.new ≡ L.files layers.old }
     ensures cause { Counts (L.faults layers.old) (L.faults layers.new) (load_failed result) }
 {

@@ -20,7 +20,9 @@ pub(crate) struct FileName {
 
 /// The part before the first underscore and what stands behind it, where there is one.
 fn cut_at_underscore(text: &str) -> Option<(&str, &str)>
-    ensures { MatchOption result (slice_split recipes.is_underscore text.now ≡ text.now ∷ []) (λ cut. slice_split recipes.is_underscore text.now ≡ cut.0.now ∷ slice_split recipes.is_underscore cut.1.now) }
+    ensures { MatchOption result (slice_split recipes.is_underscore text.now ≡ text.now ∷ [])
+        (λ cut. slice_split recipes.is_underscore text.now ≡ cut.0.now
+        ∷ slice_split recipes.is_underscore cut.1.now) }
 {
     text.split_once('_')
 }
@@ -46,7 +48,8 @@ fn named_with_revision(
     pv: &str,
     rest: &str,
 ) -> Result<Option<FileName>, Mem>
-    ensures { IfOk result (λ made. option_map name_meant made ≡ recipes.name_of_parts (pn.now ∷ (pv.now ∷ slice_split recipes.is_underscore rest.now))) }
+    ensures { IfOk result (λ made. option_map name_meant made
+        ≡ recipes.name_of_parts (pn.now ∷ (pv.now ∷ slice_split recipes.is_underscore rest.now))) }
 {
     match cut_at_underscore(rest) {
         Some(_) => Ok(None),
@@ -56,7 +59,8 @@ fn named_with_revision(
 
 /// A name of this part and those of the rest.
 fn named_with_version(alloc: Global, pn: &str, rest: &str) -> Result<Option<FileName>, Mem>
-    ensures { IfOk result (λ made. option_map name_meant made ≡ recipes.name_of_parts (pn.now ∷ slice_split recipes.is_underscore rest.now)) }
+    ensures { IfOk result (λ made. option_map name_meant made
+        ≡ recipes.name_of_parts (pn.now ∷ slice_split recipes.is_underscore rest.now)) }
 {
     match cut_at_underscore(rest) {
         Some((pv, more)) => named_with_revision(alloc, pn, pv, more),

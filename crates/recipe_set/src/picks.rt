@@ -23,7 +23,8 @@ pub(crate) type Versions = BTreeMap<String, Text>;
 
 /// Puts a preference into the map, unless there is one of that PN.
 fn put_version(map: &mut Versions, alloc: Global, pair: &(Text, Text)) -> Result<(), Mem>
-    ensures { OnOk result ((t : List ℕ) → get_by_text map.new t ≡ first_of (get_by_text map.old t) (lookup (bytes_eq t) (pair.now ∷ []))) }
+    ensures { OnOk result ((t : List ℕ) → get_by_text map.new t
+        ≡ first_of (get_by_text map.old t) (lookup (bytes_eq t) (pair.now ∷ []))) }
 {
     if map.contains_key(pair.0.as_str()) {
         return Ok(());
@@ -46,7 +47,9 @@ pub(crate) fn versions_of(alloc: Global, versions: &[(Text, Text)]) -> Result<Ve
 /// Puts a recipe in the place of the one that is chosen so far of its PN, if that gives way.
 fn put_pick(picks: &mut Picks, alloc: Global, recipe: Recipe, fits: bool) -> Result<(), Mem>
     ensures more { OnOk result (btree_map_len picks.new ≤ btree_map_len picks.old + 1) }
-    ensures held { OnOk result ((t : List ℕ) → held_at picks.new t ≡ (if bytes_eq recipe.pn t then turned_to fits (held_at picks.old t) (recipe_meant recipe) else held_at picks.old t)) }
+    ensures held { OnOk result ((t : List ℕ) → held_at picks.new t
+        ≡ (if bytes_eq recipe.pn t then turned_to fits (held_at picks.old t) (recipe_meant recipe) else held_at
+        picks.old t)) }
 {
     match picks.get_mut(recipe.pn.as_str()) {
         Some(pick) => {
@@ -71,7 +74,9 @@ pub(crate) fn pick(
     recipe: Recipe,
 ) -> Result<(), Mem>
     ensures more { OnOk result (btree_map_len picks.new ≤ btree_map_len picks.old + 1) }
-    ensures picked { OnOk result ((wishes : List (List ℕ × List ℕ)) (recipes : List Read) → ((t : List ℕ) → get_by_text versions.now t ≡ lookup (bytes_eq t) wishes) → ArePicks wishes recipes picks.old → ArePicks wishes (recipes ++ recipe_meant recipe ∷ []) picks.new) }
+    ensures picked { OnOk result ((wishes : List (List ℕ × List ℕ)) (recipes : List Read)
+        → ((t : List ℕ) → get_by_text versions.now t ≡ lookup (bytes_eq t) wishes) → ArePicks wishes recipes picks.old
+        → ArePicks wishes (recipes ++ recipe_meant recipe ∷ []) picks.new) }
 {
     let fits = fits_wish(versions.get(recipe.pn.as_str()), &recipe);
     put_pick(picks, alloc, recipe, fits)
@@ -80,7 +85,8 @@ pub(crate) fn pick(
 /// The chosen recipes, in byte order of their PNs.
 pub(crate) fn chosen(alloc: Global, picks: Picks) -> Result<Vec<Recipe>, Mem>
     ensures many { IfOk result (λ made. length made.items ≡ btree_map_len picks) }
-    ensures chosen { IfOk result (λ made. (wishes : List (List ℕ × List ℕ)) (recipes : List Read) → ArePicks wishes recipes picks → map recipe_meant made.items ≡ facts.all_chosen wishes recipes) }
+    ensures chosen { IfOk result (λ made. (wishes : List (List ℕ × List ℕ)) (recipes : List Read)
+        → ArePicks wishes recipes picks → map recipe_meant made.items ≡ facts.all_chosen wishes recipes) }
 {
     let mut made = Vec::new(alloc);
     for (_, pick) in picks {

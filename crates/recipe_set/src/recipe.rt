@@ -24,7 +24,8 @@ use tree_model::{Mem, Text};
 /// The expanded value of a name in a recipe's entries, or the empty text.
 fn value_of(alloc: Global, path: &str, store: &Datastore, name: &str) -> Result<Text, SetFault>
     ensures ok { IfOk result (λ made. recipes.asked_of path.now (recipes.text_of store.now name.now) ≡ Ok made) }
-    ensures err { IfErr result (λ fault. IsSetFault fault (recipes.asked_of path.now (recipes.text_of store.now name.now))) }
+    ensures err { IfErr result (λ fault. IsSetFault fault
+        (recipes.asked_of path.now (recipes.text_of store.now name.now))) }
     ensures not_read { set_failed result ≡ false }
 {
     match text_of(alloc, store, name) {
@@ -147,8 +148,12 @@ fn reading_of<L: Layers>(
     file: &(Text, FileName),
 ) -> Result<Reading, SetFault>
     requires { IsIndex known.now.appends.now known.now.index.now }
-    ensures ok { IfOk result (λ made. L.tells → refused_as recipes.load (recipes.recipe_entries (sources_of (L.files layers.old)) known.now.config.now file.now.0 (name_meant file.now.1) known.now.appends.now) ≡ Ok made) }
-    ensures err { IfErr result (λ fault. L.tells → IsSetFault fault (refused_as recipes.load (recipes.recipe_entries (sources_of (L.files layers.old)) known.now.config.now file.now.0 (name_meant file.now.1) known.now.appends.now))) }
+    ensures ok { IfOk result (λ made. L.tells → refused_as recipes.load
+        (recipes.recipe_entries (sources_of (L.files layers.old)) known.now.config.now file.now.0
+        (name_meant file.now.1) known.now.appends.now) ≡ Ok made) }
+    ensures err { IfErr result (λ fault. L.tells → IsSetFault fault
+        (refused_as recipes.load (recipes.recipe_entries (sources_of (L.files layers.old)) known.now.config.now
+        file.now.0 (name_meant file.now.1) known.now.appends.now))) }
     ensures same { L.files layers.new ≡ L.files layers.old }
     ensures cause { Counts (L.faults layers.old) (L.faults layers.new) (set_failed result) }
 {
@@ -171,8 +176,11 @@ pub(crate) fn read_recipe<L: Layers>(
     file: &(Text, FileName),
 ) -> Result<Recipe, SetFault>
     requires { IsIndex known.now.appends.now known.now.index.now }
-    ensures ok { IfOk result (λ made. L.tells → recipes.recipe_read (sources_of (L.files layers.old)) known.now.config.now known.now.appends.now file.now.0 (name_meant file.now.1) ≡ Ok (recipe_meant made)) }
-    ensures err { IfErr result (λ fault. L.tells → IsSetFault fault (recipes.recipe_read (sources_of (L.files layers.old)) known.now.config.now known.now.appends.now file.now.0 (name_meant file.now.1))) }
+    ensures ok { IfOk result (λ made. L.tells → recipes.recipe_read (sources_of (L.files layers.old))
+        known.now.config.now known.now.appends.now file.now.0 (name_meant file.now.1) ≡ Ok (recipe_meant made)) }
+    ensures err { IfErr result (λ fault. L.tells → IsSetFault fault
+        (recipes.recipe_read (sources_of (L.files layers.old)) known.now.config.now known.now.appends.now file.now.0
+        (name_meant file.now.1))) }
     ensures same { L.files layers.new ≡ L.files layers.old }
     ensures cause { Counts (L.faults layers.old) (L.faults layers.new) (set_failed result) }
 {

@@ -36,8 +36,10 @@ impl Model for RecipeSet {
 
 /// What a recipe says of itself.
 fn facts_at(alloc: Global, recipe: &Recipe) -> Result<RecipeFacts, SetFault>
-    ensures ok { IfOk result (λ made. recipes.asked_of recipe.now.file (meant.facts_of (recipe_meant recipe.now)) ≡ Ok made) }
-    ensures err { IfErr result (λ fault. IsSetFault fault (recipes.asked_of recipe.now.file (meant.facts_of (recipe_meant recipe.now)))) }
+    ensures ok { IfOk result (λ made. recipes.asked_of recipe.now.file (meant.facts_of (recipe_meant recipe.now))
+        ≡ Ok made) }
+    ensures err { IfErr result (λ fault. IsSetFault fault
+        (recipes.asked_of recipe.now.file (meant.facts_of (recipe_meant recipe.now)))) }
     ensures not_read { set_failed result ≡ false }
 {
     match facts_of(alloc, recipe) {

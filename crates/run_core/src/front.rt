@@ -41,7 +41,8 @@ fn way_on_of(
     requires need { length need.now ≡ length tasks.now }
     requires avail { length avail.now ≡ length tasks.now }
     requires fates { length fates.now ≡ length tasks.now }
-    ensures { MatchOption result (CannotGoOn tasks.now need.now avail.now fates.now task) (MayGoOn tasks.now need.now avail.now fates.now) }
+    ensures { MatchOption result (CannotGoOn tasks.now need.now avail.now fates.now task)
+        (MayGoOn tasks.now need.now avail.now fates.now) }
 {
     let place = task as usize;
     if place >= tasks.len() {
@@ -65,7 +66,8 @@ fn find_listed(
     requires fates { length fates.now ≡ length tasks.now }
     ensures found { MatchOption result (length listed.now ≤ head.new) (MayGoOn tasks.now need.now avail.now fates.now) }
     ensures within { head.old ≤ length listed.now → head.new ≤ length listed.now }
-    ensures left { (t : ℕ) → IsListed listed.now head.old t → IsListed listed.now head.new t ⊎ CannotGoOn tasks.now need.now avail.now fates.now t }
+    ensures left { (t : ℕ) → IsListed listed.now head.old t
+        → IsListed listed.now head.new t ⊎ CannotGoOn tasks.now need.now avail.now fates.now t }
 {
     while *head < listed.len() {
         if let Some(next) = way_on_of(tasks, need, avail, fates, listed[*head]) {
@@ -93,7 +95,8 @@ impl Front {
     pub fn new(alloc: Global, plan: &Plan) -> Result<Front, Mem>
         requires ordered { AreOrdered plan.now.tasks }
         requires few { length plan.now.tasks ≤ 65536 }
-        ensures { IfOk result (λ front. (need : List Bool) (avail : List Availability) (fates : List TaskFate) → length need ≡ length plan.now.tasks → Covers plan.now.tasks need avail fates front) }
+        ensures { IfOk result (λ front. (need : List Bool) (avail : List Availability) (fates : List TaskFate)
+            → length need ≡ length plan.now.tasks → Covers plan.now.tasks need avail fates front) }
     {
         let tasks = plan.tasks.as_slice();
         Ok(Front {
@@ -130,7 +133,10 @@ impl Front {
     /// Keeps the list up to date after an event was marked, and after of the waiting tasks these alone came to be needed or
     /// changed whether their output is there.
     pub fn after(&mut self, event: &Event, changed: &[u32])
-        ensures { (tasks : List Task) (need new_need : List Bool) (avail new_avail : List Availability) (fates : List TaskFate) → Covers tasks need avail fates self.old → CanMark fates event.now → ChangesOnly need avail new_need new_avail (fates_by fates event.now) changed.now → Covers tasks new_need new_avail (fates_by fates event.now) self.new }
+        ensures { (tasks : List Task) (need new_need : List Bool) (avail new_avail : List Availability)
+            (fates : List TaskFate) → Covers tasks need avail fates self.old → CanMark fates event.now
+            → ChangesOnly need avail new_need new_avail (fates_by fates event.now) changed.now
+            → Covers tasks new_need new_avail (fates_by fates event.now) self.new }
     {
         self.wake(event);
         list_all(&mut self.listed, &mut self.lossy, changed);
@@ -150,7 +156,8 @@ impl Front {
         requires fates { length fates.now ≡ length tasks.now }
         requires covers { Covers tasks.now need.now avail.now fates.now self.old }
         ensures covers { Covers tasks.now need.now avail.now fates.now self.new }
-        ensures found { MatchOption result ((t : ℕ) → CannotGoOn tasks.now need.now avail.now fates.now t) (MayGoOn tasks.now need.now avail.now fates.now) }
+        ensures found { MatchOption result ((t : ℕ) → CannotGoOn tasks.now need.now avail.now fates.now t)
+            (MayGoOn tasks.now need.now avail.now fates.now) }
     {
         let found = find_listed(&self.listed, &mut self.head, tasks, need, avail, fates);
         if found.is_some() {
@@ -182,7 +189,8 @@ impl Front {
         requires covers { Covers plan.now.tasks need.now avail.now board.now self.old }
         ensures covers { Covers plan.now.tasks need.now avail.now board.now self.new }
         ensures answer { MayAnswer options.now plan.now.tasks need.now avail.now board.now result }
-        ensures finished { (result ≡ Next.Finished) ↔ IsFinished options.now plan.now.tasks need.now avail.now board.now }
+        ensures finished { (result ≡ Next.Finished) ↔ IsFinished options.now plan.now.tasks need.now avail.now
+            board.now }
     {
         let found = self.find(plan.tasks.as_slice(), need, avail, board.fates());
         board.answer(plan, need, avail, options, found)

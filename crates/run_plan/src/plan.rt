@@ -27,8 +27,10 @@ fn plan_of<L: Layers>(
     force: bool,
 ) -> Result<Plan, Status>
     requires { HasRun (asked_meant found.now.asked) found.now.graph found.now.threads }
-    ensures ok { IfOk result (λ made. L.tells → plan_under force (L.files layers.old) found.now.asked.set found.now.graph found.now.threads ≡ Ok made) }
-    ensures err { IfErr result (λ status. L.tells → IsNoPlanOf (plan_under force (L.files layers.old) found.now.asked.set found.now.graph found.now.threads) status) }
+    ensures ok { IfOk result (λ made. L.tells → plan_under force (L.files layers.old) found.now.asked.set
+        found.now.graph found.now.threads ≡ Ok made) }
+    ensures err { IfErr result (λ status. L.tells → IsNoPlanOf
+        (plan_under force (L.files layers.old) found.now.asked.set found.now.graph found.now.threads) status) }
     ensures refusal { IfErr result (λ status. is_refusal status ≡ true) }
     ensures same { L.files layers.new ≡ L.files layers.old }
     ensures cause { Counts (L.faults layers.old) (L.faults layers.new) (mode_failed result) }
@@ -53,8 +55,10 @@ fn planned<L: Layers>(
     task: Option<&Text>,
     force: bool,
 ) -> Result<Plan, Status>
-    ensures ok { IfOk result (λ made. L.tells → (paths : List (List ℕ)) → IsListing [] (L.files layers.old) paths → HasPlan (L.files layers.old) paths words.now (option_copied task.entry) force made) }
-    ensures err { IfErr result (λ status. L.tells → (paths : List (List ℕ)) → IsListing [] (L.files layers.old) paths → IsNoPlan (L.files layers.old) paths words.now (option_copied task.entry) force status) }
+    ensures ok { IfOk result (λ made. L.tells → (paths : List (List ℕ)) → IsListing [] (L.files layers.old) paths
+        → HasPlan (L.files layers.old) paths words.now (option_copied task.entry) force made) }
+    ensures err { IfErr result (λ status. L.tells → (paths : List (List ℕ)) → IsListing [] (L.files layers.old) paths
+        → IsNoPlan (L.files layers.old) paths words.now (option_copied task.entry) force status) }
     ensures refusal { IfErr result (λ status. is_refusal status ≡ true) }
     ensures same { L.files layers.new ≡ L.files layers.old }
     ensures cause { Counts (L.faults layers.old) (L.faults layers.new) (mode_failed result) }
@@ -81,8 +85,10 @@ pub fn find_plan<L: Layers>(
     task: Option<&Text>,
     force: bool,
 ) -> Result<Plan, Status>
-    ensures ok { IfOk result (λ made. L.tells → (paths : List (List ℕ)) → IsListing [] (L.files layers.old) paths → HasPlan (L.files layers.old) paths words.now (option_copied task.entry) force made) }
-    ensures err { IfErr result (λ status. L.tells → (paths : List (List ℕ)) → IsListing [] (L.files layers.old) paths → IsNoPlan (L.files layers.old) paths words.now (option_copied task.entry) force status) }
+    ensures ok { IfOk result (λ made. L.tells → (paths : List (List ℕ)) → IsListing [] (L.files layers.old) paths
+        → HasPlan (L.files layers.old) paths words.now (option_copied task.entry) force made) }
+    ensures err { IfErr result (λ status. L.tells → (paths : List (List ℕ)) → IsListing [] (L.files layers.old) paths
+        → IsNoPlan (L.files layers.old) paths words.now (option_copied task.entry) force status) }
     ensures sound { IfOk result IsSound }
     ensures spellings { IfOk result HasSpellings }
     ensures refusal { IfErr result (λ status. is_refusal status ≡ true) }

@@ -44,7 +44,8 @@ impl<D: Disk, W: Sink> RunState<D, W> {
     /// Whether the output of a task that can be settled is in its work folder. Else there is an object of it.
     fn is_in_work(&self, task: u32) -> bool
         requires answer { MayDo self.now (next.Settle task) }
-        ensures { MatchBool result (IfSome self.now.known (λ k. slice_get k.avail task ≡ Some avails.Work)) (IfSome self.now.known (λ k. slice_get k.avail task ≡ Some avails.Object)) }
+        ensures { MatchBool result (IfSome self.now.known (λ k. slice_get k.avail task ≡ Some avails.Work))
+            (IfSome self.now.known (λ k. slice_get k.avail task ≡ Some avails.Object)) }
     {
         match &self.replan {
             Some(known) => matches!(known.avail()[task as usize], Avail::Work),
@@ -60,14 +61,21 @@ impl<D: Disk, W: Sink> RunState<D, W> {
         requires answer { MayDo self.old (next.Settle task) }
         ensures turns { TurnsTo number self.old self.new result }
         ensures same { SameRun self.old self.new }
-        ensures sink { (before : ℕ) → Counts before (W.faults self.old.sink) self.old.sink_failed → Counts before (W.faults self.new.sink) self.new.sink_failed }
-        ensures text { W.tells → (base : List ℕ) → Prints base (W.written self.old.sink) (tale_text self.old.plan.tasks self.old.tale) self.old.sink_failed → Prints base (W.written self.new.sink) (tale_text self.old.plan.tasks self.new.tale) self.new.sink_failed }
-        ensures stays { W.tells → (front : List ℕ) → IsFront front (W.written self.old.sink) → IsFront front (W.written self.new.sink) }
+        ensures sink { (before : ℕ) → Counts before (W.faults self.old.sink) self.old.sink_failed
+            → Counts before (W.faults self.new.sink) self.new.sink_failed }
+        ensures text { W.tells → (base : List ℕ) → Prints base (W.written self.old.sink)
+            (tale_text self.old.plan.tasks self.old.tale) self.old.sink_failed
+            → Prints base (W.written self.new.sink) (tale_text self.old.plan.tasks self.new.tale)
+            self.new.sink_failed }
+        ensures stays { W.tells → (front : List ℕ) → IsFront front (W.written self.old.sink)
+            → IsFront front (W.written self.new.sink) }
         ensures steady { IsSteady self.old.fault → IsSteady self.new.fault }
 
         // Where the disk tells.
-        ensures run { D.tells → (o : Opening) → IsRun o (seen D.story W.written self.old) → IsRun o (seen D.story W.written self.new) }
-        ensures clean { D.tells → (o : Opening) → IsRun o (seen D.story W.written self.old) → TurnsClean o (seen D.story W.written self.old) result }
+        ensures run { D.tells → (o : Opening) → IsRun o (seen D.story W.written self.old)
+            → IsRun o (seen D.story W.written self.new) }
+        ensures clean { D.tells → (o : Opening) → IsRun o (seen D.story W.written self.old)
+            → TurnsClean o (seen D.story W.written self.old) result }
     {
         if self.is_in_work(task) {
             self.find(number, task)?;
@@ -88,14 +96,21 @@ impl<D: Disk, W: Sink> RunState<D, W> {
         requires free { IsFree (fates_of self.old) number }
         ensures turns { TurnsTo number self.old self.new result }
         ensures same { SameRun self.old self.new }
-        ensures sink { (before : ℕ) → Counts before (W.faults self.old.sink) self.old.sink_failed → Counts before (W.faults self.new.sink) self.new.sink_failed }
-        ensures text { W.tells → (base : List ℕ) → Prints base (W.written self.old.sink) (tale_text self.old.plan.tasks self.old.tale) self.old.sink_failed → Prints base (W.written self.new.sink) (tale_text self.old.plan.tasks self.new.tale) self.new.sink_failed }
-        ensures stays { W.tells → (front : List ℕ) → IsFront front (W.written self.old.sink) → IsFront front (W.written self.new.sink) }
+        ensures sink { (before : ℕ) → Counts before (W.faults self.old.sink) self.old.sink_failed
+            → Counts before (W.faults self.new.sink) self.new.sink_failed }
+        ensures text { W.tells → (base : List ℕ) → Prints base (W.written self.old.sink)
+            (tale_text self.old.plan.tasks self.old.tale) self.old.sink_failed
+            → Prints base (W.written self.new.sink) (tale_text self.old.plan.tasks self.new.tale)
+            self.new.sink_failed }
+        ensures stays { W.tells → (front : List ℕ) → IsFront front (W.written self.old.sink)
+            → IsFront front (W.written self.new.sink) }
         ensures steady { IsSteady self.old.fault → IsSteady self.new.fault }
 
         // Where the disk tells.
-        ensures run { D.tells → (o : Opening) → IsRun o (seen D.story W.written self.old) → IsRun o (seen D.story W.written self.new) }
-        ensures clean { D.tells → (o : Opening) → IsRun o (seen D.story W.written self.old) → TurnsClean o (seen D.story W.written self.old) result }
+        ensures run { D.tells → (o : Opening) → IsRun o (seen D.story W.written self.old)
+            → IsRun o (seen D.story W.written self.new) }
+        ensures clean { D.tells → (o : Opening) → IsRun o (seen D.story W.written self.old)
+            → TurnsClean o (seen D.story W.written self.old) result }
     {
         self.kept();
         match self.next() {
@@ -114,14 +129,21 @@ impl<D: Disk, W: Sink> RunState<D, W> {
         requires free { IsFree (fates_of self.old) number }
         ensures turns { TurnsTo number self.old self.new result }
         ensures same { SameRun self.old self.new }
-        ensures sink { (before : ℕ) → Counts before (W.faults self.old.sink) self.old.sink_failed → Counts before (W.faults self.new.sink) self.new.sink_failed }
-        ensures text { W.tells → (base : List ℕ) → Prints base (W.written self.old.sink) (tale_text self.old.plan.tasks self.old.tale) self.old.sink_failed → Prints base (W.written self.new.sink) (tale_text self.old.plan.tasks self.new.tale) self.new.sink_failed }
-        ensures stays { W.tells → (front : List ℕ) → IsFront front (W.written self.old.sink) → IsFront front (W.written self.new.sink) }
+        ensures sink { (before : ℕ) → Counts before (W.faults self.old.sink) self.old.sink_failed
+            → Counts before (W.faults self.new.sink) self.new.sink_failed }
+        ensures text { W.tells → (base : List ℕ) → Prints base (W.written self.old.sink)
+            (tale_text self.old.plan.tasks self.old.tale) self.old.sink_failed
+            → Prints base (W.written self.new.sink) (tale_text self.old.plan.tasks self.new.tale)
+            self.new.sink_failed }
+        ensures stays { W.tells → (front : List ℕ) → IsFront front (W.written self.old.sink)
+            → IsFront front (W.written self.new.sink) }
         ensures steady { IsSteady self.old.fault → IsSteady self.new.fault }
 
         // Where the disk tells.
-        ensures run { D.tells → (o : Opening) → IsRun o (seen D.story W.written self.old) → IsRun o (seen D.story W.written self.new) }
-        ensures clean { D.tells → (o : Opening) → IsRun o (seen D.story W.written self.old) → TurnsClean o (seen D.story W.written self.old) result }
+        ensures run { D.tells → (o : Opening) → IsRun o (seen D.story W.written self.old)
+            → IsRun o (seen D.story W.written self.new) }
+        ensures clean { D.tells → (o : Opening) → IsRun o (seen D.story W.written self.old)
+            → TurnsClean o (seen D.story W.written self.old) result }
     {
         if self.look(alloc)? {
             return self.act(alloc, number);
@@ -142,14 +164,21 @@ impl<D: Disk, W: Sink> RunState<D, W> {
         ensures stops { IsSome self.old.fault → result ≡ Ok Claim.Stopped }
         ensures same { SameRun self.old self.new }
         ensures rests { RestsAfterFault self.old self.new }
-        ensures sink { (before : ℕ) → Counts before (W.faults self.old.sink) self.old.sink_failed → Counts before (W.faults self.new.sink) self.new.sink_failed }
-        ensures text { W.tells → (base : List ℕ) → Prints base (W.written self.old.sink) (tale_text self.old.plan.tasks self.old.tale) self.old.sink_failed → Prints base (W.written self.new.sink) (tale_text self.old.plan.tasks self.new.tale) self.new.sink_failed }
-        ensures stays { W.tells → (front : List ℕ) → IsFront front (W.written self.old.sink) → IsFront front (W.written self.new.sink) }
+        ensures sink { (before : ℕ) → Counts before (W.faults self.old.sink) self.old.sink_failed
+            → Counts before (W.faults self.new.sink) self.new.sink_failed }
+        ensures text { W.tells → (base : List ℕ) → Prints base (W.written self.old.sink)
+            (tale_text self.old.plan.tasks self.old.tale) self.old.sink_failed
+            → Prints base (W.written self.new.sink) (tale_text self.old.plan.tasks self.new.tale)
+            self.new.sink_failed }
+        ensures stays { W.tells → (front : List ℕ) → IsFront front (W.written self.old.sink)
+            → IsFront front (W.written self.new.sink) }
         ensures steady { IsSteady self.old.fault → IsSteady self.new.fault }
 
         // Where the disk tells.
-        ensures run { D.tells → (o : Opening) → IsRun o (seen D.story W.written self.old) → IsRun o (seen D.story W.written self.new) }
-        ensures clean { D.tells → (o : Opening) → IsRun o (seen D.story W.written self.old) → ClaimsClean o (seen D.story W.written self.old) result }
+        ensures run { D.tells → (o : Opening) → IsRun o (seen D.story W.written self.old)
+            → IsRun o (seen D.story W.written self.new) }
+        ensures clean { D.tells → (o : Opening) → IsRun o (seen D.story W.written self.old)
+            → ClaimsClean o (seen D.story W.written self.old) result }
     {
         if self.has_fault() {
             return Ok(Claim::Stopped);

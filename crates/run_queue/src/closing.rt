@@ -45,7 +45,9 @@ pub(crate) fn signature(
 ) -> Result<SigRecord, StoreFault>
     requires task { task < length plan.now.tasks }
     requires wide { IfSome replan.now (λ known. length (unihashes_in known) ≡ length plan.now.tasks) }
-    ensures is { IfOk result (λ sig. IfSome replan.now (λ known. (own : Task) → slice_get plan.now.tasks task ≡ Some own → sig ≡ signature_by plan.now.tasks (unihashes_in known) own)) }
+    ensures is { IfOk result (λ sig. IfSome replan.now
+        (λ known. (own : Task) → slice_get plan.now.tasks task ≡ Some own
+        → sig ≡ signature_by plan.now.tasks (unihashes_in known) own)) }
     ensures known { OnOk result (IsSome replan.now) }
     ensures refused { IfErr result (λ fault. fault ≡ StoreFault.Memory) }
 {
@@ -72,17 +74,21 @@ fn publish_in<D: Disk>(
     requires listed { manifest.now ≡ manifest_lines tree.now }
     requires current { IfSome replan.now (IsCurrent no_meaning (record { plan = plan.now; rows = store.old.rows })) }
     requires unharmed { D.faults store.old.disk ≡ 0 }
-    ensures put { OnOk result ((s : Signed) → IsSignedAt store.old.rows plan.now.tasks task s → HasPut D.tells (D.story store.new.disk) store.old.rows store.new.rows s tree.now) }
+    ensures put { OnOk result ((s : Signed) → IsSignedAt store.old.rows plan.now.tasks task s
+        → HasPut D.tells (D.story store.new.disk) store.old.rows store.new.rows s tree.now) }
     ensures known { OnOk result (IsSome replan.now) }
     ensures refused_rows { OnErr result (store.new.rows ≡ store.old.rows) }
     ensures unlooked { replan.now ≡ None → store.new ≡ store.old }
     ensures cause { IfErr result (IsStoreCause (D.faults store.new.disk)) }
-    ensures steady { (IsSome replan.now → (s : Signed) → IsSignedAt store.old.rows plan.now.tasks task s → IsAgreed store.old.rows s tree.now) → IfErr result IsSteadyAnswer }
+    ensures steady { (IsSome replan.now → (s : Signed) → IsSignedAt store.old.rows plan.now.tasks task s
+        → IsAgreed store.old.rows s tree.now) → IfErr result IsSteadyAnswer }
     ensures unharmed { OnOk result (D.faults store.new.disk ≡ 0) }
 
     // Whatever it answers.
-    ensures puts { (s : Signed) → IsSignedAt store.old.rows plan.now.tasks task s → Puts D.tells (D.story store.old.disk) (D.story store.new.disk) (publication store.old.rows s tree.now) }
-    ensures readable { (s : Signed) → IsSignedAt store.old.rows plan.now.tasks task s → IsReadable (line_for store.old.rows s tree.now) ⊎ (store.new.disk ≡ store.old.disk) }
+    ensures puts { (s : Signed) → IsSignedAt store.old.rows plan.now.tasks task s
+        → Puts D.tells (D.story store.old.disk) (D.story store.new.disk) (publication store.old.rows s tree.now) }
+    ensures readable { (s : Signed) → IsSignedAt store.old.rows plan.now.tasks task s
+        → IsReadable (line_for store.old.rows s tree.now) ⊎ (store.new.disk ≡ store.old.disk) }
 {
     let sig = signature(alloc, plan, replan, task)?;
     let task = &plan.tasks.as_slice()[task as usize];
@@ -104,10 +110,13 @@ fn resettle<D: Disk>(
 )
     requires sound { IsSound plan.now }
     requires task { task < length plan.now.tasks }
-    requires settled { IfSome replan.old (IsSettled no_meaning (record { plan = plan.now; rows = store.old.rows }) task) }
+    requires settled { IfSome replan.old (IsSettled no_meaning (record { plan = plan.now; rows = store.old.rows })
+        task) }
     requires faultless { fault.old ≡ None }
     requires unharmed { D.faults store.old.disk ≡ 0 }
-    ensures current { IfSome replan.new (λ made. IfSome replan.old (λ known. IsCurrent (kept_or_meant (earlier_in known) D.tells (D.story store.old.disk).held store.old.rows setscene plan.now.tasks begun.now) (record { plan = plan.now; rows = store.old.rows }) made)) }
+    ensures current { IfSome replan.new (λ made. IfSome replan.old
+        (λ known. IsCurrent (kept_or_meant (earlier_in known) D.tells (D.story store.old.disk).held store.old.rows
+        setscene plan.now.tasks begun.now) (record { plan = plan.now; rows = store.old.rows }) made)) }
     ensures nothing_new { replan.old ≡ None → replan.new ≡ None }
     ensures unharmed { fault.new ≡ None → D.faults store.new.disk ≡ 0 }
     ensures cause { (failed : Bool) → IfSome fault.new (IsCause (D.faults store.new.disk) failed) }
@@ -144,13 +153,20 @@ impl<D: Disk, W: Sink> RunState<D, W> {
         requires listed { manifest.now ≡ manifest_lines tree.now }
         ensures ends { Ends number task (givens.Tree tree.now manifest.now) self.old self.new result }
         ensures same { SameRun self.old self.new }
-        ensures sink { (before : ℕ) → Counts before (W.faults self.old.sink) self.old.sink_failed → Counts before (W.faults self.new.sink) self.new.sink_failed }
-        ensures text { W.tells → (base : List ℕ) → Prints base (W.written self.old.sink) (tale_text self.old.plan.tasks self.old.tale) self.old.sink_failed → Prints base (W.written self.new.sink) (tale_text self.old.plan.tasks self.new.tale) self.new.sink_failed }
-        ensures stays { W.tells → (front : List ℕ) → IsFront front (W.written self.old.sink) → IsFront front (W.written self.new.sink) }
+        ensures sink { (before : ℕ) → Counts before (W.faults self.old.sink) self.old.sink_failed
+            → Counts before (W.faults self.new.sink) self.new.sink_failed }
+        ensures text { W.tells → (base : List ℕ) → Prints base (W.written self.old.sink)
+            (tale_text self.old.plan.tasks self.old.tale) self.old.sink_failed
+            → Prints base (W.written self.new.sink) (tale_text self.old.plan.tasks self.new.tale)
+            self.new.sink_failed }
+        ensures stays { W.tells → (front : List ℕ) → IsFront front (W.written self.old.sink)
+            → IsFront front (W.written self.new.sink) }
 
         // Where the disk tells.
-        ensures run { D.tells → (o : Opening) → IsRun o (seen D.story W.written self.old) → IsCleanOutput o.gives self.old.plan.tasks task tree.now → IsRun o (seen D.story W.written self.new) }
-        ensures steady { D.tells → (o : Opening) → IsRun o (seen D.story W.written self.old) → IsCleanOutput o.gives self.old.plan.tasks task tree.now → IsSteady self.new.fault }
+        ensures run { D.tells → (o : Opening) → IsRun o (seen D.story W.written self.old)
+            → IsCleanOutput o.gives self.old.plan.tasks task tree.now → IsRun o (seen D.story W.written self.new) }
+        ensures steady { D.tells → (o : Opening) → IsRun o (seen D.story W.written self.old)
+            → IsCleanOutput o.gives self.old.plan.tasks task tree.now → IsSteady self.new.fault }
     {
         self.begun[task as usize] = Some(Avail::Missing);
         match publish_in(
@@ -200,13 +216,22 @@ impl<D: Disk, W: Sink> RunState<D, W> {
         ensures ends { Ends number job.task given self.old self.new result }
         ensures same { SameRun self.old self.new }
         ensures rests { RestsAfterFault self.old self.new }
-        ensures sink { (before : ℕ) → Counts before (W.faults self.old.sink) self.old.sink_failed → Counts before (W.faults self.new.sink) self.new.sink_failed }
-        ensures text { W.tells → (base : List ℕ) → Prints base (W.written self.old.sink) (tale_text self.old.plan.tasks self.old.tale) self.old.sink_failed → Prints base (W.written self.new.sink) (tale_text self.old.plan.tasks self.new.tale) self.new.sink_failed }
-        ensures stays { W.tells → (front : List ℕ) → IsFront front (W.written self.old.sink) → IsFront front (W.written self.new.sink) }
+        ensures sink { (before : ℕ) → Counts before (W.faults self.old.sink) self.old.sink_failed
+            → Counts before (W.faults self.new.sink) self.new.sink_failed }
+        ensures text { W.tells → (base : List ℕ) → Prints base (W.written self.old.sink)
+            (tale_text self.old.plan.tasks self.old.tale) self.old.sink_failed
+            → Prints base (W.written self.new.sink) (tale_text self.old.plan.tasks self.new.tale)
+            self.new.sink_failed }
+        ensures stays { W.tells → (front : List ℕ) → IsFront front (W.written self.old.sink)
+            → IsFront front (W.written self.new.sink) }
 
         // Where the disk tells.
-        ensures run { D.tells → (o : Opening) → IsRun o (seen D.story W.written self.old) → IsGivenBy o.gives job given → IsCleanJob o (seen D.story W.written self.old) job → IsRun o (seen D.story W.written self.new) }
-        ensures steady { D.tells → (o : Opening) → IsRun o (seen D.story W.written self.old) → IsGivenBy o.gives job given → IsCleanJob o (seen D.story W.written self.old) job → IsSteady self.old.fault → IsSteady self.new.fault }
+        ensures run { D.tells → (o : Opening) → IsRun o (seen D.story W.written self.old)
+            → IsGivenBy o.gives job given → IsCleanJob o (seen D.story W.written self.old) job
+            → IsRun o (seen D.story W.written self.new) }
+        ensures steady { D.tells → (o : Opening) → IsRun o (seen D.story W.written self.old)
+            → IsGivenBy o.gives job given → IsCleanJob o (seen D.story W.written self.old) job
+            → IsSteady self.old.fault → IsSteady self.new.fault }
     {
         let task = job.task;
         if self.fault.is_some() {

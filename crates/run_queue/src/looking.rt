@@ -19,13 +19,15 @@ impl<D: Disk, W: Sink> RunState<D, W> {
     pub(crate) fn look(&mut self, alloc: Global) -> Result<bool, Mem>
         requires faultless { self.old.fault ≡ None }
         ensures looks { Looks self.old self.new }
-        ensures found { IfOk result (λ found. MatchBool found (IsSome self.new.known × (self.new.fault ≡ None)) (IsSome self.new.fault)) }
+        ensures found { IfOk result (λ found. MatchBool found (IsSome self.new.known × (self.new.fault ≡ None))
+            (IsSome self.new.fault)) }
         ensures wanting { OnErr result (self.new.fault ≡ None) }
         ensures stays { IsSome self.old.known → self.new ≡ self.old }
         ensures steady { IsSteady self.old.fault → IsSteady self.new.fault }
 
         // Where the disk tells.
-        ensures run { D.tells → (o : Opening) → IsRun o (seen D.story W.written self.old) → IsRun o (seen D.story W.written self.new) }
+        ensures run { D.tells → (o : Opening) → IsRun o (seen D.story W.written self.old)
+            → IsRun o (seen D.story W.written self.new) }
     {
         if self.replan.is_some() {
             return Ok(true);

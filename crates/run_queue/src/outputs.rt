@@ -25,7 +25,8 @@ fn outputs_of<D: Disk>(
     numbers: &[u32],
 ) -> Result<Option<Vec<(u32, Tree)>>, StoreFault>
     requires { All (λ n. n < length plan.now.tasks) numbers.now }
-    ensures found { D.tells → IfOk result (λ found. AreFound plan.now.tasks numbers.now (D.story store.old.disk).held (option_map (λ v. v.items) found)) }
+    ensures found { D.tells → IfOk result (λ found. AreFound plan.now.tasks numbers.now (D.story store.old.disk).held
+        (option_map (λ v. v.items) found)) }
     ensures short { IfOk result (λ found. IfSome found (λ outputs. AreShort outputs.items)) }
     ensures refused { IfErr result IsOutside }
     ensures books { SameBooks store.old store.new }
@@ -52,7 +53,8 @@ fn job_over(
     requires number { number < length plan.now.tasks }
     requires runnable { IsRunnable plan.now }
     requires short { AreShort outputs.now }
-    ensures found { IfOk result (λ found. (task : Task) → slice_get plan.now.tasks number ≡ Some task → IsOver plan.now.tasks task outputs.now found) }
+    ensures found { IfOk result (λ found. (task : Task) → slice_get plan.now.tasks number ≡ Some task
+        → IsOver plan.now.tasks task outputs.now found) }
     ensures task { IfOk result (λ found. IfSome found (λ job. job.task ≡ number)) }
 {
     match layout(alloc, plan, number, outputs)? {
@@ -73,8 +75,11 @@ pub(crate) fn job_of<D: Disk>(
 ) -> Result<Option<Job>, StoreFault>
     requires number { number < length plan.now.tasks }
     requires runnable { IsRunnable plan.now }
-    ensures found { D.tells → IfOk result (λ found. (task : Task) → slice_get plan.now.tasks number ≡ Some task → Finds plan.now.tasks task (D.story store.old.disk).held found) }
-    ensures script { IfOk result (λ found. IfSome found (λ job. (job.task ≡ number) × ((task : Task) → slice_get plan.now.tasks number ≡ Some task → job.script ≡ task.script))) }
+    ensures found { D.tells → IfOk result (λ found. (task : Task) → slice_get plan.now.tasks number ≡ Some task
+        → Finds plan.now.tasks task (D.story store.old.disk).held found) }
+    ensures script { IfOk result (λ found. IfSome found
+        (λ job. (job.task ≡ number) × ((task : Task) → slice_get plan.now.tasks number ≡ Some task
+        → job.script ≡ task.script))) }
     ensures refused { IfErr result IsOutside }
     ensures books { SameBooks store.old store.new }
     ensures images { D.tells → Passes (D.story store.old.disk) (D.story store.new.disk) Same }

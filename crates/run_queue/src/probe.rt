@@ -160,10 +160,13 @@ fn ask_all<D: Disk>(asking: &mut Asking<D, Brand>, plan: &Plan) -> Result<Replan
     requires ordered { AreOrdered plan.now.tasks }
     requires targets { All (λ t. t < length plan.now.tasks) plan.now.targets }
     requires fault { asking.old.fault.now ≡ None }
-    ensures current { IfOk result (λ made. IsCurrent (meant D.tells (D.story asking.old.store.now.disk).held asking.old.store.now.rows asking.old.setscene plan.now.tasks asking.old.begun.now) (record { plan = plan.now; rows = asking.old.store.now.rows }) made) }
+    ensures current { IfOk result (λ made. IsCurrent (meant D.tells (D.story asking.old.store.now.disk).held
+        asking.old.store.now.rows asking.old.setscene plan.now.tasks asking.old.begun.now)
+        (record { plan = plan.now; rows = asking.old.store.now.rows }) made) }
     ensures names { IfOk result (λ made. names_in made ≡ names_over asking.old.store.now.rows plan.now.tasks) }
     ensures fine { OnOk result (asking.new.fault.now ≡ None) }
-    ensures refused { IsUnknown (D.faults asking.old.store.now.disk) (D.faults asking.new.store.now.disk) (unwrap_or asking.new.fault.now StoreFault.Memory) }
+    ensures refused { IsUnknown (D.faults asking.old.store.now.disk) (D.faults asking.new.store.now.disk)
+        (unwrap_or asking.new.fault.now StoreFault.Memory) }
     ensures asks { Asks D.tells D.story D.faults asking.old.store.now asking.new.store.now None asking.new.fault.now }
     ensures same_store { asking.new.store.ghost_name ≡ asking.old.store.ghost_name }
     ensures same_fault { asking.new.fault.ghost_name ≡ asking.old.fault.ghost_name }
@@ -185,10 +188,14 @@ fn ask_changed<D: Disk, E: Before>(
     requires task { task < length plan.now.tasks }
     requires fault { asking.old.fault.now ≡ None }
     requires earlier { E.earlier ≡ earlier_in known.old }
-    requires settled { IsSettled no_meaning (record { plan = plan.now; rows = asking.old.store.now.rows }) task known.old }
-    ensures current { OnOk result (IsCurrent (kept_or_meant E.earlier D.tells (D.story asking.old.store.now.disk).held asking.old.store.now.rows asking.old.setscene plan.now.tasks asking.old.begun.now) (record { plan = plan.now; rows = asking.old.store.now.rows }) known.new) }
+    requires settled { IsSettled no_meaning (record { plan = plan.now; rows = asking.old.store.now.rows }) task
+        known.old }
+    ensures current { OnOk result (IsCurrent (kept_or_meant E.earlier D.tells (D.story asking.old.store.now.disk).held
+        asking.old.store.now.rows asking.old.setscene plan.now.tasks asking.old.begun.now)
+        (record { plan = plan.now; rows = asking.old.store.now.rows }) known.new) }
     ensures fine { OnOk result (asking.new.fault.now ≡ None) }
-    ensures refused { IsUnknown (D.faults asking.old.store.now.disk) (D.faults asking.new.store.now.disk) (unwrap_or asking.new.fault.now StoreFault.Memory) }
+    ensures refused { IsUnknown (D.faults asking.old.store.now.disk) (D.faults asking.new.store.now.disk)
+        (unwrap_or asking.new.fault.now StoreFault.Memory) }
     ensures asks { Asks D.tells D.story D.faults asking.old.store.now asking.new.store.now None asking.new.fault.now }
     ensures same_store { asking.new.store.ghost_name ≡ asking.old.store.ghost_name }
     ensures same_fault { asking.new.fault.ghost_name ≡ asking.old.fault.ghost_name }
@@ -207,7 +214,8 @@ pub(crate) fn known_of<D: Disk>(
     requires few { length plan.now.tasks ≤ 65536 }
     requires ordered { AreOrdered plan.now.tasks }
     requires targets { All (λ t. t < length plan.now.tasks) plan.now.targets }
-    ensures current { IfOk result (λ made. IsCurrent (meant D.tells (D.story store.old.disk).held store.old.rows setscene plan.now.tasks begun.now) (record { plan = plan.now; rows = store.old.rows }) made) }
+    ensures current { IfOk result (λ made. IsCurrent (meant D.tells (D.story store.old.disk).held store.old.rows
+        setscene plan.now.tasks begun.now) (record { plan = plan.now; rows = store.old.rows }) made) }
     ensures names { IfOk result (λ made. names_in made ≡ names_over store.old.rows plan.now.tasks) }
     ensures refused { IfErr result (IsUnknown (D.faults store.old.disk) (D.faults store.new.disk)) }
     ensures fine { OnOk result (D.faults store.new.disk ≡ D.faults store.old.disk) }
@@ -248,7 +256,8 @@ fn settled_by<D: Disk, E: Before>(
     requires task { task < length plan.now.tasks }
     requires earlier { E.earlier ≡ earlier_in known }
     requires settled { IsSettled no_meaning (record { plan = plan.now; rows = store.old.rows }) task known }
-    ensures current { IfOk result (λ made. IsCurrent (kept_or_meant E.earlier D.tells (D.story store.old.disk).held store.old.rows setscene plan.now.tasks begun.now) (record { plan = plan.now; rows = store.old.rows }) made) }
+    ensures current { IfOk result (λ made. IsCurrent (kept_or_meant E.earlier D.tells (D.story store.old.disk).held
+        store.old.rows setscene plan.now.tasks begun.now) (record { plan = plan.now; rows = store.old.rows }) made) }
     ensures refused { IfErr result (IsUnknown (D.faults store.old.disk) (D.faults store.new.disk)) }
     ensures fine { OnOk result (D.faults store.new.disk ≡ D.faults store.old.disk) }
     ensures same { SameBooks store.old store.new }
@@ -287,7 +296,9 @@ pub(crate) fn known_after<D: Disk>(
     requires targets { All (λ t. t < length plan.now.tasks) plan.now.targets }
     requires task { task < length plan.now.tasks }
     requires settled { IsSettled no_meaning (record { plan = plan.now; rows = store.old.rows }) task known }
-    ensures current { IfOk result (λ made. IsCurrent (kept_or_meant (earlier_in known) D.tells (D.story store.old.disk).held store.old.rows setscene plan.now.tasks begun.now) (record { plan = plan.now; rows = store.old.rows }) made) }
+    ensures current { IfOk result (λ made. IsCurrent (kept_or_meant (earlier_in known) D.tells
+        (D.story store.old.disk).held store.old.rows setscene plan.now.tasks begun.now)
+        (record { plan = plan.now; rows = store.old.rows }) made) }
     ensures refused { IfErr result (IsUnknown (D.faults store.old.disk) (D.faults store.new.disk)) }
     ensures fine { OnOk result (D.faults store.new.disk ≡ D.faults store.old.disk) }
 

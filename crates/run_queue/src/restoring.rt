@@ -50,14 +50,16 @@ fn restore_in<D: Disk>(
     requires task { task < length plan.now.tasks }
     requires current { IfSome replan.now (IsCurrent no_meaning (record { plan = plan.now; rows = store.old.rows })) }
     requires unharmed { D.faults store.old.disk ≡ 0 }
-    ensures restored { IfOk result (λ found. (s : Signed) → IsSignedAt store.old.rows plan.now.tasks task s → HasPutObject D.tells (D.story store.old.disk) (D.story store.new.disk) store.old.rows s found) }
+    ensures restored { IfOk result (λ found. (s : Signed) → IsSignedAt store.old.rows plan.now.tasks task s
+        → HasPutObject D.tells (D.story store.old.disk) (D.story store.new.disk) store.old.rows s found) }
     ensures cause { IfErr result (IsStoreCause (D.faults store.new.disk)) }
     ensures steady { IfErr result IsSteadyAnswer }
     ensures unharmed { OnOk result (D.faults store.new.disk ≡ 0) }
 
     // Whatever it answers.
     ensures books { SameBooks store.old store.new }
-    ensures puts { (s : Signed) → IsSignedAt store.old.rows plan.now.tasks task s → PutsObject D.tells (D.story store.old.disk) (D.story store.new.disk) store.old.rows s }
+    ensures puts { (s : Signed) → IsSignedAt store.old.rows plan.now.tasks task s
+        → PutsObject D.tells (D.story store.old.disk) (D.story store.new.disk) store.old.rows s }
 {
     let sig = signature(alloc, plan, replan, task)?;
     store.restore(alloc, &plan.tasks.as_slice()[task as usize], &sig)
@@ -75,13 +77,19 @@ impl<D: Disk, W: Sink> RunState<D, W> {
         requires there { IfSome self.old.known (λ k. slice_get k.avail task ≡ Some avails.Object) }
         ensures restores { RestoresTo number task self.old self.new result }
         ensures same { SameRun self.old self.new }
-        ensures sink { (before : ℕ) → Counts before (W.faults self.old.sink) self.old.sink_failed → Counts before (W.faults self.new.sink) self.new.sink_failed }
-        ensures text { W.tells → (base : List ℕ) → Prints base (W.written self.old.sink) (tale_text self.old.plan.tasks self.old.tale) self.old.sink_failed → Prints base (W.written self.new.sink) (tale_text self.old.plan.tasks self.new.tale) self.new.sink_failed }
-        ensures stays { W.tells → (front : List ℕ) → IsFront front (W.written self.old.sink) → IsFront front (W.written self.new.sink) }
+        ensures sink { (before : ℕ) → Counts before (W.faults self.old.sink) self.old.sink_failed
+            → Counts before (W.faults self.new.sink) self.new.sink_failed }
+        ensures text { W.tells → (base : List ℕ) → Prints base (W.written self.old.sink)
+            (tale_text self.old.plan.tasks self.old.tale) self.old.sink_failed
+            → Prints base (W.written self.new.sink) (tale_text self.old.plan.tasks self.new.tale)
+            self.new.sink_failed }
+        ensures stays { W.tells → (front : List ℕ) → IsFront front (W.written self.old.sink)
+            → IsFront front (W.written self.new.sink) }
         ensures steady { IsSteady self.old.fault → IsSteady self.new.fault }
 
         // Where the disk tells.
-        ensures run { D.tells → (o : Opening) → IsRun o (seen D.story W.written self.old) → IsRun o (seen D.story W.written self.new) }
+        ensures run { D.tells → (o : Opening) → IsRun o (seen D.story W.written self.old)
+            → IsRun o (seen D.story W.written self.new) }
     {
         self.begun[task as usize] = Some(Avail::Object);
         match restore_in(alloc, &mut self.store, &self.plan, &self.replan, task) {

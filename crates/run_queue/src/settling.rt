@@ -28,13 +28,19 @@ impl<D: Disk, W: Sink> RunState<D, W> {
         ensures wanting { OnErr result (self.new ≡ self.old) }
         ensures same { SameRun self.old self.new }
         ensures store { self.new.store ≡ self.old.store }
-        ensures sink { (before : ℕ) → Counts before (W.faults self.old.sink) self.old.sink_failed → Counts before (W.faults self.new.sink) self.new.sink_failed }
-        ensures text { W.tells → (base : List ℕ) → Prints base (W.written self.old.sink) (tale_text self.old.plan.tasks self.old.tale) self.old.sink_failed → Prints base (W.written self.new.sink) (tale_text self.old.plan.tasks self.new.tale) self.new.sink_failed }
-        ensures stays { W.tells → (front : List ℕ) → IsFront front (W.written self.old.sink) → IsFront front (W.written self.new.sink) }
+        ensures sink { (before : ℕ) → Counts before (W.faults self.old.sink) self.old.sink_failed
+            → Counts before (W.faults self.new.sink) self.new.sink_failed }
+        ensures text { W.tells → (base : List ℕ) → Prints base (W.written self.old.sink)
+            (tale_text self.old.plan.tasks self.old.tale) self.old.sink_failed
+            → Prints base (W.written self.new.sink) (tale_text self.old.plan.tasks self.new.tale)
+            self.new.sink_failed }
+        ensures stays { W.tells → (front : List ℕ) → IsFront front (W.written self.old.sink)
+            → IsFront front (W.written self.new.sink) }
         ensures steady { IsSteady self.old.fault → IsSteady self.new.fault }
 
         // Where the disk tells.
-        ensures run { D.tells → (o : Opening) → IsRun o (seen D.story W.written self.old) → IsRun o (seen D.story W.written self.new) }
+        ensures run { D.tells → (o : Opening) → IsRun o (seen D.story W.written self.old)
+            → IsRun o (seen D.story W.written self.new) }
     {
         let _ = &self.plan;
         self.note_waiting(number, Event::Found { task })?;

@@ -76,9 +76,11 @@ impl<D: Disk, W: Sink> Model for RunState<D, W> {
 /// Writes the line of an event, unless the sink has failed, and says whether it has failed now.
 fn write_unless<W: Sink>(sink: &mut W, failed: bool, plan: &Plan, event: &Event) -> bool
     requires { task_of event.now < length plan.now.tasks }
-    ensures text { W.tells → (base text : List ℕ) → Prints base (W.written sink.old) text failed → Prints base (W.written sink.new) (text ++ event_line plan.now.tasks event.now) result }
+    ensures text { W.tells → (base text : List ℕ) → Prints base (W.written sink.old) text failed
+        → Prints base (W.written sink.new) (text ++ event_line plan.now.tasks event.now) result }
     ensures cause { (before : ℕ) → Counts before (W.faults sink.old) failed → Counts before (W.faults sink.new) result }
-    ensures front { W.tells → (front : List ℕ) → IsFront front (W.written sink.old) → IsFront front (W.written sink.new) }
+    ensures front { W.tells → (front : List ℕ) → IsFront front (W.written sink.old)
+        → IsFront front (W.written sink.new) }
     ensures stays { failed ≡ true → result ≡ true }
 {
     if failed {
@@ -133,8 +135,10 @@ impl<D: Disk, W: Sink> RunState<D, W> {
         requires unharmed { D.faults store.disk ≡ 0 }
         requires kept { store.kept ≡ [] }
         ensures begun { IfOk result (λ s. Begun plan options store sink s) }
-        ensures run { D.tells → IfOk result (λ s. (o : Opening) → IsOpening o (D.story store.disk) store.rows → MayRun o plan → IsRun o (seen D.story W.written s)) }
-        ensures refused { IfErr result (λ p. (p.disk ≡ store.disk) × (p.sink ≡ sink) × (p.tale.items ≡ []) × (p.fault ≡ None)) }
+        ensures run { D.tells → IfOk result (λ s. (o : Opening) → IsOpening o (D.story store.disk) store.rows
+            → MayRun o plan → IsRun o (seen D.story W.written s)) }
+        ensures refused { IfErr result (λ p. (p.disk ≡ store.disk) × (p.sink ≡ sink) × (p.tale.items ≡ [])
+            × (p.fault ≡ None)) }
         ensures refused_plan { IfErr result (λ p. p.plan ≡ plan) }
     {
         match room_for(alloc, plan.tasks.len() as u32) {
@@ -168,13 +172,19 @@ impl<D: Disk, W: Sink> RunState<D, W> {
         ensures same { SameRun self.old self.new }
         ensures store { self.new.store ≡ self.old.store }
         ensures fault { IsSome self.old.fault → self.new.fault ≡ self.old.fault }
-        ensures sink { (before : ℕ) → Counts before (W.faults self.old.sink) self.old.sink_failed → Counts before (W.faults self.new.sink) self.new.sink_failed }
-        ensures text { W.tells → (base : List ℕ) → Prints base (W.written self.old.sink) (tale_text self.old.plan.tasks self.old.tale) self.old.sink_failed → Prints base (W.written self.new.sink) (tale_text self.old.plan.tasks self.new.tale) self.new.sink_failed }
-        ensures stays { W.tells → (front : List ℕ) → IsFront front (W.written self.old.sink) → IsFront front (W.written self.new.sink) }
+        ensures sink { (before : ℕ) → Counts before (W.faults self.old.sink) self.old.sink_failed
+            → Counts before (W.faults self.new.sink) self.new.sink_failed }
+        ensures text { W.tells → (base : List ℕ) → Prints base (W.written self.old.sink)
+            (tale_text self.old.plan.tasks self.old.tale) self.old.sink_failed
+            → Prints base (W.written self.new.sink) (tale_text self.old.plan.tasks self.new.tale)
+            self.new.sink_failed }
+        ensures stays { W.tells → (front : List ℕ) → IsFront front (W.written self.old.sink)
+            → IsFront front (W.written self.new.sink) }
         ensures steady { IsSteady self.old.fault → IsSteady self.new.fault }
 
         // Where the disk tells.
-        ensures run { D.tells → (o : Opening) → IsRun o (seen D.story W.written self.old) → IsRun o (seen D.story W.written self.new) }
+        ensures run { D.tells → (o : Opening) → IsRun o (seen D.story W.written self.old)
+            → IsRun o (seen D.story W.written self.new) }
     {
         let task = job.task;
         let _alloc = alloc;
@@ -189,10 +199,14 @@ impl<D: Disk, W: Sink> RunState<D, W> {
         ensures notes { Notes number event self.old self.new }
         ensures moment { D.tells → MarksAt (D.story self.old.store.disk) number event self.old.tale self.new.tale }
         ensures fault { IsSome self.old.fault → self.new.fault ≡ self.old.fault }
-        ensures text { W.tells → (base text : List ℕ) → Prints base (W.written self.old.sink) text self.old.sink_failed → Prints base (W.written self.new.sink) (text ++ event_line self.old.plan.tasks event) self.new.sink_failed }
-        ensures stays { W.tells → (front : List ℕ) → IsFront front (W.written self.old.sink) → IsFront front (W.written self.new.sink) }
+        ensures text { W.tells → (base text : List ℕ) → Prints base (W.written self.old.sink) text
+            self.old.sink_failed → Prints base (W.written self.new.sink)
+            (text ++ event_line self.old.plan.tasks event) self.new.sink_failed }
+        ensures stays { W.tells → (front : List ℕ) → IsFront front (W.written self.old.sink)
+            → IsFront front (W.written self.new.sink) }
         ensures steady { IsSteady self.old.fault → IsSteady self.new.fault }
-        ensures sink { (before : ℕ) → Counts before (W.faults self.old.sink) self.old.sink_failed → Counts before (W.faults self.new.sink) self.new.sink_failed }
+        ensures sink { (before : ℕ) → Counts before (W.faults self.old.sink) self.old.sink_failed
+            → Counts before (W.faults self.new.sink) self.new.sink_failed }
     {
         self.board.mark(&event);
         self.tale.push_reserved(Logged {
@@ -208,13 +222,19 @@ impl<D: Disk, W: Sink> RunState<D, W> {
         requires order { IsInOrder self.old.plan.tasks (fates_of self.old) number event }
         requires waits { is_running (fate_at (fates_of self.old) (task_of event)) ≡ false }
         ensures notes { OnOk result (Notes number event self.old self.new) }
-        ensures moment { D.tells → OnOk result (MarksAt (D.story self.old.store.disk) number event self.old.tale self.new.tale) }
+        ensures moment { D.tells → OnOk result (MarksAt (D.story self.old.store.disk) number event self.old.tale
+            self.new.tale) }
         ensures wanting { OnErr result (self.new ≡ self.old) }
         ensures fault { IsSome self.old.fault → self.new.fault ≡ self.old.fault }
-        ensures text { W.tells → OnOk result ((base text : List ℕ) → Prints base (W.written self.old.sink) text self.old.sink_failed → Prints base (W.written self.new.sink) (text ++ event_line self.old.plan.tasks event) self.new.sink_failed) }
-        ensures stays { W.tells → (front : List ℕ) → IsFront front (W.written self.old.sink) → IsFront front (W.written self.new.sink) }
+        ensures text { W.tells → OnOk result ((base text : List ℕ)
+            → Prints base (W.written self.old.sink) text self.old.sink_failed
+            → Prints base (W.written self.new.sink) (text ++ event_line self.old.plan.tasks event)
+            self.new.sink_failed) }
+        ensures stays { W.tells → (front : List ℕ) → IsFront front (W.written self.old.sink)
+            → IsFront front (W.written self.new.sink) }
         ensures steady { IsSteady self.old.fault → IsSteady self.new.fault }
-        ensures sink { (before : ℕ) → Counts before (W.faults self.old.sink) self.old.sink_failed → Counts before (W.faults self.new.sink) self.new.sink_failed }
+        ensures sink { (before : ℕ) → Counts before (W.faults self.old.sink) self.old.sink_failed
+            → Counts before (W.faults self.new.sink) self.new.sink_failed }
     {
         let more = self.board.running() + 2;
         self.tale.reserve(more)?;
@@ -233,11 +253,15 @@ impl<D: Disk, W: Sink> RunState<D, W> {
     fn say(&mut self, event: &Event)
         requires { task_of event.now < length self.old.plan.tasks }
         ensures same { SameButSink self.old self.new }
-        ensures text { W.tells → (base text : List ℕ) → Prints base (W.written self.old.sink) text self.old.sink_failed → Prints base (W.written self.new.sink) (text ++ event_line self.old.plan.tasks event.now) self.new.sink_failed }
-        ensures stays { W.tells → (front : List ℕ) → IsFront front (W.written self.old.sink) → IsFront front (W.written self.new.sink) }
+        ensures text { W.tells → (base text : List ℕ) → Prints base (W.written self.old.sink) text
+            self.old.sink_failed → Prints base (W.written self.new.sink)
+            (text ++ event_line self.old.plan.tasks event.now) self.new.sink_failed }
+        ensures stays { W.tells → (front : List ℕ) → IsFront front (W.written self.old.sink)
+            → IsFront front (W.written self.new.sink) }
         ensures steady { IsSteady self.old.fault → IsSteady self.new.fault }
         ensures fault { IsSome self.old.fault → self.new.fault ≡ self.old.fault }
-        ensures sink { (before : ℕ) → Counts before (W.faults self.old.sink) self.old.sink_failed → Counts before (W.faults self.new.sink) self.new.sink_failed }
+        ensures sink { (before : ℕ) → Counts before (W.faults self.old.sink) self.old.sink_failed
+            → Counts before (W.faults self.new.sink) self.new.sink_failed }
     {
         self.sink_failed = write_unless(&mut self.sink, self.sink_failed, &self.plan, event);
         if self.sink_failed && self.fault.is_none() {

@@ -62,7 +62,8 @@ fn moved(alloc: Global, store: Datastore) -> Result<Datastore, Status>
 /// The task of targets that name none: this one, where it is given, or that of the configuration.
 fn default_task(alloc: Global, store: &Datastore, task: Option<&Text>) -> Result<Text, Status>
     ensures ok { IfOk result (λ text. meant.default_task store.now (option_copied task.entry) ≡ Ok text) }
-    ensures err { IfErr result (λ status. IsRefusedAs status (meant.default_task store.now (option_copied task.entry))) }
+    ensures err { IfErr result (λ status. IsRefusedAs status
+        (meant.default_task store.now (option_copied task.entry))) }
     ensures refusal { IfErr result (λ status. is_refusal status ≡ true) }
     ensures no_failure { mode_failed result ≡ false }
 {
@@ -80,7 +81,8 @@ fn targets_in(
     task: Option<&Text>,
 ) -> Result<ListOf<Target>, Status>
     ensures ok { IfOk result (λ targets. meant.targets_in store.now words.now (option_copied task.entry) ≡ Ok targets) }
-    ensures err { IfErr result (λ status. IsRefusedAs status (meant.targets_in store.now words.now (option_copied task.entry))) }
+    ensures err { IfErr result (λ status. IsRefusedAs status
+        (meant.targets_in store.now words.now (option_copied task.entry))) }
     ensures refusal { IfErr result (λ status. is_refusal status ≡ true) }
     ensures no_failure { mode_failed result ≡ false }
 {
@@ -99,8 +101,10 @@ fn asked_with(
     words: &[Text],
     task: Option<&Text>,
 ) -> Result<Asked, Status>
-    ensures ok { IfOk result (λ asked. meant.asked_with set appends store words.now (option_copied task.entry) ≡ Ok (asked_meant asked)) }
-    ensures err { IfErr result (λ status. IsRefusedAs status (meant.asked_with set appends store words.now (option_copied task.entry))) }
+    ensures ok { IfOk result (λ asked. meant.asked_with set appends store words.now (option_copied task.entry)
+        ≡ Ok (asked_meant asked)) }
+    ensures err { IfErr result (λ status. IsRefusedAs status
+        (meant.asked_with set appends store words.now (option_copied task.entry))) }
     ensures refusal { IfErr result (λ status. is_refusal status ≡ true) }
     ensures no_failure { mode_failed result ≡ false }
 {
@@ -123,8 +127,10 @@ fn asked_over(
     words: &[Text],
     task: Option<&Text>,
 ) -> Result<Asked, Status>
-    ensures ok { IfOk result (λ asked. meant.asked_over (config_meant config) set words.now (option_copied task.entry) ≡ Ok (asked_meant asked)) }
-    ensures err { IfErr result (λ status. IsRefusedAs status (meant.asked_over (config_meant config) set words.now (option_copied task.entry))) }
+    ensures ok { IfOk result (λ asked. meant.asked_over (config_meant config) set words.now (option_copied task.entry)
+        ≡ Ok (asked_meant asked)) }
+    ensures err { IfErr result (λ status. IsRefusedAs status
+        (meant.asked_over (config_meant config) set words.now (option_copied task.entry))) }
     ensures refusal { IfErr result (λ status. is_refusal status ≡ true) }
     ensures no_failure { mode_failed result ≡ false }
 {
@@ -143,8 +149,11 @@ fn read_under<L: Layers>(
     words: &[Text],
     task: Option<&Text>,
 ) -> Result<Asked, Status>
-    ensures ok { IfOk result (λ asked. L.tells → meant.asked_under (sources_of (L.files layers.old)) (config_meant config) words.now (option_copied task.entry) ≡ Ok (asked_meant asked)) }
-    ensures err { IfErr result (λ status. L.tells → IsRefusedAs status (meant.asked_under (sources_of (L.files layers.old)) (config_meant config) words.now (option_copied task.entry))) }
+    ensures ok { IfOk result (λ asked. L.tells → meant.asked_under (sources_of (L.files layers.old))
+        (config_meant config) words.now (option_copied task.entry) ≡ Ok (asked_meant asked)) }
+    ensures err { IfErr result (λ status. L.tells → IsRefusedAs status
+        (meant.asked_under (sources_of (L.files layers.old)) (config_meant config) words.now
+        (option_copied task.entry))) }
     ensures refusal { IfErr result (λ status. is_refusal status ≡ true) }
     ensures same { L.files layers.new ≡ L.files layers.old }
     ensures cause { Counts (L.faults layers.old) (L.faults layers.new) (mode_failed result) }
@@ -162,8 +171,12 @@ pub(crate) fn read_asked<L: Layers>(
     words: &[Text],
     task: Option<&Text>,
 ) -> Result<Asked, Status>
-    ensures ok { IfOk result (λ asked. L.tells → (paths : List (List ℕ)) → IsListing [] (L.files layers.old) paths → meant.asked (sources_of (L.files layers.old)) paths words.now (option_copied task.entry) ≡ Ok (asked_meant asked)) }
-    ensures err { IfErr result (λ status. L.tells → (paths : List (List ℕ)) → IsListing [] (L.files layers.old) paths → IsRefusedAs status (meant.asked (sources_of (L.files layers.old)) paths words.now (option_copied task.entry))) }
+    ensures ok { IfOk result (λ asked. L.tells → (paths : List (List ℕ)) → IsListing [] (L.files layers.old) paths
+        → meant.asked (sources_of (L.files layers.old)) paths words.now (option_copied task.entry)
+        ≡ Ok (asked_meant asked)) }
+    ensures err { IfErr result (λ status. L.tells → (paths : List (List ℕ)) → IsListing [] (L.files layers.old) paths
+        → IsRefusedAs status (meant.asked (sources_of (L.files layers.old)) paths words.now
+        (option_copied task.entry))) }
     ensures refusal { IfErr result (λ status. is_refusal status ≡ true) }
     ensures same { L.files layers.new ≡ L.files layers.old }
     ensures cause { Counts (L.faults layers.old) (L.faults layers.new) (mode_failed result) }

@@ -17,7 +17,8 @@ use task_graph::{build, threads_of};
 /// The graph of the targets.
 pub(crate) fn graph_of(alloc: Global, asked: &Asked) -> Result<Graph, Status>
     ensures ok { IfOk result (HasGraph (asked_meant asked.now)) }
-    ensures err { IfErr result (λ status. (status ≡ OutOfMemory) ⊎ IsGraphStatus asked.now.set.facts asked.now.targets status) }
+    ensures err { IfErr result (λ status. (status ≡ OutOfMemory)
+        ⊎ IsGraphStatus asked.now.set.facts asked.now.targets status) }
     ensures refusal { IfErr result (λ status. is_refusal status ≡ true) }
     ensures no_failure { mode_failed result ≡ false }
 {
@@ -30,7 +31,8 @@ pub(crate) fn graph_of(alloc: Global, asked: &Asked) -> Result<Graph, Status>
 /// The number of threads that a text stands for.
 fn threads_in(alloc: Global, text: &str) -> Result<u32, Status>
     ensures ok { IfOk result (λ threads. AreThreads text.now threads) }
-    ensures err { IfErr result (λ status. (status ≡ OutOfMemory) ⊎ (((threads : ℕ) → AreThreads text.now threads → ⊥) × (status ≡ threads_status text.now))) }
+    ensures err { IfErr result (λ status. (status ≡ OutOfMemory)
+        ⊎ (((threads : ℕ) → AreThreads text.now threads → ⊥) × (status ≡ threads_status text.now))) }
     ensures refusal { IfErr result (λ status. is_refusal status ≡ true) }
     ensures no_failure { mode_failed result ≡ false }
 {

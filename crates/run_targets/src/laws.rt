@@ -10,5 +10,8 @@ ghost use Rattle.run_targets.specs.Runs.{IsRun, IsRunRefused};
 /// Words that have a run of one project aren't refused: their graph has no refusal, no cycle and no more tasks than a graph may
 /// have.
 pub fn run_law()
-    ensures { (files : List ℕ → Option (List ℕ)) (paths others words : List (List ℕ)) (task : Option (List ℕ)) (what : What) (graph : Tasks) (threads : ℕ) (status : End) → IsListing [] files paths → IsListing [] files others → IsRun (sources_of files) paths words task what graph threads → IsRunRefused (sources_of files) others words task status → ⊥ }
+    ensures { (files : List ℕ → Option (List ℕ)) (paths others words : List (List ℕ)) (task : Option (List ℕ))
+        (what : What) (graph : Tasks) (threads : ℕ) (status : End) → IsListing [] files paths
+        → IsListing [] files others → IsRun (sources_of files) paths words task what graph threads
+        → IsRunRefused (sources_of files) others words task status → ⊥ }
 {}

@@ -76,9 +76,12 @@ pub fn find_run<L: Layers>(
     words: &[Text],
     task: Option<&Text>,
 ) -> Result<Run, Status>
-    ensures ok { IfOk result (λ run. L.tells → (paths : List (List ℕ)) → IsListing [] (L.files layers.old) paths → IsRun (sources_of (L.files layers.old)) paths words.now (option_copied task.entry) (asked_meant run.asked) run.graph run.threads) }
+    ensures ok { IfOk result (λ run. L.tells → (paths : List (List ℕ)) → IsListing [] (L.files layers.old) paths
+        → IsRun (sources_of (L.files layers.old)) paths words.now (option_copied task.entry) (asked_meant run.asked)
+        run.graph run.threads) }
     ensures whole { IfOk result (λ run. HasRun (asked_meant run.asked) run.graph run.threads) }
-    ensures err { IfErr result (λ status. L.tells → (paths : List (List ℕ)) → IsListing [] (L.files layers.old) paths → IsNoRun (sources_of (L.files layers.old)) paths words.now (option_copied task.entry) status) }
+    ensures err { IfErr result (λ status. L.tells → (paths : List (List ℕ)) → IsListing [] (L.files layers.old) paths
+        → IsNoRun (sources_of (L.files layers.old)) paths words.now (option_copied task.entry) status) }
     ensures refusal { IfErr result (λ status. is_refusal status ≡ true) }
     ensures same { L.files layers.new ≡ L.files layers.old }
     ensures cause { Counts (L.faults layers.old) (L.faults layers.new) (mode_failed result) }

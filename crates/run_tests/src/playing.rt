@@ -55,7 +55,8 @@ fn next(index: &Index, play: &mut Play, options: &Options) -> Next
     requires stands { Stands (view_of index.now) play.old }
     ensures stands { Stands (view_of index.now) play.new }
     ensures board { play.new.board ≡ play.old.board }
-    ensures answer { MayAnswer options.now index.now.plan.now.tasks (need_in play.new.replan) (avail_in play.new.replan) play.new.board result }
+    ensures answer { MayAnswer options.now index.now.plan.now.tasks (need_in play.new.replan)
+        (avail_in play.new.replan) play.new.board result }
 {
     play.front.next(
         &play.board,
@@ -99,8 +100,10 @@ fn fail(index: &Index, play: &mut Play, task: u32)
 fn sign(alloc: Global, plan: &Plan, task: u32, unihashes: &[Hash]) -> Result<(Hash, Bytes), Mem>
     requires task { task < length plan.now.tasks }
     requires unihashes { length unihashes.now ≡ length plan.now.tasks }
-    ensures name { IfOk result (λ made. IfSome (slice_get plan.now.tasks task) (λ own. made.0 ≡ name_of (signature_by plan.now.tasks unihashes.now own))) }
-    ensures bytes { IfOk result (λ made. IfSome (slice_get plan.now.tasks task) (λ own. made.1 ≡ signature_bytes (signature_by plan.now.tasks unihashes.now own))) }
+    ensures name { IfOk result (λ made. IfSome (slice_get plan.now.tasks task)
+        (λ own. made.0 ≡ name_of (signature_by plan.now.tasks unihashes.now own))) }
+    ensures bytes { IfOk result (λ made. IfSome (slice_get plan.now.tasks task)
+        (λ own. made.1 ≡ signature_bytes (signature_by plan.now.tasks unihashes.now own))) }
 {
     let sig = sig_of(alloc, plan, task, unihashes)?;
     let bytes = encode(alloc, &sig)?;

@@ -64,9 +64,11 @@ pub(crate) fn claim<K: Began, D: Disk, W: Sink, R: Wait>(
     requires none { HoldsNone (view_of seat.old).number (view_of seat.old).own }
     ensures queue { IsSeatOf queue.now seat.new }
     ensures free { IsFree seat.new }
-    ensures claims { (added : List Entry) × ClaimAdds (view_of seat.old).number result added × Turned (view_of seat.old) (view_of seat.new) added }
+    ensures claims { (added : List Entry) × ClaimAdds (view_of seat.old).number result added
+        × Turned (view_of seat.old) (view_of seat.new) added }
     ensures script { HandsScript K.first.plan result }
-    ensures clean { D.tells → K.alike → (o : Opening) → o.gives ≡ K.gives → IsRun o K.first → HandsClean o K.first result }
+    ensures clean { D.tells → K.alike → (o : Opening) → o.gives ≡ K.gives → IsRun o K.first
+        → HandsClean o K.first result }
 {
     let mut story = queue.begin(rt, seat);
     story.kept();
@@ -90,10 +92,12 @@ pub(crate) fn ended<K: Began, D: Disk, W: Sink, R: Wait>(
     requires free { IsFree seat.old }
     requires holds { Holds job.task (view_of seat.old).number (view_of seat.old).own }
     requires given { IsGiven given }
-    requires clean { D.tells → K.alike → (o : Opening) → o.gives ≡ K.gives → IsRun o K.first → IsGivenBy o.gives job given × IsCleanJob o K.first job }
+    requires clean { D.tells → K.alike → (o : Opening) → o.gives ≡ K.gives → IsRun o K.first
+        → IsGivenBy o.gives job given × IsCleanJob o K.first job }
     ensures queue { IsSeatOf queue.now seat.new }
     ensures free { IsFree seat.new }
-    ensures ends { (added : List Entry) × EndAdds (view_of seat.old).number job.task given result added × Turned (view_of seat.old) (view_of seat.new) added }
+    ensures ends { (added : List Entry) × EndAdds (view_of seat.old).number job.task given result added
+        × Turned (view_of seat.old) (view_of seat.new) added }
 {
     let mut story = queue.begin(rt, seat);
     story.kept();
@@ -117,7 +121,8 @@ pub(crate) fn broke<K: Began, D: Disk, W: Sink, R: Wait>(
     requires holds { Holds job.task (view_of seat.old).number (view_of seat.old).own }
     ensures queue { IsSeatOf queue.now seat.new }
     ensures free { IsFree seat.new }
-    ensures breaks { (added : List Entry) × BreakAdds (view_of seat.old).number job.task cut added × Turned (view_of seat.old) (view_of seat.new) added }
+    ensures breaks { (added : List Entry) × BreakAdds (view_of seat.old).number job.task cut added
+        × Turned (view_of seat.old) (view_of seat.new) added }
 {
     let mut story = queue.begin(rt, seat);
     story.kept();
@@ -134,7 +139,8 @@ pub(crate) fn close<K: Began, D: Disk, W: Sink>(
     requires queue { IsSeatOf queue seat }
     requires free { IsFree seat }
     requires all { HasAllNumbers seat (seats_of queue) }
-    ensures left { IsLeft D.tells W.tells K.alike D.story W.written W.faults K.first K.faults K.gives (records_of (view_of seat)) result }
+    ensures left { IsLeft D.tells W.tells K.alike D.story W.written W.faults K.first K.faults K.gives
+        (records_of (view_of seat)) result }
     ensures none { NoneHold (records_of (view_of seat)) → NoneRuns (fates_of result) }
 {
     let story = queue.close(seat);

@@ -124,9 +124,11 @@ impl<K: Began, D: Disk, W: Sink> Shared<K, D, W> {
     pub(crate) fn claim(&mut self, alloc: Global, number: u32) -> Result<Claimed, Mem>
         requires reach { 3600 ≤ D.reach }
         requires free { IsFree (fates_of self.old.state) number }
-        ensures adds { (added : List Entry) × Adds number (tale_of self.old) (tale_of self.new) added × ClaimAdds number result added }
+        ensures adds { (added : List Entry) × Adds number (tale_of self.old) (tale_of self.new) added
+            × ClaimAdds number result added }
         ensures script { HandsScript K.first.plan result }
-        ensures clean { D.tells → K.alike → (o : Opening) → o.gives ≡ K.gives → IsRun o K.first → HandsClean o K.first result }
+        ensures clean { D.tells → K.alike → (o : Opening) → o.gives ≡ K.gives → IsRun o K.first
+            → HandsClean o K.first result }
     {
         let claim = self.state.claim(alloc, number);
         self.state.kept();
@@ -150,8 +152,10 @@ impl<K: Began, D: Disk, W: Sink> Shared<K, D, W> {
         requires reach { 3600 ≤ D.reach }
         requires runs { RunsUnder self.old.state job.task number }
         requires given { IsGiven given }
-        requires clean { D.tells → K.alike → (o : Opening) → o.gives ≡ K.gives → IsRun o K.first → IsGivenBy o.gives job given × IsCleanJob o K.first job }
-        ensures adds { (added : List Entry) × Adds number (tale_of self.old) (tale_of self.new) added × EndAdds number job.task given result added }
+        requires clean { D.tells → K.alike → (o : Opening) → o.gives ≡ K.gives → IsRun o K.first
+            → IsGivenBy o.gives job given × IsCleanJob o K.first job }
+        ensures adds { (added : List Entry) × Adds number (tale_of self.old) (tale_of self.new) added
+            × EndAdds number job.task given result added }
     {
         let ended = self.state.ended(alloc, number, job, given);
         self.state.kept();
@@ -164,7 +168,8 @@ impl<K: Began, D: Disk, W: Sink> Shared<K, D, W> {
     /// A job on the state broke.
     pub(crate) fn broke(&mut self, alloc: Global, number: u32, job: Job, cut: Cut)
         requires runs { RunsUnder self.old.state job.task number }
-        ensures adds { (added : List Entry) × Adds number (tale_of self.old) (tale_of self.new) added × BreakAdds number job.task cut added }
+        ensures adds { (added : List Entry) × Adds number (tale_of self.old) (tale_of self.new) added
+            × BreakAdds number job.task cut added }
     {
         self.state.broke(alloc, number, job, cut);
         self.state.kept();

@@ -50,13 +50,15 @@ fn do_claimed<K: Began, D: Disk, B: Bench, W: Sink, R: Wait>(
     requires free { IsFree seat.old }
     requires holds { Holds job.task (view_of seat.old).number (view_of seat.old).own }
     requires gives { K.alike → B.tells × (B.gives bench.old ≡ K.gives) }
-    requires clean { D.tells → K.alike → (o : Opening) → o.gives ≡ K.gives → IsRun o K.first → IsCleanJob o K.first job }
+    requires clean { D.tells → K.alike → (o : Opening) → o.gives ≡ K.gives → IsRun o K.first
+        → IsCleanJob o K.first job }
     ensures queue { IsSeatOf queue.now seat.new }
     ensures free { IsFree seat.new }
     ensures same { IsSameSeat (view_of seat.old) (view_of seat.new) }
     ensures closes { Closes (view_of seat.old).number result (view_of seat.old).own (view_of seat.new).own }
     ensures gives { B.gives bench.new ≡ B.gives bench.old }
-    ensures ran { B.tells → RanOnce printed (IsSome result) (job.script, job.layout) (B.place bench.old).runs (B.place bench.new).runs }
+    ensures ran { B.tells → RanOnce printed (IsSome result) (job.script, job.layout) (B.place bench.old).runs
+        (B.place bench.new).runs }
     ensures cause { Counts (B.faults bench.old) (B.faults bench.new) (by_bench result) }
 {
     if !printed {
@@ -100,7 +102,10 @@ fn turn<K: Began, D: Disk, B: Bench, W: Sink, R: Wait>(
     ensures free { IsFree seat.new }
     ensures same { IsSameSeat (view_of seat.old) (view_of seat.new) }
     ensures gives { B.gives bench.new ≡ B.gives bench.old }
-    ensures worked { (old : _) → Worked D.tells B.tells K.alike B.place B.gives B.faults K.first K.gives None (view_of seat.old).number (view_of seat.old).own old bench.old → Worked D.tells B.tells K.alike B.place B.gives B.faults K.first K.gives result (view_of seat.old).number (view_of seat.new).own old bench.new }
+    ensures worked { (old : _) → Worked D.tells B.tells K.alike B.place B.gives B.faults K.first K.gives None
+        (view_of seat.old).number (view_of seat.old).own old bench.old
+        → Worked D.tells B.tells K.alike B.place B.gives B.faults K.first K.gives result (view_of seat.old).number
+        (view_of seat.new).own old bench.new }
 {
     let heard = bell.heard(rt);
     match claim(rt, alloc, queue, seat) {
@@ -138,7 +143,8 @@ pub(crate) fn work<K: Began, D: Disk, B: Bench, W: Sink, R: Wait>(
     ensures queue { IsSeatOf queue.entry.now result.0 }
     ensures free { IsFree result.0 }
     ensures same { IsSameSeat (view_of seat) (view_of result.0) }
-    ensures worked { IsWorked D.tells B.tells K.alike B.place B.gives B.faults K.first K.gives (view_of seat).number (view_of result.0).own bench result.1 }
+    ensures worked { IsWorked D.tells B.tells K.alike B.place B.gives B.faults K.first K.gives (view_of seat).number
+        (view_of result.0).own bench result.1 }
 {
     for _ in rt.forever() {
         if turn(rt, alloc, queue, bell, &mut seat, &mut bench).is_some() {

@@ -50,7 +50,8 @@ where
     ensures queue { IsSeatOf queue.entry.now result.0 }
     ensures free { IsFree result.0 }
     ensures joined { IsJoined (view_of result.0) }
-    ensures worked { AllWorked D.tells B.tells K.alike B.place B.gives B.faults K.first K.gives 1 benches.items result.1.items (view_of result.0).others }
+    ensures worked { AllWorked D.tells B.tells K.alike B.place B.gives B.faults K.first K.gives 1 benches.items
+        result.1.items (view_of result.0).others }
     ensures many { vec_len result.1 ≡ vec_len benches }
     ensures capacity { vec_capacity result.1 ≡ vec_capacity benches }
 {
@@ -76,7 +77,8 @@ where
             ensures queue { IsSeatOf queue.entry.now result.0 }
             ensures free { IsFree result.0 }
             ensures joined { IsJoined (view_of result.0) }
-            ensures worked { AllWorked D.tells B.tells K.alike B.place B.gives B.faults K.first K.gives 1 benches.items result.1.items (view_of result.0).others }
+            ensures worked { AllWorked D.tells B.tells K.alike B.place B.gives B.faults K.first K.gives 1
+                benches.items result.1.items (view_of result.0).others }
             ensures many { vec_len result.1 ≡ vec_len benches }
             ensures capacity { vec_capacity result.1 ≡ vec_capacity benches }
         { spread(rt, alloc, queue, bell, seat, benches) },
@@ -106,7 +108,8 @@ where
     requires first { seen D.story W.written state ≡ K.first }
     requires faults { W.faults state.sink ≡ K.faults }
     requires gives { K.alike → B.tells × All (λ b. B.gives b ≡ K.gives) benches.items }
-    ensures did { AllDid D.tells B.tells W.tells K.alike D.story B.place B.gives B.faults W.written W.faults K.first K.faults K.gives benches.items result.1.items result.0 }
+    ensures did { AllDid D.tells B.tells W.tells K.alike D.story B.place B.gives B.faults W.written W.faults K.first
+        K.faults K.gives benches.items result.1.items result.0 }
     ensures capacity { vec_capacity result.1 ≡ vec_capacity benches }
 {
     match start::<K, D, W>(alloc, state, benches.len() as u32 + 1) {
@@ -147,11 +150,17 @@ where
     ensures none { NoneRuns (fates_of result.0) }
 
     // What was kept of the run, over an opening by which scripts give what they give on all benches, is kept.
-    ensures run { D.tells → B.tells → (o : Opening) → All (λ b. B.gives b ≡ o.gives) benches.items → IsRun o (seen D.story W.written state) → IsRun o (seen D.story W.written result.0) }
-    ensures steady { D.tells → B.tells → (o : Opening) → All (λ b. B.gives b ≡ o.gives) benches.items → IsRun o (seen D.story W.written state) → IsSteady state.fault → IsSteady result.0.fault }
-    ensures sink { (before : ℕ) → Counts before (W.faults state.sink) state.sink_failed → Counts before (W.faults result.0.sink) result.0.sink_failed }
-    ensures text { W.tells → (base : List ℕ) → Prints base (W.written state.sink) (tale_text state.plan.tasks state.tale) state.sink_failed → Prints base (W.written result.0.sink) (tale_text result.0.plan.tasks result.0.tale) result.0.sink_failed }
-    ensures stays { W.tells → (front : List ℕ) → IsFront front (W.written state.sink) → IsFront front (W.written result.0.sink) }
+    ensures run { D.tells → B.tells → (o : Opening) → All (λ b. B.gives b ≡ o.gives) benches.items
+        → IsRun o (seen D.story W.written state) → IsRun o (seen D.story W.written result.0) }
+    ensures steady { D.tells → B.tells → (o : Opening) → All (λ b. B.gives b ≡ o.gives) benches.items
+        → IsRun o (seen D.story W.written state) → IsSteady state.fault → IsSteady result.0.fault }
+    ensures sink { (before : ℕ) → Counts before (W.faults state.sink) state.sink_failed
+        → Counts before (W.faults result.0.sink) result.0.sink_failed }
+    ensures text { W.tells → (base : List ℕ) → Prints base (W.written state.sink)
+        (tale_text state.plan.tasks state.tale) state.sink_failed
+        → Prints base (W.written result.0.sink) (tale_text result.0.plan.tasks result.0.tale) result.0.sink_failed }
+    ensures stays { W.tells → (front : List ℕ) → IsFront front (W.written state.sink)
+        → IsFront front (W.written result.0.sink) }
 
     // Each entry was marked by the seat of a bench.
     ensures seats { All (λ e. (0 < e.seat) × (e.seat ≤ length benches.items)) result.0.tale }
@@ -159,17 +168,28 @@ where
     // The benches come back in their order, and give what they gave. No count of faults falls.
     ensures benches { length result.1.items ≡ length benches.items }
     ensures capacity { vec_capacity result.1 ≡ vec_capacity benches }
-    ensures gives { (k : ℕ) (old new : _) → slice_get benches.items k ≡ Some old → slice_get result.1.items k ≡ Some new → (B.gives new ≡ B.gives old) × (B.faults old ≤ B.faults new) }
+    ensures gives { (k : ℕ) (old new : _) → slice_get benches.items k ≡ Some old
+        → slice_get result.1.items k ≡ Some new → (B.gives new ≡ B.gives old) × (B.faults old ≤ B.faults new) }
 
     // Only the last entry of a seat says that a task broke, and that its bench failed it says only where that bench's count rose.
-    ensures breaks { (k : ℕ) (old new : _) → slice_get benches.items k ≡ Some old → slice_get result.1.items k ≡ Some new → Breaks (Unit {0}) (Rose (B.faults old) (B.faults new)) (own (k + 1) result.0.tale) }
+    ensures breaks { (k : ℕ) (old new : _) → slice_get benches.items k ≡ Some old
+        → slice_get result.1.items k ≡ Some new → Breaks (Unit {0}) (Rose (B.faults old) (B.faults new))
+        (own (k + 1) result.0.tale) }
 
     // Each bench ran the tasks that its seat started, each over the clean outputs of what it needs, but for the last one where it broke.
-    ensures ran { D.tells → B.tells → (o : Opening) → All (λ b. B.gives b ≡ o.gives) benches.items → IsRun o (seen D.story W.written state) → (k : ℕ) (old new : _) → slice_get benches.items k ≡ Some old → slice_get result.1.items k ≡ Some new → RanStarted o.gives state.plan (own (k + 1) result.0.tale) (B.place old).runs (B.place new).runs }
+    ensures ran { D.tells → B.tells → (o : Opening) → All (λ b. B.gives b ≡ o.gives) benches.items
+        → IsRun o (seen D.story W.written state) → (k : ℕ) (old new : _) → slice_get benches.items k ≡ Some old
+        → slice_get result.1.items k ≡ Some new → RanStarted o.gives state.plan (own (k + 1) result.0.tale)
+        (B.place old).runs (B.place new).runs }
 
     // The lines of some front of the tale, of all of it where no fault is kept, stand whole behind what was written before, and each bench ran
     // the scripts of just those tasks that its seat started in that front, but for the last one where it broke.
-    ensures printed { (front : ℕ) × (result.0.fault ≡ None → front ≡ length result.0.tale) × (W.tells → (base : List ℕ) → Prints base (W.written state.sink) (tale_text state.plan.tasks state.tale) state.sink_failed → IsFront (base ++ tale_text result.0.plan.tasks (take front result.0.tale)) (W.written result.0.sink)) × ((k : ℕ) (old new : _) → slice_get benches.items k ≡ Some old → slice_get result.1.items k ≡ Some new → B.tells → RanPrinted state.plan (own (k + 1) (take front result.0.tale)) (B.place old).runs (B.place new).runs) }
+    ensures printed { (front : ℕ) × (result.0.fault ≡ None → front ≡ length result.0.tale)
+        × (W.tells → (base : List ℕ) → Prints base (W.written state.sink) (tale_text state.plan.tasks state.tale)
+        state.sink_failed → IsFront (base ++ tale_text result.0.plan.tasks (take front result.0.tale))
+        (W.written result.0.sink)) × ((k : ℕ) (old new : _) → slice_get benches.items k ≡ Some old
+        → slice_get result.1.items k ≡ Some new → B.tells
+        → RanPrinted state.plan (own (k + 1) (take front result.0.tale)) (B.place old).runs (B.place new).runs) }
 {
     run_shared::<Brand, D, B, W, R>(rt, alloc, state, benches)
 }

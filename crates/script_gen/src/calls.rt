@@ -57,7 +57,8 @@ pub(crate) fn functions_in<S: Sight>(
     flag: &str,
 ) -> Result<Texts, ScriptFault>
     ensures ok { IfOk result (λ made. functions_in (S.finds from.now) (S.flags from.now) flag.now ≡ Ok made) }
-    ensures err { IfErr result (λ fault. IsScriptFault fault (functions_in (S.finds from.now) (S.flags from.now) flag.now)) }
+    ensures err { IfErr result (λ fault. IsScriptFault fault
+        (functions_in (S.finds from.now) (S.flags from.now) flag.now)) }
 {
     let text = flag_text(alloc, from, flag)?;
     let list = words(alloc, text.as_str())?;

@@ -20,7 +20,8 @@ const MOST_OF_PART: usize = 255;
 /// The expanded text of a flag, empty where it isn't set.
 pub(crate) fn flag_text<S: Sight>(alloc: Global, from: &S, flag: &str) -> Result<Text, ScriptFault>
     ensures ok { IfOk result (λ made. flag_text (S.finds from.now) (S.flags from.now) flag.now ≡ Ok made) }
-    ensures err { IfErr result (λ fault. IsScriptFault fault (flag_text (S.finds from.now) (S.flags from.now) flag.now)) }
+    ensures err { IfErr result (λ fault. IsScriptFault fault
+        (flag_text (S.finds from.now) (S.flags from.now) flag.now)) }
 {
     Ok(expand(alloc, from.flag(flag).unwrap_or(""), from)?)
 }

@@ -53,7 +53,8 @@ pub(crate) fn begun<S: Sight>(
     from: &S,
     task: &str,
 ) -> Result<Option<Frame>, ScriptFault>
-    ensures ok { IfOk result (λ made. begun (S.finds from.now) (S.flags from.now) task.now ≡ Ok (option_map frame_of made)) }
+    ensures ok { IfOk result (λ made. begun (S.finds from.now) (S.flags from.now) task.now
+        ≡ Ok (option_map frame_of made)) }
     ensures err { IfErr result (λ fault. IsScriptFault fault (begun (S.finds from.now) (S.flags from.now) task.now)) }
 {
     let (frame, noexec) = framed(alloc, from)?;

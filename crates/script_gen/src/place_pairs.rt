@@ -87,7 +87,8 @@ struct Side {
 
 /// What one of the two flags of a task says.
 fn side_of<S: Sight>(alloc: Global, from: &S, flag: &str) -> Result<Side, ScriptFault>
-    ensures ok { IfOk result (λ made. side (S.finds from.now) (S.flags from.now) flag.now ≡ Ok (made.words, made.places)) }
+    ensures ok { IfOk result (λ made. side (S.finds from.now) (S.flags from.now) flag.now
+        ≡ Ok (made.words, made.places)) }
     ensures err { IfErr result (λ fault. IsScriptFault fault (side (S.finds from.now) (S.flags from.now) flag.now)) }
 {
     let text = flag_text(alloc, from, flag)?;

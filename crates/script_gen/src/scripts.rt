@@ -29,8 +29,12 @@ fn finished<L: Lookup>(
     task: &str,
     frame: &Frame,
 ) -> Result<Text, ScriptFault>
-    ensures ok { IfOk result (λ made. finished (L.finds from.now) exports.now (told_names (codes "func") (L.finds from.now) (map (λ line. line.name) lines.now)) task.now (frame_of frame.now) ≡ Ok made) }
-    ensures err { IfErr result (λ fault. IsScriptFault fault (finished (L.finds from.now) exports.now (told_names (codes "func") (L.finds from.now) (map (λ line. line.name) lines.now)) task.now (frame_of frame.now))) }
+    ensures ok { IfOk result (λ made. finished (L.finds from.now) exports.now
+        (told_names (codes "func") (L.finds from.now) (map (λ line. line.name) lines.now)) task.now
+        (frame_of frame.now) ≡ Ok made) }
+    ensures err { IfErr result (λ fault. IsScriptFault fault
+        (finished (L.finds from.now) exports.now (told_names (codes "func") (L.finds from.now)
+        (map (λ line. line.name) lines.now)) task.now (frame_of frame.now))) }
 {
     let functions = told_lines(alloc, from, "func", lines)?;
     let values = told_values(alloc, from, exports)?;
@@ -47,8 +51,12 @@ fn written<L: Lookup>(
     task: &str,
     frame: &Option<Frame>,
 ) -> Result<Text, ScriptFault>
-    ensures ok { IfOk result (λ made. written (L.finds from.now) exports.now (told_names (codes "func") (L.finds from.now) (map (λ line. line.name) lines.now)) task.now (option_map frame_of frame.now) ≡ Ok made) }
-    ensures err { IfErr result (λ fault. IsScriptFault fault (written (L.finds from.now) exports.now (told_names (codes "func") (L.finds from.now) (map (λ line. line.name) lines.now)) task.now (option_map frame_of frame.now))) }
+    ensures ok { IfOk result (λ made. written (L.finds from.now) exports.now
+        (told_names (codes "func") (L.finds from.now) (map (λ line. line.name) lines.now)) task.now
+        (option_map frame_of frame.now) ≡ Ok made) }
+    ensures err { IfErr result (λ fault. IsScriptFault fault
+        (written (L.finds from.now) exports.now (told_names (codes "func") (L.finds from.now)
+        (map (λ line. line.name) lines.now)) task.now (option_map frame_of frame.now))) }
 {
     match frame {
         Some(frame) => finished(alloc, from, exports, lines, task, frame),

@@ -190,7 +190,9 @@ fn push_runs(out: &mut Text, task: &str, frame: &Frame) -> Result<(), Mem>
 
 /// Puts the lines at the end that make the folders of a task and run it.
 fn push_frame(out: &mut Text, task: &str, frame: &Frame) -> Result<(), Mem>
-    ensures { OnOk result (out.new ≡ out.old ++ (flat_map clean_lines frame.now.cleandirs ++ (flat_map make_line frame.now.dirs ++ (cd_line frame.now.dirs ++ call_lines (frame.now.before ++ task.now ∷ frame.now.after))))) }
+    ensures { OnOk result (out.new ≡ out.old ++ (flat_map clean_lines frame.now.cleandirs
+        ++ (flat_map make_line frame.now.dirs ++ (cd_line frame.now.dirs
+        ++ call_lines (frame.now.before ++ task.now ∷ frame.now.after))))) }
 {
     push_cleans(out, frame.cleandirs.as_slice())?;
     push_makes(out, frame.dirs.as_slice())?;

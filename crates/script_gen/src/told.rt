@@ -106,7 +106,8 @@ pub(crate) fn told_lines<L: Lookup>(
     flag: &str,
     lines: &[KeyLine],
 ) -> Result<Vec<Text>, Mem>
-    ensures { IfOk result (λ made. made.items ≡ told_names flag.now (L.finds from.now) (map (λ line. line.name) lines.now)) }
+    ensures { IfOk result (λ made. made.items ≡ told_names flag.now (L.finds from.now)
+        (map (λ line. line.name) lines.now)) }
 {
     let mut told = Vec::new(alloc);
     for line in lines {

@@ -33,7 +33,8 @@ fn ask<P: Probe>(
     requires plan { (P.view probe.old).plan ≡ plan.now }
     requires task { task < length plan.now.tasks }
     requires unihashes { length unihashes.now ≡ length plan.now.tasks }
-    ensures known { IfOk result (λ there. IsKnown (P.says probe.old) (P.view probe.old) unihashes.now task (Some there)) }
+    ensures known { IfOk result (λ there. IsKnown (P.says probe.old) (P.view probe.old) unihashes.now task
+        (Some there)) }
     ensures same { P.view probe.new ≡ P.view probe.old }
     ensures stays { P.Stays probe.old probe.new }
     ensures asked { P.asked probe.new ≤ P.asked probe.old + 1 }
@@ -59,8 +60,10 @@ fn learn<P: Probe>(
     requires unihashes { length unihashes.now ≡ length plan.now.tasks }
     requires avail { length avail.old ≡ length plan.now.tasks }
     requires long { length known.now ≡ length plan.now.tasks }
-    requires known { IsIn known.now place → IsKnown (P.says probe.old) (P.view probe.old) unihashes.now place (slice_get avail.old place) }
-    ensures here { OnOk result (IsKnown (P.says probe.old) (P.view probe.old) unihashes.now place (slice_get avail.new place)) }
+    requires known { IsIn known.now place → IsKnown (P.says probe.old) (P.view probe.old) unihashes.now place
+        (slice_get avail.old place) }
+    ensures here { OnOk result (IsKnown (P.says probe.old) (P.view probe.old) unihashes.now place
+        (slice_get avail.new place)) }
     ensures there { IfOk result (λ there. slice_get avail.new place ≡ Some there) }
     ensures elsewhere { (t : ℕ) → t ≢ place → slice_get avail.new t ≡ slice_get avail.old t }
     ensures same { P.view probe.new ≡ P.view probe.old }
@@ -96,13 +99,16 @@ fn visit<P: Probe>(
     requires set { length set.old ≡ length plan.now.tasks }
     requires avail { length avail.old ≡ length plan.now.tasks }
     requires long { length known.now ≡ length plan.now.tasks }
-    requires known { IsIn known.now place → IsKnown (P.says probe.old) (P.view probe.old) unihashes.now place (slice_get avail.old place) }
+    requires known { IsIn known.now place → IsKnown (P.says probe.old) (P.view probe.old) unihashes.now place
+        (slice_get avail.old place) }
     ensures set { OnOk result (Adds (IsBelow plan.now.tasks avail.new set.old place) set.old set.new) }
-    ensures here { OnOk result (IsIn set.old place → IsKnown (P.says probe.old) (P.view probe.old) unihashes.now place (slice_get avail.new place)) }
+    ensures here { OnOk result (IsIn set.old place → IsKnown (P.says probe.old) (P.view probe.old) unihashes.now place
+        (slice_get avail.new place)) }
     ensures elsewhere { (t : ℕ) → t ≢ place → slice_get avail.new t ≡ slice_get avail.old t }
     ensures same { P.view probe.new ≡ P.view probe.old }
     ensures stays { P.Stays probe.old probe.new }
-    ensures asked { P.asked probe.new ≤ P.asked probe.old + asks_once (slice_get set.old place) (slice_get known.now place) }
+    ensures asked { P.asked probe.new ≤ P.asked probe.old + asks_once (slice_get set.old place)
+        (slice_get known.now place) }
     ensures cause { Counts (P.faults probe.old) (P.faults probe.new) (probe_failed result) }
 {
     if !set[place] {
@@ -163,7 +169,8 @@ pub(crate) fn plan_need<P: Probe>(
     requires ordered { AreOrdered plan.now.tasks }
     requires targets { All (λ t. t < length plan.now.tasks) plan.now.targets }
     requires unihashes { length unihashes.now ≡ length plan.now.tasks }
-    ensures needs { IfOk result (λ made. AreNeeds (P.says probe.old) (P.view probe.old) unihashes.now made.need.items made.avail.items) }
+    ensures needs { IfOk result (λ made. AreNeeds (P.says probe.old) (P.view probe.old) unihashes.now made.need.items
+        made.avail.items) }
     ensures same { P.view probe.new ≡ P.view probe.old }
     ensures stays { P.Stays probe.old probe.new }
     ensures asked { IfOk result (λ made. P.asked probe.new ≤ P.asked probe.old + members made.need.items) }
@@ -253,7 +260,8 @@ fn differences(
     requires new_need { length new_need.now ≡ length need.now }
     requires avail { length avail.now ≡ length need.now }
     requires new_avail { length new_avail.now ≡ length need.now }
-    ensures { IfOk result (λ told. (t : ℕ) → Contains told.items t ⊎ SameAt need.now new_need.now avail.now new_avail.now t) }
+    ensures { IfOk result (λ told. (t : ℕ) → Contains told.items t
+        ⊎ SameAt need.now new_need.now avail.now new_avail.now t) }
 {
     let mut told = Vec::new(alloc);
     for place in 0..need.len() {
@@ -282,12 +290,17 @@ fn sweep_again<P: Probe>(
     requires need { length needs.old.need.items ≡ length plan.now.tasks }
     requires avail { length needs.old.avail.items ≡ length plan.now.tasks }
     requires within { All (λ t. t < length plan.now.tasks) changed.now }
-    requires others { (t : ℕ) → IsIn needs.old.need.items t → Contains changed.now t ⊎ IsKnown (P.says probe.old) (P.view probe.old) unihashes.now t (slice_get needs.old.avail.items t) }
-    ensures needs { OnOk result (AreNeeds (P.says probe.old) (P.view probe.old) unihashes.now needs.new.need.items needs.new.avail.items) }
+    requires others { (t : ℕ) → IsIn needs.old.need.items t
+        → Contains changed.now t ⊎ IsKnown (P.says probe.old) (P.view probe.old) unihashes.now t
+        (slice_get needs.old.avail.items t) }
+    ensures needs { OnOk result (AreNeeds (P.says probe.old) (P.view probe.old) unihashes.now needs.new.need.items
+        needs.new.avail.items) }
     ensures same { P.view probe.new ≡ P.view probe.old }
     ensures stays { P.Stays probe.old probe.new }
-    ensures asked { OnOk result (P.asked probe.new ≤ P.asked probe.old + (members_beyond needs.new.need.items needs.old.need.items + members_among needs.new.need.items changed.now)) }
-    ensures told { IfOk result (λ told. (t : ℕ) → Contains told.items t ⊎ SameAt needs.old.need.items needs.new.need.items needs.old.avail.items needs.new.avail.items t) }
+    ensures asked { OnOk result (P.asked probe.new ≤ P.asked probe.old +
+        (members_beyond needs.new.need.items needs.old.need.items + members_among needs.new.need.items changed.now)) }
+    ensures told { IfOk result (λ told. (t : ℕ) → Contains told.items t
+        ⊎ SameAt needs.old.need.items needs.new.need.items needs.old.avail.items needs.new.avail.items t) }
     ensures refused { OnErr result (needs.new ≡ needs.old) }
     ensures cause { Counts (P.faults probe.old) (P.faults probe.new) (probe_failed result) }
 {
@@ -332,7 +345,8 @@ fn ask_one<P: Probe>(
     requires unihashes { length unihashes.now ≡ length plan.now.tasks }
     requires need { length need.now ≡ length plan.now.tasks }
     requires long { length avail.old ≡ length need.now }
-    ensures one { IfOk result (λ turned. AsksOne (P.says probe.old) (P.view probe.old) unihashes.now need.now task avail.old avail.new told.old.items told.new.items turned) }
+    ensures one { IfOk result (λ turned. AsksOne (P.says probe.old) (P.view probe.old) unihashes.now need.now task
+        avail.old avail.new told.old.items told.new.items turned) }
     ensures same { P.view probe.new ≡ P.view probe.old }
     ensures stays { P.Stays probe.old probe.new }
     ensures asked { P.asked probe.new ≤ P.asked probe.old + asks_once (slice_get need.now task) None }
@@ -354,7 +368,8 @@ fn ask_one<P: Probe>(
 
 /// Whether one of both is missing and the other is there.
 fn turns(before: Avail, there: Avail) -> bool
-    ensures { result ≡ false → (before ≡ avails.Missing → there ≡ avails.Missing) × (there ≡ avails.Missing → before ≡ avails.Missing) }
+    ensures { result ≡ false → (before ≡ avails.Missing → there ≡ avails.Missing)
+        × (there ≡ avails.Missing → before ≡ avails.Missing) }
 {
     matches!(before, Avail::Missing) != matches!(there, Avail::Missing)
 }
@@ -376,13 +391,16 @@ fn ask_again<P: Probe>(
     requires need { length need.now ≡ length plan.now.tasks }
     requires within { All (λ t. t < length plan.now.tasks) changed.now }
     requires long { length avail.old ≡ length need.now }
-    requires others { (t : ℕ) → IsIn need.now t → Contains changed.now t ⊎ IsKnown (P.says probe.old) (P.view probe.old) unihashes.now t (slice_get avail.old t) }
-    ensures all { IfOk result (λ turned. AsksAll (P.says probe.old) (P.view probe.old) unihashes.now need.now changed.now (unwrap_or turned 0) avail.old avail.new told.new.items) }
+    requires others { (t : ℕ) → IsIn need.now t → Contains changed.now t
+        ⊎ IsKnown (P.says probe.old) (P.view probe.old) unihashes.now t (slice_get avail.old t) }
+    ensures all { IfOk result (λ turned. AsksAll (P.says probe.old) (P.view probe.old) unihashes.now need.now
+        changed.now (unwrap_or turned 0) avail.old avail.new told.new.items) }
     ensures missing { IfOk result (λ turned. turned ≡ None → SameMissing avail.old avail.new) }
     ensures within { IfOk result (λ turned. unwrap_or turned 0 ≤ length changed.now) }
     ensures same { P.view probe.new ≡ P.view probe.old }
     ensures stays { P.Stays probe.old probe.new }
-    ensures asked { IfOk result (λ turned. P.asked probe.new ≤ P.asked probe.old + members_among need.now (drop (unwrap_or turned 0) changed.now)) }
+    ensures asked { IfOk result (λ turned. P.asked probe.new ≤ P.asked probe.old + members_among need.now
+        (drop (unwrap_or turned 0) changed.now)) }
     ensures cause { Counts (P.faults probe.old) (P.faults probe.new) (probe_failed result) }
 {
     for place in (0..changed.len()).rev() {
@@ -420,12 +438,18 @@ pub(crate) fn after_change<P: Probe>(
     requires own { IsNeed plan.now needs.old.avail.items needs.old.need.items }
     requires avail { length needs.old.avail.items ≡ length plan.now.tasks }
     requires within { All (λ t. t < length plan.now.tasks) changed.now }
-    requires others { (t : ℕ) → IsIn needs.old.need.items t → Contains changed.now t ⊎ IsKnown (P.says probe.old) (P.view probe.old) unihashes.now t (slice_get needs.old.avail.items t) }
-    ensures needs { OnOk result (AreNeeds (P.says probe.old) (P.view probe.old) unihashes.now needs.new.need.items needs.new.avail.items) }
+    requires others { (t : ℕ) → IsIn needs.old.need.items t
+        → Contains changed.now t ⊎ IsKnown (P.says probe.old) (P.view probe.old) unihashes.now t
+        (slice_get needs.old.avail.items t) }
+    ensures needs { OnOk result (AreNeeds (P.says probe.old) (P.view probe.old) unihashes.now needs.new.need.items
+        needs.new.avail.items) }
     ensures same { P.view probe.new ≡ P.view probe.old }
     ensures stays { P.Stays probe.old probe.new }
-    ensures asked { OnOk result (P.asked probe.new ≤ P.asked probe.old + (members_beyond needs.new.need.items needs.old.need.items + members_of_either needs.old.need.items needs.new.need.items changed.now)) }
-    ensures told { IfOk result (λ told. (t : ℕ) → Contains told.items t ⊎ SameAt needs.old.need.items needs.new.need.items needs.old.avail.items needs.new.avail.items t) }
+    ensures asked { OnOk result (P.asked probe.new ≤ P.asked probe.old +
+        (members_beyond needs.new.need.items needs.old.need.items + members_of_either needs.old.need.items
+        needs.new.need.items changed.now)) }
+    ensures told { IfOk result (λ told. (t : ℕ) → Contains told.items t
+        ⊎ SameAt needs.old.need.items needs.new.need.items needs.old.avail.items needs.new.avail.items t) }
     ensures cause { Counts (P.faults probe.old) (P.faults probe.new) (probe_failed result) }
 {
     let mut told = Vec::new(alloc);

@@ -18,8 +18,10 @@ pub fn names_law()
 /// same tasks are needed; and one list needs one set. So what is needed by the answers for all tasks is what is needed by those
 /// for needed tasks alone.
 pub fn need_law()
-    ensures same { (plan : ThePlan) (avail other : List Availability) (need : List Bool) → IsNeed plan avail need → ((t : ℕ) → IsIn need t → slice_get avail t ≡ slice_get other t) → IsNeed plan other need }
-    ensures one { (plan : ThePlan) (avail : List Availability) (need other : List Bool) → IsNeed plan avail need → IsNeed plan avail other → need ≡ other }
+    ensures same { (plan : ThePlan) (avail other : List Availability) (need : List Bool) → IsNeed plan avail need
+        → ((t : ℕ) → IsIn need t → slice_get avail t ≡ slice_get other t) → IsNeed plan other need }
+    ensures one { (plan : ThePlan) (avail : List Availability) (need other : List Bool) → IsNeed plan avail need
+        → IsNeed plan avail other → need ≡ other }
 {}
 
 /// What answers of outputs mean.
@@ -34,6 +36,8 @@ pub trait Meaning {
 /// signature and any unihash, or none did: whatever answers mean, if it is the same before and after. And what is up to date is so
 /// too by another meaning that follows from theirs.
 pub fn settling_law<M: Meaning, N: Meaning>()
-    ensures settles { (view : View) (rows : List Row) (task : ℕ) (kept : Kept) → IsCurrent M.says view kept → AreSettling view rows task kept → IsSettled M.says (record view { rows = rows }) task kept }
-    ensures follows { Follows M.says N.says → (view : View) (kept : Kept) → IsCurrent M.says view kept → IsCurrent N.says view kept }
+    ensures settles { (view : View) (rows : List Row) (task : ℕ) (kept : Kept) → IsCurrent M.says view kept
+        → AreSettling view rows task kept → IsSettled M.says (record view { rows = rows }) task kept }
+    ensures follows { Follows M.says N.says → (view : View) (kept : Kept) → IsCurrent M.says view kept
+        → IsCurrent N.says view kept }
 {}

@@ -34,8 +34,10 @@ pub(crate) fn unihash_of<P: Probe>(probe: &P, name: &Hash) -> Hash
 pub(crate) fn sign(alloc: Global, plan: &Plan, task: u32, unihashes: &[Hash]) -> Result<Signed, Mem>
     requires task { task < length plan.now.tasks }
     requires unihashes { length unihashes.now ≡ length plan.now.tasks }
-    ensures name { IfOk result (λ made. IfSome (slice_get plan.now.tasks task) (λ own. made.name ≡ name_of (signature_by plan.now.tasks unihashes.now own))) }
-    ensures bytes { IfOk result (λ made. IfSome (slice_get plan.now.tasks task) (λ own. made.bytes ≡ signature_bytes (signature_by plan.now.tasks unihashes.now own))) }
+    ensures name { IfOk result (λ made. IfSome (slice_get plan.now.tasks task)
+        (λ own. made.name ≡ name_of (signature_by plan.now.tasks unihashes.now own))) }
+    ensures bytes { IfOk result (λ made. IfSome (slice_get plan.now.tasks task)
+        (λ own. made.bytes ≡ signature_bytes (signature_by plan.now.tasks unihashes.now own))) }
 {
     let sig = sig_of(alloc, plan, task, unihashes)?;
     let bytes = encode(alloc, &sig)?;

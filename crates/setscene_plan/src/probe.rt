@@ -88,7 +88,8 @@ pub trait Probe {
         requires task { task < length (view self.old).plan.tasks }
         requires sig { IsSignedBy (view self.old).plan.tasks task sig.now }
         ensures told { IfOk result (λ there. says self.old task sig.now there) }
-        ensures stored { IfOk result (λ there. there ≢ avails.Missing → row_at (view self.old).rows (name_of sig.now) ≢ None) }
+        ensures stored { IfOk result (λ there. there ≢ avails.Missing
+            → row_at (view self.old).rows (name_of sig.now) ≢ None) }
         ensures same { view self.new ≡ view self.old }
         ensures stays { Stays self.old self.new }
         ensures asked { asked self.new ≤ asked self.old + 1 }

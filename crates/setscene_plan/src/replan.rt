@@ -140,7 +140,9 @@ impl Replan {
         ensures asks { OnOk result (AsksNeeds (P.says probe.old) (P.view probe.old) self.old self.new) }
         ensures same { P.view probe.new ≡ P.view probe.old }
         ensures stays { P.Stays probe.old probe.new }
-        ensures asked { OnOk result (P.asked probe.new ≤ P.asked probe.old + (members_beyond (need_in self.new) (need_in self.old) + members_of_either (need_in self.old) (need_in self.new) (reworked_in self.old))) }
+        ensures asked { OnOk result (P.asked probe.new ≤ P.asked probe.old +
+            (members_beyond (need_in self.new) (need_in self.old) + members_of_either (need_in self.old)
+            (need_in self.new) (reworked_in self.old))) }
         ensures cause { Counts (P.faults probe.old) (P.faults probe.new) (probe_failed result) }
     {
         let told = after_change(
@@ -178,10 +180,13 @@ impl Replan {
         ensures current { OnOk result (IsCurrent (P.says probe.old) (P.view probe.old) self.new) }
         ensures names { OnOk result (names_in self.new ≡ names_over (P.view probe.old).rows plan.now.tasks) }
         ensures reworked { OnOk result (AreReworked plan.now.tasks task self.old self.new) }
-        ensures asked { OnOk result (P.asked probe.new ≤ P.asked probe.old + (members_beyond (need_in self.new) (need_in self.old) + members_of_either (need_in self.old) (need_in self.new) (reworked_in self.new))) }
+        ensures asked { OnOk result (P.asked probe.new ≤ P.asked probe.old +
+            (members_beyond (need_in self.new) (need_in self.old) + members_of_either (need_in self.old)
+            (need_in self.new) (reworked_in self.new))) }
         ensures kept { IfOk result (λ anew. anew ≡ false → IsAsBefore self.old self.new) }
         ensures anew { IfOk result (λ anew. anew ≡ true → Contains (reworked_in self.new) task) }
-        ensures told { OnOk result ((t : ℕ) → Contains (told_in self.new) t ⊎ SameAt (need_in self.old) (need_in self.new) (avail_in self.old) (avail_in self.new) t) }
+        ensures told { OnOk result ((t : ℕ) → Contains (told_in self.new) t
+            ⊎ SameAt (need_in self.old) (need_in self.new) (avail_in self.old) (avail_in self.new) t) }
         ensures same { P.view probe.new ≡ P.view probe.old }
         ensures stays { P.Stays probe.old probe.new }
         ensures cause { Counts (P.faults probe.old) (P.faults probe.new) (probe_failed result) }

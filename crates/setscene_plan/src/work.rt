@@ -74,7 +74,8 @@ fn claim(
 ) -> Result<(), Mem>
     requires { place < length names.now }
     ensures here { OnOk result (IsOwned distinct.new owners.new names.now place) }
-    ensures others { OnOk result ((t : ℕ) → t ≢ place → IsOwned distinct.old owners.old names.now t → IsOwned distinct.new owners.new names.now t) }
+    ensures others { OnOk result ((t : ℕ) → t ≢ place → IsOwned distinct.old owners.old names.now t
+        → IsOwned distinct.new owners.new names.now t) }
 {
     let name = names[place as usize];
     let owner = owners.get(&name.bytes).copied();
@@ -180,7 +181,8 @@ impl Names {
         requires names { task < length self.now.names.items }
         requires unihashes { task < length self.now.unihashes.items }
         ensures distinct { result ≡ true → self.now.distinct ≡ true }
-        ensures hashed { result ≡ true → IsHashed (P.view probe.now).rows self.now.names.items self.now.unihashes.items task }
+        ensures hashed { result ≡ true → IsHashed (P.view probe.now).rows self.now.names.items
+            self.now.unihashes.items task }
     {
         let place = task as usize;
         let name = hash_at(self.names.as_slice(), place);
@@ -203,7 +205,8 @@ impl Names {
         requires found { (t : ℕ) → IsFound self.now t }
         ensures only { IfOk result (λ made. (t : ℕ) → Contains made.keys t → HaveOneName self.now.names.items t task) }
         ensures within { IfOk result (λ made. (t : ℕ) → Contains made.keys t → t < length self.now.names.items) }
-        ensures whole { IfOk result (λ made. (t : ℕ) → t < length self.now.names.items → HaveOneName self.now.names.items t task → Contains made.keys t) }
+        ensures whole { IfOk result (λ made. (t : ℕ) → t < length self.now.names.items
+            → HaveOneName self.now.names.items t task → Contains made.keys t) }
     {
         let mut made = BTreeSet::new(alloc);
         if self.distinct {
@@ -232,7 +235,8 @@ impl Names {
         requires place { place < length plan.now.tasks }
         requires names { length self.old.names.items ≡ length plan.now.tasks }
         requires unihashes { length self.old.unihashes.items ≡ length plan.now.tasks }
-        ensures steps { OnOk result (Steps (P.view probe.old).rows plan.now.tasks above.now place self.old self.new dirty.old.keys dirty.new.keys) }
+        ensures steps { OnOk result (Steps (P.view probe.old).rows plan.now.tasks above.now place self.old self.new
+            dirty.old.keys dirty.new.keys) }
         ensures same { P.view probe.new ≡ P.view probe.old }
         ensures stays { P.Stays probe.old probe.new }
         ensures asked { P.asked probe.new ≡ P.asked probe.old }
@@ -261,7 +265,8 @@ impl Names {
         requires above { IsAbove plan.now.tasks above.now }
         requires workable { IsWorkable (P.view probe.old).rows plan.now.tasks self.old dirty.old.keys }
         requires empty { changed.old.items ≡ [] }
-        ensures worked { OnOk result (IsWorked (P.view probe.old).rows plan.now.tasks self.old self.new dirty.old.keys changed.new.items) }
+        ensures worked { OnOk result (IsWorked (P.view probe.old).rows plan.now.tasks self.old self.new dirty.old.keys
+            changed.new.items) }
         ensures same { P.view probe.new ≡ P.view probe.old }
         ensures stays { P.Stays probe.old probe.new }
         ensures asked { P.asked probe.new ≡ P.asked probe.old }

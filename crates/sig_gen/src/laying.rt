@@ -53,7 +53,8 @@ fn put_own(
     pn: &str,
     number: u32,
 ) -> Result<(), Mem>
-    ensures { OnOk result (made.new.items ≡ made.old.items ++ own_in pn.now (hashed_at tasks.now unihashes.now number)) }
+    ensures { OnOk result (made.new.items ≡ made.old.items
+        ++ own_in pn.now (hashed_at tasks.now unihashes.now number)) }
 {
     if let Some((task, _)) = hashed(tasks, unihashes, number) {
         if task.id.pn.as_str() == pn {
@@ -74,7 +75,8 @@ fn own_needs(
     pn: &str,
     numbers: &[u32],
 ) -> Result<Vec<Laid>, Mem>
-    ensures { IfOk result (λ made. made.items ≡ map laid (filter (is_hashed_of pn.now) (hashed_among tasks.now unihashes.now numbers.now))) }
+    ensures { IfOk result (λ made. made.items ≡ map laid
+        (filter (is_hashed_of pn.now) (hashed_among tasks.now unihashes.now numbers.now))) }
 {
     let mut made = Vec::new(alloc);
     for number in numbers {
@@ -181,7 +183,8 @@ fn line_of_order(alloc: Global, names: &[Text]) -> Result<KeyLine, Mem>
 /// The place at which the order line comes among ascending lines.
 fn place_of_order(lines: &[KeyLine], order: &KeyLine) -> usize
     ensures within { result ≤ length lines.now }
-    ensures place { put_in_order is_line_before order.now lines.now ≡ take result lines.now ++ order.now ∷ drop result lines.now }
+    ensures place { put_in_order is_line_before order.now lines.now ≡ take result lines.now ++ order.now
+        ∷ drop result lines.now }
 {
     let mut place = 0;
     while place < lines.len() && lines[place].name.as_str() < order.name.as_str() {
@@ -228,7 +231,9 @@ pub(crate) fn signed_lines(
     task: &PlanTask,
     deps: &[DepLine],
 ) -> Result<Vec<KeyLine>, Mem>
-    ensures { IfOk result (λ made. made.items ≡ with_order (laid_of task.now.id.pn (hashed_among tasks.now unihashes.now task.now.deps)) (own_tasks task.now.id.pn deps.now) task.now.key.lines) }
+    ensures { IfOk result (λ made. made.items ≡ with_order
+        (laid_of task.now.id.pn (hashed_among tasks.now unihashes.now task.now.deps))
+        (own_tasks task.now.id.pn deps.now) task.now.key.lines) }
 {
     let pn = task.id.pn.as_str();
     let laid = laid_names(alloc, tasks, unihashes, pn, task.deps.as_slice())?;

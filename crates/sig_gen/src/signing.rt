@@ -31,7 +31,8 @@ fn put_need(
     unihashes: &[Hash],
     number: u32,
 ) -> Result<(), Mem>
-    ensures { OnOk result (made.new.items ≡ made.old.items ++ map dep_of (option_to_list (hashed_at tasks.now unihashes.now number))) }
+    ensures { OnOk result (made.new.items ≡ made.old.items
+        ++ map dep_of (option_to_list (hashed_at tasks.now unihashes.now number))) }
 {
     if let Some((task, name)) = hashed(tasks, unihashes, number) {
         let pn = task.id.pn.copy()?;
@@ -65,7 +66,8 @@ fn deps_of(
     unihashes: &[Hash],
     numbers: &[u32],
 ) -> Result<Vec<DepLine>, Mem>
-    ensures { IfOk result (λ made. made.items ≡ in_order is_dep_before (map dep_of (hashed_among tasks.now unihashes.now numbers.now))) }
+    ensures { IfOk result (λ made. made.items ≡ in_order is_dep_before
+        (map dep_of (hashed_among tasks.now unihashes.now numbers.now))) }
 {
     let mut made = needs_of(alloc, tasks, unihashes, numbers)?;
     made.sort_by(|a, b| compare(a, b))?;
@@ -115,7 +117,8 @@ fn signed(
 pub fn sig_of(alloc: Global, plan: &Plan, task: u32, unihashes: &[Hash]) -> Result<SigRecord, Mem>
     requires task { task < length plan.now.tasks }
     requires unihashes { length unihashes.now ≡ length plan.now.tasks }
-    ensures { IfOk result (λ sig. IfSome (slice_get plan.now.tasks task) (λ own. sig ≡ signature_by plan.now.tasks unihashes.now own)) }
+    ensures { IfOk result (λ sig. IfSome (slice_get plan.now.tasks task)
+        (λ own. sig ≡ signature_by plan.now.tasks unihashes.now own)) }
 {
     let tasks = plan.tasks.as_slice();
     signed(alloc, tasks, unihashes, &tasks[task as usize])

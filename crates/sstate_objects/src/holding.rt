@@ -50,7 +50,9 @@ pub(crate) fn holds_tree<D: Disk>(
     folder: &str,
     tree: &Tree,
 ) -> Result<bool, DiskFault>
-    ensures found { D.tells → IfOk result (λ holds. MatchBool holds (HoldsTree folder.now tree.now (D.story disk.old).held) (HoldsTree folder.now tree.now (D.story disk.old).held → ⊥)) }
+    ensures found { D.tells → IfOk result (λ holds. MatchBool holds
+        (HoldsTree folder.now tree.now (D.story disk.old).held)
+        (HoldsTree folder.now tree.now (D.story disk.old).held → ⊥)) }
     ensures others { D.tells → Passes (D.story disk.old) (D.story disk.new) Same }
     ensures cause { Counts (D.faults disk.old) (D.faults disk.new) (disk_failed result) }
 {

@@ -29,7 +29,8 @@ pub fn read_verified<D: Disk>(
     name: &Hash,
     manifest: &Manifest,
 ) -> Result<Option<Tree>, DiskFault>
-    ensures found { D.tells → IfOk result (λ found. IsMatching (object_folder name.now) manifest.now (D.story disk.old).held found) }
+    ensures found { D.tells → IfOk result (λ found. IsMatching (object_folder name.now) manifest.now
+        (D.story disk.old).held found) }
 
     // Whatever it answers.
     ensures others { D.tells → Passes (D.story disk.old) (D.story disk.new) Same }
@@ -50,11 +51,13 @@ pub fn put_object<D: Disk>(
     requires clean { All (λ e. IsClean (inside (object_folder name.now) e.0)) tree.now }
     requires within_reach { All (λ e. length (inside (object_folder name.now) e.0) ≤ D.reach) tree.now }
     ensures held { D.tells → OnOk result (HoldsTree (object_folder name.now) tree.now (D.story disk.new).held) }
-    ensures unwritten { D.tells → HoldsTree (object_folder name.now) tree.now (D.story disk.old).held → Passes (D.story disk.old) (D.story disk.new) Same }
+    ensures unwritten { D.tells → HoldsTree (object_folder name.now) tree.now (D.story disk.old).held
+        → Passes (D.story disk.old) (D.story disk.new) Same }
 
     // Whatever it answers.
     ensures others { D.tells → Passes (D.story disk.old) (D.story disk.new) (AgreesApart (object_folder name.now)) }
-    ensures round { D.tells → Passes (D.story disk.old) (D.story disk.new) (AgreesRound (object_folder name.now) (D.story disk.old).held) }
+    ensures round { D.tells → Passes (D.story disk.old) (D.story disk.new)
+        (AgreesRound (object_folder name.now) (D.story disk.old).held) }
     ensures cause { Counts (D.faults disk.old) (D.faults disk.new) (disk_failed result) }
 {
     let folder = object_folder(alloc, name)?;

@@ -18,7 +18,8 @@ fn is_held<D: Disk>(alloc: Global, disk: &mut D, path: &str) -> Result<bool, Dis
 
 /// Whether nothing is held at the folder or above it.
 pub(crate) fn is_open<D: Disk>(alloc: Global, disk: &mut D, folder: &str) -> Result<bool, DiskFault>
-    ensures found { D.tells → IfOk result (λ free. MatchBool free (IsOpen folder.now (D.story disk.old).held) (IsOpen folder.now (D.story disk.old).held → ⊥)) }
+    ensures found { D.tells → IfOk result (λ free. MatchBool free (IsOpen folder.now (D.story disk.old).held)
+        (IsOpen folder.now (D.story disk.old).held → ⊥)) }
     ensures others { D.tells → Passes (D.story disk.old) (D.story disk.new) Same }
     ensures cause { Counts (D.faults disk.old) (D.faults disk.new) (disk_failed result) }
 {

@@ -25,7 +25,8 @@ pub fn invalidate<D: Disk>(alloc: Global, disk: &mut D, folder: &str) -> Result<
     ensures synced { D.tells → OnOk result (EachNow (D.story disk.new) (λ image. image ≡ (D.story disk.new).held)) }
 
     // Whatever it answers.
-    ensures images { D.tells → Passes (D.story disk.old) (D.story disk.new) (Moves (stamp_path folder.now) (old_path folder.now) ((D.story disk.old).held (stamp_path folder.now))) }
+    ensures images { D.tells → Passes (D.story disk.old) (D.story disk.new)
+        (Moves (stamp_path folder.now) (old_path folder.now) ((D.story disk.old).held (stamp_path folder.now))) }
     ensures cause { Counts (D.faults disk.old) (D.faults disk.new) (disk_failed result) }
 {
     let path = joined(alloc, "stamp/", folder)?;
@@ -49,7 +50,8 @@ pub fn stage<D: Disk>(
     requires reach { 3600 ≤ D.reach }
     requires folder { IsFolder folder.now }
     requires free { D.tells → IsFree (D.story disk.old).held (staged_path folder.now) }
-    ensures staged { D.tells → OnOk result ((D.story disk.new).held ≡ put (D.story disk.old).held (staged_path folder.now) (Some (stamp_of name.now))) }
+    ensures staged { D.tells → OnOk result ((D.story disk.new).held
+        ≡ put (D.story disk.old).held (staged_path folder.now) (Some (stamp_of name.now))) }
 
     // Whatever it answers.
     ensures images { D.tells → Passes (D.story disk.old) (D.story disk.new) (ChangesAt (staged_path folder.now)) }
@@ -69,11 +71,13 @@ pub fn stamp<D: Disk>(alloc: Global, disk: &mut D, folder: &str) -> Result<(), D
     requires folder { IsFolder folder.now }
     requires staged { D.tells → IsSettled (staged_path folder.now) (D.story disk.old) }
     requires free { D.tells → IsFree (D.story disk.old).held (stamp_path folder.now) }
-    ensures stamped { D.tells → OnOk result (EachNow (D.story disk.new) (λ image. image (stamp_path folder.now) ≡ (D.story disk.old).held (staged_path folder.now))) }
+    ensures stamped { D.tells → OnOk result (EachNow (D.story disk.new)
+        (λ image. image (stamp_path folder.now) ≡ (D.story disk.old).held (staged_path folder.now))) }
     ensures synced { D.tells → OnOk result (EachNow (D.story disk.new) (λ image. image ≡ (D.story disk.new).held)) }
 
     // Whatever it answers.
-    ensures images { D.tells → Passes (D.story disk.old) (D.story disk.new) (Moves (staged_path folder.now) (stamp_path folder.now) ((D.story disk.old).held (staged_path folder.now))) }
+    ensures images { D.tells → Passes (D.story disk.old) (D.story disk.new)
+        (Moves (staged_path folder.now) (stamp_path folder.now) ((D.story disk.old).held (staged_path folder.now))) }
     ensures cause { Counts (D.faults disk.old) (D.faults disk.new) (disk_failed result) }
 {
     let from = joined(alloc, "tmp/stamp/", folder)?;

@@ -27,9 +27,11 @@ fn find_needed(
     requires count { length frontier.old.numbers.items ≡ length all.now }
     requires frontier { IsFrontier frontier.old.found.items frontier.old.numbers.items }
     ensures frontier { OnOk result (IsFrontier frontier.new.found.items frontier.new.numbers.items) }
-    ensures found { OnOk result (frontier.new.found.items ≡ with_nodes frontier.old.found.items (edges_of all.now recipe)) }
+    ensures found { OnOk result (frontier.new.found.items
+        ≡ with_nodes frontier.old.found.items (edges_of all.now recipe)) }
     ensures count { OnOk result (length frontier.new.numbers.items ≡ length all.now) }
-    ensures room { OnOk result (room frontier.new.found.items frontier.new.numbers.items ≡ room frontier.old.found.items frontier.old.numbers.items) }
+    ensures room { OnOk result (room frontier.new.found.items frontier.new.numbers.items
+        ≡ room frontier.old.found.items frontier.old.numbers.items) }
 {
     let needed = &all[recipe];
     let _ = frontier.add_all(alloc, needed.building.found.as_slice())?;

@@ -68,8 +68,10 @@ pub(crate) fn find_task(
 ) -> Result<usize, GraphFault>
     requires few { length facts.now.recipes < 2 ^ 32 }
     requires context { IsContext facts.now context.now }
-    ensures ok { IfOk result (IsNumberOf context.now.table (task_there facts.now name.now task.now (provider_of facts.now name.now))) }
-    ensures err { IfErr result (IsRefusalOf (λ refusal. task_there facts.now name.now task.now (provider_of facts.now name.now) ≡ Err refusal)) }
+    ensures ok { IfOk result (IsNumberOf context.now.table
+        (task_there facts.now name.now task.now (provider_of facts.now name.now))) }
+    ensures err { IfErr result (IsRefusalOf (λ refusal. task_there facts.now name.now task.now
+        (provider_of facts.now name.now) ≡ Err refusal)) }
 {
     match context.index.provider(facts, name) {
         None => Err(refuse_name(alloc, facts, name)),
@@ -110,7 +112,8 @@ pub(crate) fn push_words(
 ) -> Result<(), GraphFault>
     requires few { length facts.now.recipes < 2 ^ 32 }
     requires context { IsContext facts.now context.now }
-    ensures ok { OnOk result (out.new.items ≡ out.old.items ++ filter_map (number_of_word facts.now context.now.table) words.now) }
+    ensures ok { OnOk result (out.new.items ≡ out.old.items
+        ++ filter_map (number_of_word facts.now context.now.table) words.now) }
     ensures resolved { OnOk result (All (λ w. (b : Task) × (word_task facts.now w ≡ Ok b)) words.now) }
     ensures err { IfErr result (IsRefusalOf (λ refusal. Any (λ w. word_task facts.now w ≡ Err refusal) words.now)) }
 {
@@ -142,7 +145,8 @@ fn push_task(
     name: &str,
     out: &mut Vec<usize>,
 ) -> Result<(), Mem>
-    ensures { OnOk result (out.new.items ≡ out.old.items ++ filter_map (λ r. number_of_task table.now (r, name.now)) recipes.now) }
+    ensures { OnOk result (out.new.items ≡ out.old.items
+        ++ filter_map (λ r. number_of_task table.now (r, name.now)) recipes.now) }
 {
     for recipe in recipes {
         push_found(table.find(*recipe, name), out)?;

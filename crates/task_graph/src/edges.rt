@@ -33,8 +33,11 @@ fn push_built(
     requires few { length facts.now.recipes < 2 ^ 32 }
     requires context { IsContext facts.now context.now }
     requires needed { IsNeeded facts.now recipe.now needed.now }
-    ensures ok { OnOk result (out.new.items ≡ out.old.items ++ numbers_of_tasks context.now.table (resolved (provider facts.now) (build_names facts.now recipe.now)) words.now) }
-    ensures whole { OnOk result ((length words.now ≡ 0 → ⊥) → lacks_provider (provider facts.now) (build_names facts.now recipe.now) ≡ false) }
+    ensures ok { OnOk result (out.new.items ≡ out.old.items
+        ++ numbers_of_tasks context.now.table (resolved (provider facts.now) (build_names facts.now recipe.now))
+        words.now) }
+    ensures whole { OnOk result ((length words.now ≡ 0 → ⊥)
+        → lacks_provider (provider facts.now) (build_names facts.now recipe.now) ≡ false) }
     ensures asked { IfErr result (IsRefusalOf (λ refusal. length words.now ≡ 0 → ⊥)) }
     ensures err { IfErr result (IsRefusalOf (LacksToBuild facts.now recipe.now)) }
 {
@@ -65,8 +68,11 @@ fn push_run(
     requires few { length facts.now.recipes < 2 ^ 32 }
     requires context { IsContext facts.now context.now }
     requires needed { IsNeeded facts.now recipe.now needed.now }
-    ensures ok { OnOk result (out.new.items ≡ out.old.items ++ numbers_of_tasks context.now.table (resolved (runtime_provider facts.now) (run_names recipe.now)) words.now) }
-    ensures whole { OnOk result ((length words.now ≡ 0 → ⊥) → lacks_provider (runtime_provider facts.now) (run_names recipe.now) ≡ false) }
+    ensures ok { OnOk result (out.new.items ≡ out.old.items
+        ++ numbers_of_tasks context.now.table (resolved (runtime_provider facts.now) (run_names recipe.now))
+        words.now) }
+    ensures whole { OnOk result ((length words.now ≡ 0 → ⊥)
+        → lacks_provider (runtime_provider facts.now) (run_names recipe.now) ≡ false) }
     ensures asked { IfErr result (IsRefusalOf (λ refusal. length words.now ≡ 0 → ⊥)) }
     ensures err { IfErr result (IsRefusalOf (LacksToRun facts.now recipe.now)) }
 {
@@ -93,7 +99,8 @@ fn check_recipe(
 ) -> Result<(), GraphFault>
     requires few { length facts.now.recipes < 2 ^ 32 }
     requires context { IsContext facts.now context.now }
-    ensures ok { OnOk result ((recipe : Recipe) → slice_get facts.now.recipes number ≡ Some recipe → HasAllProviders facts.now recipe) }
+    ensures ok { OnOk result ((recipe : Recipe) → slice_get facts.now.recipes number ≡ Some recipe
+        → HasAllProviders facts.now recipe) }
     ensures err { IfErr result (IsRefusalOf (LacksAt facts.now number)) }
 {
     match recipe_at(facts, number) {
@@ -130,7 +137,8 @@ fn check_needed(
     requires context { IsContext facts.now context.now }
     requires needed { IsNeeded facts.now recipe.now needed.now }
     ensures ok { OnOk result (HasAllProviders facts.now recipe.now) }
-    ensures err { IfErr result (IsRefusalOf (λ refusal. LacksToBuild facts.now recipe.now refusal ⊎ LacksToRun facts.now recipe.now refusal)) }
+    ensures err { IfErr result (IsRefusalOf (λ refusal. LacksToBuild facts.now recipe.now refusal
+        ⊎ LacksToRun facts.now recipe.now refusal)) }
 {
     if needed.building.lacks {
         return Err(refuse_building(alloc, facts, &context.index, recipe));
@@ -150,7 +158,8 @@ fn check_below(
 ) -> Result<(), GraphFault>
     requires few { length facts.now.recipes < 2 ^ 32 }
     requires context { IsContext facts.now context.now }
-    ensures ok { OnOk result ((n : ℕ) (recipe : Recipe) → Has below.now n → slice_get facts.now.recipes n ≡ Some recipe → HasAllProviders facts.now recipe) }
+    ensures ok { OnOk result ((n : ℕ) (recipe : Recipe) → Has below.now n
+        → slice_get facts.now.recipes n ≡ Some recipe → HasAllProviders facts.now recipe) }
     ensures err { IfErr result (IsRefusalOf (LacksBelow facts.now below.now)) }
 {
     for number in below {
@@ -184,7 +193,8 @@ fn push_below(
     requires few { length facts.now.recipes < 2 ^ 32 }
     requires context { IsContext facts.now context.now }
     requires within { spot.recipe < length facts.now.recipes }
-    ensures ok { OnOk result (PutsBelow facts.now context.now.table context.now.needed.items but spot.recipe words.now out.old.items out.new.items) }
+    ensures ok { OnOk result (PutsBelow facts.now context.now.table context.now.needed.items but spot.recipe words.now
+        out.old.items out.new.items) }
     ensures asked { IfErr result (IsRefusalOf (λ refusal. length words.now ≡ 0 → ⊥)) }
     ensures err { IfErr result (IsRefusalOf (LacksFrom facts.now context.now.needed.items spot.recipe)) }
 {
@@ -218,8 +228,10 @@ fn push_edges(
     requires context { IsContext facts.now context.now }
     requires needed { IsNeeded facts.now recipe.now needed.now }
     requires within { spot.recipe < length facts.now.recipes }
-    ensures ok { IfOk result (λ out. HasPushed facts.now context.now.table context.now.needed.items number spot.recipe recipe.now task.now out.items) }
-    ensures err { IfErr result (IsRefusalOf (LacksOf facts.now context.now.needed.items spot.recipe recipe.now task.now)) }
+    ensures ok { IfOk result (λ out. HasPushed facts.now context.now.table context.now.needed.items number spot.recipe
+        recipe.now task.now out.items) }
+    ensures err { IfErr result (IsRefusalOf (LacksOf facts.now context.now.needed.items spot.recipe recipe.now
+        task.now)) }
 {
     let mut out = Vec::new(alloc);
     push_tasks(

@@ -52,8 +52,10 @@ fn graph_of(
 ) -> Result<Graph, GraphFault>
     requires few { length facts.now.recipes < 2 ^ 32 }
     requires context { IsContext facts.now context.now }
-    requires reached { AreReached facts.now context.now.table targets.now leveled.now.reached.tasks.items leveled.now.reached.edges.items leveled.now.reached.ends }
-    requires depths { AreLevels facts.now context.now.table targets.now leveled.now.reached.tasks.items leveled.now.depths }
+    requires reached { AreReached facts.now context.now.table targets.now leveled.now.reached.tasks.items
+        leveled.now.reached.edges.items leveled.now.reached.ends }
+    requires depths { AreLevels facts.now context.now.table targets.now leveled.now.reached.tasks.items
+        leveled.now.depths }
     ensures graph { IfOk result (IsGraph facts.now targets.now) }
     ensures few { IfOk result (λ graph. length graph.nodes ≤ 65536) }
     ensures whole { IfOk result (λ graph. HasNoRefusal facts.now targets.now) }

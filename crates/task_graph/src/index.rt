@@ -29,7 +29,8 @@ pub(crate) struct NameIndex {
 }
 
 fn index_named(alloc: Global, recipes: &[RecipeFacts]) -> Result<HashMap<String, Only>, Mem>
-    ensures { IfOk result (λ map. (q : List ℕ) → get_by_text map q ≡ only_of (numbers_from (is_named q) 0 recipes.now)) }
+    ensures { IfOk result (λ map. (q : List ℕ) → get_by_text map q
+        ≡ only_of (numbers_from (is_named q) 0 recipes.now)) }
 {
     let mut map = HashMap::new(alloc);
     for (number, recipe) in recipes.iter().enumerate() {
@@ -39,7 +40,8 @@ fn index_named(alloc: Global, recipes: &[RecipeFacts]) -> Result<HashMap<String,
 }
 
 fn index_candidates(alloc: Global, recipes: &[RecipeFacts]) -> Result<HashMap<String, Only>, Mem>
-    ensures { IfOk result (λ map. (q : List ℕ) → get_by_text map q ≡ only_of (numbers_from (candidate_test q) 0 recipes.now)) }
+    ensures { IfOk result (λ map. (q : List ℕ) → get_by_text map q
+        ≡ only_of (numbers_from (candidate_test q) 0 recipes.now)) }
 {
     let mut map = HashMap::new(alloc);
     for (number, recipe) in recipes.iter().enumerate() {
@@ -55,7 +57,9 @@ fn note_packages(
     packages: &[Package],
     number: usize,
 ) -> Result<(), Mem>
-    ensures { OnOk result ((q : List ℕ) → get_by_text map.new q ≡ (if list_any (is_package_for q) packages.now then number_added (get_by_text map.old q) number else get_by_text map.old q)) }
+    ensures { OnOk result ((q : List ℕ) → get_by_text map.new q
+        ≡ (if list_any (is_package_for q) packages.now then number_added (get_by_text map.old q) number else
+        get_by_text map.old q)) }
 {
     for package in packages {
         note(alloc, map, package.name.as_str(), number)?;
@@ -65,7 +69,8 @@ fn note_packages(
 }
 
 fn index_runtime(alloc: Global, recipes: &[RecipeFacts]) -> Result<HashMap<String, Only>, Mem>
-    ensures { IfOk result (λ map. (q : List ℕ) → get_by_text map q ≡ only_of (numbers_from (runtime_test q) 0 recipes.now)) }
+    ensures { IfOk result (λ map. (q : List ℕ) → get_by_text map q
+        ≡ only_of (numbers_from (runtime_test q) 0 recipes.now)) }
 {
     let mut map = HashMap::new(alloc);
     for (number, recipe) in recipes.iter().enumerate() {
@@ -79,7 +84,8 @@ fn index_preferences(
     alloc: Global,
     preferences: &[(Text, Text)],
 ) -> Result<HashMap<String, usize>, Mem>
-    ensures { IfOk result (λ map. (q : List ℕ) → get_by_text map q ≡ first_place (λ p. bytes_eq p.0 q) 0 preferences.now) }
+    ensures { IfOk result (λ map. (q : List ℕ) → get_by_text map q
+        ≡ first_place (λ p. bytes_eq p.0 q) 0 preferences.now) }
 {
     let mut map = HashMap::new(alloc);
     for (place, preference) in preferences.iter().enumerate() {
@@ -131,7 +137,9 @@ fn note_wanted(
     number: usize,
 ) -> Result<(), Mem>
     requires { HasPreferences facts.now (get_by_text places.now) }
-    ensures { OnOk result ((q : List ℕ) → get_by_text map.new q ≡ (if bytes_eq name.now q && wants facts.now q pn.now then number_added (get_by_text map.old q) number else get_by_text map.old q)) }
+    ensures { OnOk result ((q : List ℕ) → get_by_text map.new q
+        ≡ (if bytes_eq name.now q && wants facts.now q pn.now then number_added (get_by_text map.old q) number else
+        get_by_text map.old q)) }
 {
     if is_wanted(facts, places, name, pn) {
         note(alloc, map, name, number)?;
@@ -149,7 +157,9 @@ fn note_preferred(
     number: usize,
 ) -> Result<(), Mem>
     requires { HasPreferences facts.now (get_by_text places.now) }
-    ensures { OnOk result ((q : List ℕ) → get_by_text map.new q ≡ (if is_preferred facts.now q recipe.now then number_added (get_by_text map.old q) number else get_by_text map.old q)) }
+    ensures { OnOk result ((q : List ℕ) → get_by_text map.new q
+        ≡ (if is_preferred facts.now q recipe.now then number_added (get_by_text map.old q) number else get_by_text
+        map.old q)) }
 {
     let pn = recipe.pn.as_str();
     note_wanted(alloc, facts, places, map, pn, pn, number)?;
@@ -160,7 +170,8 @@ fn note_preferred(
 }
 
 fn index_preferred(alloc: Global, facts: &FactSet) -> Result<HashMap<String, Only>, Mem>
-    ensures { IfOk result (λ map. (q : List ℕ) → get_by_text map q ≡ only_of (numbers_from (is_preferred facts.now q) 0 facts.now.recipes)) }
+    ensures { IfOk result (λ map. (q : List ℕ) → get_by_text map q
+        ≡ only_of (numbers_from (is_preferred facts.now q) 0 facts.now.recipes)) }
 {
     let places = index_preferences(alloc, facts.preferred.as_slice())?;
     let mut map = HashMap::new(alloc);

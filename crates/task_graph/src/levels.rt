@@ -29,9 +29,12 @@ pub(crate) fn level(
 ) -> Result<Leveled, GraphFault>
     requires few { length facts.now.recipes < 2 ^ 32 }
     requires context { IsContext facts.now context.now }
-    ensures reached { IfOk result (λ made. AreReached facts.now context.now.table targets.now made.reached.tasks.items made.reached.edges.items made.reached.ends) }
-    ensures depths { IfOk result (λ made. AreLevels facts.now context.now.table targets.now made.reached.tasks.items made.depths) }
-    ensures err { IfErr result (IsFaultOf (IsGraphRefusal facts.now targets.now) (λ ids. ⊥) (HasMoreTasks facts.now targets.now 65536)) }
+    ensures reached { IfOk result (λ made. AreReached facts.now context.now.table targets.now made.reached.tasks.items
+        made.reached.edges.items made.reached.ends) }
+    ensures depths { IfOk result (λ made. AreLevels facts.now context.now.table targets.now made.reached.tasks.items
+        made.depths) }
+    ensures err { IfErr result (IsFaultOf (IsGraphRefusal facts.now targets.now) (λ ids. ⊥)
+        (HasMoreTasks facts.now targets.now 65536)) }
 {
     let reached = reach(alloc, facts, context, targets)?;
     let depths = depths_of(alloc, reached.edges.as_slice())?;

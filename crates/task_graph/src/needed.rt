@@ -75,8 +75,10 @@ fn resolve_names(
     made: &mut Resolved,
 ) -> Result<(), Mem>
     requires { IsIndex facts.now index.now }
-    ensures found { OnOk result (made.new.found.items ≡ made.old.found.items ++ resolved (runtime_provider facts.now) names.now) }
-    ensures lacks { OnOk result (made.new.lacks ≡ (made.old.lacks || lacks_provider (runtime_provider facts.now) names.now)) }
+    ensures found { OnOk result (made.new.found.items ≡ made.old.found.items
+        ++ resolved (runtime_provider facts.now) names.now) }
+    ensures lacks { OnOk result (made.new.lacks ≡ (made.old.lacks || lacks_provider (runtime_provider facts.now)
+        names.now)) }
 {
     for name in names {
         made.add(index.runtime_provider(facts, name.as_str()))?;

@@ -102,7 +102,8 @@ pub(crate) fn emit(
     requires edges { AreWithin reached.now.edges.items }
     requires long { length reached.now.edges.items ≡ length reached.now.tasks.items }
     requires ends { All (λ place. place < length reached.now.tasks.items) reached.now.ends }
-    ensures { IfOk result (IsEmitted facts.now table.now reached.now.tasks.items reached.now.edges.items reached.now.ends depths.now) }
+    ensures { IfOk result (IsEmitted facts.now table.now reached.now.tasks.items reached.now.edges.items
+        reached.now.ends depths.now) }
 {
     let drafts = ordered_drafts(alloc, facts, table, &reached.tasks, depths)?;
     let ranks = ranks_of(alloc, &drafts)?;

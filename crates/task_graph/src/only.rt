@@ -52,7 +52,8 @@ pub(crate) fn note(
     name: &str,
     number: usize,
 ) -> Result<(), Mem>
-    ensures { OnOk result ((q : List ℕ) → get_by_text map.new q ≡ (if bytes_eq name.now q then number_added (get_by_text map.old q) number else get_by_text map.old q)) }
+    ensures { OnOk result ((q : List ℕ) → get_by_text map.new q
+        ≡ (if bytes_eq name.now q then number_added (get_by_text map.old q) number else get_by_text map.old q)) }
 {
     let next = with_number(map.get(name).copied(), number);
     map.insert(String::from_str(alloc, name)?, next)?;
@@ -66,7 +67,8 @@ pub(crate) fn note_all(
     names: &[Text],
     number: usize,
 ) -> Result<(), Mem>
-    ensures { OnOk result ((q : List ℕ) → get_by_text map.new q ≡ (if is_in q names.now then number_added (get_by_text map.old q) number else get_by_text map.old q)) }
+    ensures { OnOk result ((q : List ℕ) → get_by_text map.new q
+        ≡ (if is_in q names.now then number_added (get_by_text map.old q) number else get_by_text map.old q)) }
 {
     for name in names {
         note(alloc, map, name.as_str(), number)?;
@@ -81,7 +83,9 @@ pub(crate) fn note_first(
     name: &str,
     place: usize,
 ) -> Result<(), Mem>
-    ensures { OnOk result ((q : List ℕ) → get_by_text map.new q ≡ (if is_some (get_by_text map.old q) then get_by_text map.old q else (if bytes_eq name.now q then Some place else None))) }
+    ensures { OnOk result ((q : List ℕ) → get_by_text map.new q
+        ≡ (if is_some (get_by_text map.old q) then get_by_text map.old q else
+        (if bytes_eq name.now q then Some place else None))) }
 {
     match map.get(name).copied() {
         Some(_) => Ok(()),

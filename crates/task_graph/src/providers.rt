@@ -46,7 +46,8 @@ fn is_candidate(name: &str, recipe: &RecipeFacts) -> bool
 }
 
 fn is_preferred_pn(facts: &FactSet, name: &str, pn: &str) -> bool
-    ensures { result ≡ option_map_or (λ wanted. bytes_eq pn.now wanted) (lookup (bytes_eq name.now) facts.now.preferred) false }
+    ensures { result ≡ option_map_or (λ wanted. bytes_eq pn.now wanted)
+        (lookup (bytes_eq name.now) facts.now.preferred) false }
 {
     for preference in facts.preferred.as_slice() {
         if name == preference.0.as_str() {
@@ -105,7 +106,8 @@ fn as_texts(alloc: Global, texts: &[Text]) -> Result<Texts, Mem>
 
 /// The PNs of the recipes that pass, in byte order and each once.
 fn passing_pns(alloc: Global, test: Test, facts: &FactSet, name: &str) -> Result<Texts, Mem>
-    ensures { IfOk result (λ pns. pns ≡ in_byte_order (map (λ recipe. recipe.pn) (filter (test_of test facts.now name.now) facts.now.recipes))) }
+    ensures { IfOk result (λ pns. pns ≡ in_byte_order (map (λ recipe. recipe.pn)
+        (filter (test_of test facts.now name.now) facts.now.recipes))) }
 {
     let mut pns = Vec::new(alloc);
     for recipe in facts.recipes.as_slice() {
@@ -120,7 +122,8 @@ fn passing_pns(alloc: Global, test: Test, facts: &FactSet, name: &str) -> Result
 fn only_one(alloc: Global, test: Test, facts: &FactSet, name: &str) -> Result<u32, GraphFault>
     requires { length facts.now.recipes < 2 ^ 32 }
     ensures ok { IfOk result (λ n. the_only_one facts.now.recipes (test_of test facts.now name.now) ≡ Ok n) }
-    ensures err { IfErr result (IsRefusalOf (IsUnprovided name.now (the_only_one facts.now.recipes (test_of test facts.now name.now)))) }
+    ensures err { IfErr result (IsRefusalOf (IsUnprovided name.now
+        (the_only_one facts.now.recipes (test_of test facts.now name.now)))) }
 {
     let mut found = None;
     for (n, recipe) in facts.recipes.as_slice().iter().enumerate() {
@@ -144,7 +147,8 @@ fn only_one(alloc: Global, test: Test, facts: &FactSet, name: &str) -> Result<u3
 
 /// By which test the provider of a name is found.
 fn provider_test(facts: &FactSet, name: &str) -> Test
-    ensures { test_of result facts.now name.now ≡ narrowed facts.now.recipes (is_preferred facts.now name.now) (narrowed facts.now.recipes (is_named name.now) (candidate_test name.now)) }
+    ensures { test_of result facts.now name.now ≡ narrowed facts.now.recipes (is_preferred facts.now name.now)
+        (narrowed facts.now.recipes (is_named name.now) (candidate_test name.now)) }
 {
     if any_passes(Test::Preferred, facts, name) {
         Test::Preferred
@@ -157,7 +161,8 @@ fn provider_test(facts: &FactSet, name: &str) -> Test
 
 /// By which test the runtime provider of a name is found.
 fn runtime_provider_test(facts: &FactSet, name: &str) -> Test
-    ensures { test_of result facts.now name.now ≡ narrowed facts.now.recipes (is_named name.now) (runtime_test name.now) }
+    ensures { test_of result facts.now name.now ≡ narrowed facts.now.recipes (is_named name.now)
+        (runtime_test name.now) }
 {
     if any_passes(Test::Named, facts, name) {
         Test::Named

@@ -68,8 +68,10 @@ fn numbers_of(
 ) -> Result<Vec<usize>, GraphFault>
     requires few { length facts.now.recipes < 2 ^ 32 }
     requires context { IsContext facts.now context.now }
-    ensures ok { IfOk result (λ numbers. AllZip (λ target u. IsNumberOf context.now.table (target_task facts.now target) u) targets.now numbers.items) }
-    ensures err { IfErr result (IsRefusalOf (λ refusal. Any (λ target. target_task facts.now target ≡ Err refusal) targets.now)) }
+    ensures ok { IfOk result (λ numbers. AllZip (λ target u. IsNumberOf context.now.table
+        (target_task facts.now target) u) targets.now numbers.items) }
+    ensures err { IfErr result (IsRefusalOf (λ refusal. Any (λ target. target_task facts.now target ≡ Err refusal)
+        targets.now)) }
 {
     let mut numbers = Vec::with_capacity(alloc, targets.len())?;
     for target in targets {
@@ -99,11 +101,14 @@ fn find_next(
     requires count { length frontier.old.numbers.items ≡ length context.now.table.spots.items }
     requires frontier { IsFrontier frontier.old.found.items frontier.old.numbers.items }
     ensures frontier { IfOk result (λ places. IsFrontier frontier.new.found.items frontier.new.numbers.items) }
-    ensures found { IfOk result (λ places. HasFoundNext facts.now context.now.table number frontier.old.found.items frontier.new.found.items places) }
+    ensures found { IfOk result (λ places. HasFoundNext facts.now context.now.table number frontier.old.found.items
+        frontier.new.found.items places) }
     ensures count { IfOk result (λ places. length frontier.new.numbers.items ≡ length context.now.table.spots.items) }
-    ensures room { IfOk result (λ places. room frontier.new.found.items frontier.new.numbers.items ≡ room frontier.old.found.items frontier.old.numbers.items) }
+    ensures room { IfOk result (λ places. room frontier.new.found.items frontier.new.numbers.items
+        ≡ room frontier.old.found.items frontier.old.numbers.items) }
     ensures within { IfOk result (λ places. length frontier.new.found.items ≤ 65536) }
-    ensures err { IfErr result (IsFaultOf (IsRefusedAt facts.now context.now.table number) (λ ids. ⊥) (GoesBeyond facts.now context.now.table number frontier.old.found.items)) }
+    ensures err { IfErr result (IsFaultOf (IsRefusedAt facts.now context.now.table number) (λ ids. ⊥)
+        (GoesBeyond facts.now context.now.table number frontier.old.found.items)) }
 {
     let needed = edges_of(alloc, facts, context, number)?;
     let places = frontier.add_all(alloc, needed.as_slice())?;
@@ -120,8 +125,10 @@ fn find_targets(
 ) -> Result<Begun, GraphFault>
     requires few { length facts.now.recipes < 2 ^ 32 }
     requires context { IsContext facts.now context.now }
-    ensures ok { IfOk result (λ made. IsReaching facts.now context.now.table targets.now made.frontier.found.items made.frontier.numbers.items 0 [] made.ends) }
-    ensures err { IfErr result (IsFaultOf (IsGraphRefusal facts.now targets.now) (λ ids. ⊥) (HasMoreTasks facts.now targets.now 65536)) }
+    ensures ok { IfOk result (λ made. IsReaching facts.now context.now.table targets.now made.frontier.found.items
+        made.frontier.numbers.items 0 [] made.ends) }
+    ensures err { IfErr result (IsFaultOf (IsGraphRefusal facts.now targets.now) (λ ids. ⊥)
+        (HasMoreTasks facts.now targets.now 65536)) }
 {
     let starts = numbers_of(alloc, facts, context, targets)?;
     let mut frontier = Frontier::new(alloc, context.table.spots.len())?;
@@ -140,8 +147,10 @@ pub(crate) fn reach(
 ) -> Result<Reached, GraphFault>
     requires few { length facts.now.recipes < 2 ^ 32 }
     requires context { IsContext facts.now context.now }
-    ensures ok { IfOk result (λ made. AreReached facts.now context.now.table targets.now made.tasks.items made.edges.items made.ends) }
-    ensures err { IfErr result (IsFaultOf (IsGraphRefusal facts.now targets.now) (λ ids. ⊥) (HasMoreTasks facts.now targets.now 65536)) }
+    ensures ok { IfOk result (λ made. AreReached facts.now context.now.table targets.now made.tasks.items
+        made.edges.items made.ends) }
+    ensures err { IfErr result (IsFaultOf (IsGraphRefusal facts.now targets.now) (λ ids. ⊥)
+        (HasMoreTasks facts.now targets.now 65536)) }
 {
     let begun = find_targets(alloc, facts, context, targets)?;
     let mut frontier = begun.frontier;

@@ -30,7 +30,8 @@ fn number_tasks(
     recipe: usize,
     tasks: &[TaskFacts],
 ) -> Result<HashMap<String, usize>, Mem>
-    ensures tasks { IfOk result (λ map. HasTasks spots.new.items recipe (length spots.old.items) tasks.now (get_by_text map)) }
+    ensures tasks { IfOk result (λ map. HasTasks spots.new.items recipe (length spots.old.items) tasks.now
+        (get_by_text map)) }
     ensures kept { IfOk result (λ map. KeepsSpots spots.old.items spots.new.items) }
 {
     let mut map = HashMap::new(alloc);

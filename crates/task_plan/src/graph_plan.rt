@@ -30,8 +30,10 @@ fn tasks_of<L: Layers>(
     forced: &[u32],
 ) -> Result<ListOf<PlanTask>, PlanFault>
     requires { All (λ node. node.recipe < length set.now.facts.recipes) nodes.now }
-    ensures ok { IfOk result (λ made. L.tells → forced_tasks (L.files layers.old) set.now plans.no_sums 0 forced.now nodes.now ≡ Ok made) }
-    ensures err { IfErr result (λ fault. L.tells → IsPlanFault fault (forced_tasks (L.files layers.old) set.now plans.no_sums 0 forced.now nodes.now)) }
+    ensures ok { IfOk result (λ made. L.tells → forced_tasks (L.files layers.old) set.now plans.no_sums 0 forced.now
+        nodes.now ≡ Ok made) }
+    ensures err { IfErr result (λ fault. L.tells → IsPlanFault fault
+        (forced_tasks (L.files layers.old) set.now plans.no_sums 0 forced.now nodes.now)) }
     ensures same { L.files layers.new ≡ L.files layers.old }
     ensures cause { Counts (L.faults layers.old) (L.faults layers.new) (plan_failed result) }
 {
@@ -88,8 +90,10 @@ pub fn plan<L: Layers>(
 ) -> Result<Plan, PlanFault>
     // the graph was built from these facts
     requires { plans.IsOver set.now.facts graph.now }
-    ensures ok { IfOk result (λ made. L.tells → plans.plan_of (L.files layers.old) set.now graph.now threads ≡ Ok made) }
-    ensures err { IfErr result (λ fault. L.tells → IsPlanFault fault (plans.plan_of (L.files layers.old) set.now graph.now threads)) }
+    ensures ok { IfOk result (λ made. L.tells → plans.plan_of (L.files layers.old) set.now graph.now threads
+        ≡ Ok made) }
+    ensures err { IfErr result (λ fault. L.tells → IsPlanFault fault
+        (plans.plan_of (L.files layers.old) set.now graph.now threads)) }
     ensures same { L.files layers.new ≡ L.files layers.old }
     ensures cause { Counts (L.faults layers.old) (L.faults layers.new) (plan_failed result) }
 {
@@ -111,8 +115,10 @@ pub fn forced_plan<L: Layers>(
 ) -> Result<Plan, PlanFault>
     // the graph was built from these facts
     requires { plans.IsOver set.now.facts graph.now }
-    ensures ok { IfOk result (λ made. L.tells → plans.forced_plan_of (L.files layers.old) set.now graph.now threads ≡ Ok made) }
-    ensures err { IfErr result (λ fault. L.tells → IsPlanFault fault (plans.forced_plan_of (L.files layers.old) set.now graph.now threads)) }
+    ensures ok { IfOk result (λ made. L.tells → plans.forced_plan_of (L.files layers.old) set.now graph.now threads
+        ≡ Ok made) }
+    ensures err { IfErr result (λ fault. L.tells → IsPlanFault fault
+        (plans.forced_plan_of (L.files layers.old) set.now graph.now threads)) }
     ensures same { L.files layers.new ≡ L.files layers.old }
     ensures cause { Counts (L.faults layers.old) (L.faults layers.new) (plan_failed result) }
 {

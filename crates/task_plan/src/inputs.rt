@@ -47,8 +47,10 @@ fn if_clean(path: Text) -> Option<Text>
 
 /// The path that a word names, where a file can stand there: files stand at clean paths alone.
 fn path_of(alloc: Global, word: &str) -> Result<Option<Text>, Mem>
-    ensures some { IfOk result (λ found. IfSome found (λ path. (paths.path_named word.now ≡ Some path) × IsClean path)) }
-    ensures none { IfOk result (λ found. IfNone found ((path : List ℕ) → paths.path_named word.now ≡ Some path → IsClean path → ⊥)) }
+    ensures some { IfOk result (λ found. IfSome found (λ path. (paths.path_named word.now ≡ Some path)
+        × IsClean path)) }
+    ensures none { IfOk result (λ found. IfNone found ((path : List ℕ) → paths.path_named word.now ≡ Some path
+        → IsClean path → ⊥)) }
 {
     match path_named(alloc, word)? {
         Some(path) => Ok(if_clean(path)),
@@ -64,8 +66,10 @@ fn bytes_at<L: Layers>(
     word: &str,
     path: &str,
 ) -> Result<Bytes, PlanFault>
-    ensures ok { IfOk result (λ bytes. L.tells → meant.input_there file.now word.now path.now (L.files layers.old path.now) ≡ Ok (paths.file_name path.now, Plain false bytes)) }
-    ensures err { IfErr result (λ fault. L.tells → IsPlanFault fault (meant.input_there file.now word.now path.now (L.files layers.old path.now))) }
+    ensures ok { IfOk result (λ bytes. L.tells → meant.input_there file.now word.now path.now
+        (L.files layers.old path.now) ≡ Ok (paths.file_name path.now, Plain false bytes)) }
+    ensures err { IfErr result (λ fault. L.tells → IsPlanFault fault
+        (meant.input_there file.now word.now path.now (L.files layers.old path.now))) }
     ensures same { L.files layers.new ≡ L.files layers.old }
     ensures cause { Counts (L.faults layers.old) (L.faults layers.new) (plan_failed result) }
 {
@@ -96,8 +100,10 @@ fn file_at<L: Layers>(
 ) -> Result<(Text, Bytes), PlanFault>
     requires { IsClean path.now }
     ensures part { IfOk result (λ made. IsOnePart made.0) }
-    ensures ok { IfOk result (λ made. L.tells → meant.input_there file.now word.now path.now (L.files layers.old path.now) ≡ Ok (made.0, Plain false made.1)) }
-    ensures err { IfErr result (λ fault. L.tells → IsPlanFault fault (meant.input_there file.now word.now path.now (L.files layers.old path.now))) }
+    ensures ok { IfOk result (λ made. L.tells → meant.input_there file.now word.now path.now
+        (L.files layers.old path.now) ≡ Ok (made.0, Plain false made.1)) }
+    ensures err { IfErr result (λ fault. L.tells → IsPlanFault fault
+        (meant.input_there file.now word.now path.now (L.files layers.old path.now))) }
     ensures same { L.files layers.new ≡ L.files layers.old }
     ensures cause { Counts (L.faults layers.old) (L.faults layers.new) (plan_failed result) }
 {
@@ -118,8 +124,10 @@ fn input_of<L: Layers>(
     word: &str,
 ) -> Result<(Text, Bytes), PlanFault>
     ensures part { IfOk result (λ made. IsOnePart made.0) }
-    ensures ok { IfOk result (λ made. L.tells → meant.input_of (L.files layers.old) file.now word.now ≡ Ok (made.0, Plain false made.1)) }
-    ensures err { IfErr result (λ fault. L.tells → IsPlanFault fault (meant.input_of (L.files layers.old) file.now word.now)) }
+    ensures ok { IfOk result (λ made. L.tells → meant.input_of (L.files layers.old) file.now word.now
+        ≡ Ok (made.0, Plain false made.1)) }
+    ensures err { IfErr result (λ fault. L.tells → IsPlanFault fault
+        (meant.input_of (L.files layers.old) file.now word.now)) }
     ensures same { L.files layers.new ≡ L.files layers.old }
     ensures cause { Counts (L.faults layers.old) (L.faults layers.new) (plan_failed result) }
 {
@@ -162,8 +170,10 @@ fn lay_file(tree: &mut Tree, alloc: Global, name: &str, bytes: Bytes) -> Result<
 /// One input file more, unless all together are too large with it.
 fn with_input(inputs: &mut Inputs, alloc: Global, name: &str, bytes: Bytes) -> Result<(), PlanFault>
     requires { IsOnePart name.now }
-    ensures ok { OnOk result (meant.within_limit (meant.with_input (inputs_meant inputs.old) (name.now, Plain false bytes)) ≡ Ok (inputs_meant inputs.new)) }
-    ensures err { IfErr result (λ fault. IsPlanFault fault (meant.within_limit (meant.with_input (inputs_meant inputs.old) (name.now, Plain false bytes)))) }
+    ensures ok { OnOk result (meant.within_limit (meant.with_input (inputs_meant inputs.old)
+        (name.now, Plain false bytes)) ≡ Ok (inputs_meant inputs.new)) }
+    ensures err { IfErr result (λ fault. IsPlanFault fault
+        (meant.within_limit (meant.with_input (inputs_meant inputs.old) (name.now, Plain false bytes)))) }
     ensures not_read { plan_failed result ≡ false }
 {
     let sum = inputs.bytes.saturating_add(bytes.as_slice().len() as u64);
@@ -183,8 +193,10 @@ fn one_more<L: Layers>(
     file: &str,
     word: &str,
 ) -> Result<(), PlanFault>
-    ensures ok { OnOk result (L.tells → meant.one_more (L.files layers.old) file.now (inputs_meant inputs.old) word.now ≡ Ok (inputs_meant inputs.new)) }
-    ensures err { IfErr result (λ fault. L.tells → IsPlanFault fault (meant.one_more (L.files layers.old) file.now (inputs_meant inputs.old) word.now)) }
+    ensures ok { OnOk result (L.tells → meant.one_more (L.files layers.old) file.now (inputs_meant inputs.old)
+        word.now ≡ Ok (inputs_meant inputs.new)) }
+    ensures err { IfErr result (λ fault. L.tells → IsPlanFault fault
+        (meant.one_more (L.files layers.old) file.now (inputs_meant inputs.old) word.now)) }
     ensures same { L.files layers.new ≡ L.files layers.old }
     ensures cause { Counts (L.faults layers.old) (L.faults layers.new) (plan_failed result) }
 {
@@ -202,8 +214,10 @@ fn take_word<L: Layers>(
     file: &str,
     word: &str,
 ) -> Result<(), PlanFault>
-    ensures ok { OnOk result (L.tells → word_taken (L.files layers.old) file.now (inputs_meant inputs.old) word.now ≡ Ok (inputs_meant inputs.new)) }
-    ensures err { IfErr result (λ fault. L.tells → IsPlanFault fault (word_taken (L.files layers.old) file.now (inputs_meant inputs.old) word.now)) }
+    ensures ok { OnOk result (L.tells → word_taken (L.files layers.old) file.now (inputs_meant inputs.old) word.now
+        ≡ Ok (inputs_meant inputs.new)) }
+    ensures err { IfErr result (λ fault. L.tells → IsPlanFault fault
+        (word_taken (L.files layers.old) file.now (inputs_meant inputs.old) word.now)) }
     ensures same { L.files layers.new ≡ L.files layers.old }
     ensures cause { Counts (L.faults layers.old) (L.faults layers.new) (plan_failed result) }
 {
@@ -221,8 +235,10 @@ fn take_words<L: Layers>(
     file: &str,
     words: &[Text],
 ) -> Result<(), PlanFault>
-    ensures ok { OnOk result (L.tells → meant.inputs_of (L.files layers.old) file.now (inputs_meant inputs.old) (meant.input_words words.now) ≡ Ok (inputs_meant inputs.new)) }
-    ensures err { IfErr result (λ fault. L.tells → IsPlanFault fault (meant.inputs_of (L.files layers.old) file.now (inputs_meant inputs.old) (meant.input_words words.now))) }
+    ensures ok { OnOk result (L.tells → meant.inputs_of (L.files layers.old) file.now (inputs_meant inputs.old)
+        (meant.input_words words.now) ≡ Ok (inputs_meant inputs.new)) }
+    ensures err { IfErr result (λ fault. L.tells → IsPlanFault fault
+        (meant.inputs_of (L.files layers.old) file.now (inputs_meant inputs.old) (meant.input_words words.now))) }
     ensures same { L.files layers.new ≡ L.files layers.old }
     ensures cause { Counts (L.faults layers.old) (L.faults layers.new) (plan_failed result) }
 {
@@ -240,8 +256,11 @@ fn files_of<L: Layers>(
     words: &[Text],
     bytes: u64,
 ) -> Result<Inputs, PlanFault>
-    ensures ok { IfOk result (λ made. L.tells → meant.inputs_of (L.files layers.old) file.now (record { tree = []; bytes = bytes }) (meant.input_words words.now) ≡ Ok (inputs_meant made)) }
-    ensures err { IfErr result (λ fault. L.tells → IsPlanFault fault (meant.inputs_of (L.files layers.old) file.now (record { tree = []; bytes = bytes }) (meant.input_words words.now))) }
+    ensures ok { IfOk result (λ made. L.tells → meant.inputs_of (L.files layers.old) file.now
+        (record { tree = []; bytes = bytes }) (meant.input_words words.now) ≡ Ok (inputs_meant made)) }
+    ensures err { IfErr result (λ fault. L.tells → IsPlanFault fault
+        (meant.inputs_of (L.files layers.old) file.now (record { tree = []; bytes = bytes })
+        (meant.input_words words.now))) }
     ensures same { L.files layers.new ≡ L.files layers.old }
     ensures cause { Counts (L.faults layers.old) (L.faults layers.new) (plan_failed result) }
 {
@@ -264,8 +283,10 @@ pub(crate) fn task_inputs<L: Layers>(
     task: &str,
     bytes: u64,
 ) -> Result<Inputs, PlanFault>
-    ensures ok { IfOk result (λ made. L.tells → plans.task_inputs (L.files layers.old) file.now store.now task.now bytes ≡ Ok (inputs_meant made)) }
-    ensures err { IfErr result (λ fault. L.tells → IsPlanFault fault (plans.task_inputs (L.files layers.old) file.now store.now task.now bytes)) }
+    ensures ok { IfOk result (λ made. L.tells → plans.task_inputs (L.files layers.old) file.now store.now task.now
+        bytes ≡ Ok (inputs_meant made)) }
+    ensures err { IfErr result (λ fault. L.tells → IsPlanFault fault
+        (plans.task_inputs (L.files layers.old) file.now store.now task.now bytes)) }
     ensures same { L.files layers.new ≡ L.files layers.old }
     ensures cause { Counts (L.faults layers.old) (L.faults layers.new) (plan_failed result) }
 {

@@ -34,8 +34,10 @@ fn parts_with<L: Layers>(
     bytes: u64,
 ) -> Result<Parts, PlanFault>
     requires { IsKeyOf keys.now task.now key }
-    ensures ok { IfOk result (λ made. L.tells → plans.parts_of (L.files layers.old) file.now keys.now task.now bytes ≡ Ok (parts_meant made)) }
-    ensures err { IfErr result (λ fault. L.tells → IsPlanFault fault (plans.parts_of (L.files layers.old) file.now keys.now task.now bytes)) }
+    ensures ok { IfOk result (λ made. L.tells → plans.parts_of (L.files layers.old) file.now keys.now task.now bytes
+        ≡ Ok (parts_meant made)) }
+    ensures err { IfErr result (λ fault. L.tells → IsPlanFault fault
+        (plans.parts_of (L.files layers.old) file.now keys.now task.now bytes)) }
     ensures same { L.files layers.new ≡ L.files layers.old }
     ensures cause { Counts (L.faults layers.old) (L.faults layers.new) (plan_failed result) }
 {
@@ -59,8 +61,10 @@ pub(crate) fn parts_of<L: Layers>(
     task: &str,
     bytes: u64,
 ) -> Result<Parts, PlanFault>
-    ensures ok { IfOk result (λ made. L.tells → plans.parts_of (L.files layers.old) file.now keys.old task.now bytes ≡ Ok (parts_meant made)) }
-    ensures err { IfErr result (λ fault. L.tells → IsPlanFault fault (plans.parts_of (L.files layers.old) file.now keys.old task.now bytes)) }
+    ensures ok { IfOk result (λ made. L.tells → plans.parts_of (L.files layers.old) file.now keys.old task.now bytes
+        ≡ Ok (parts_meant made)) }
+    ensures err { IfErr result (λ fault. L.tells → IsPlanFault fault
+        (plans.parts_of (L.files layers.old) file.now keys.old task.now bytes)) }
     ensures keys { keys.new ≡ keys.old }
     ensures same { L.files layers.new ≡ L.files layers.old }
     ensures cause { Counts (L.faults layers.old) (L.faults layers.new) (plan_failed result) }

@@ -91,8 +91,10 @@ fn with_parts(alloc: Global, node: &Node, parts: Parts) -> Result<PlanTask, Mem>
 
 /// The task of a node, unless the plan has too many bytes with it.
 fn counted(alloc: Global, node: &Node, parts: Parts, sums: &mut Sums) -> Result<PlanTask, PlanFault>
-    ensures ok { IfOk result (λ task. plans.planned_with node.now (sums_meant sums.old) (parts_meant parts) ≡ Ok (record { task = task; sums = sums_meant sums.new })) }
-    ensures err { IfErr result (λ fault. IsPlanFault fault (plans.planned_with node.now (sums_meant sums.old) (parts_meant parts))) }
+    ensures ok { IfOk result (λ task. plans.planned_with node.now (sums_meant sums.old) (parts_meant parts)
+        ≡ Ok (record { task = task; sums = sums_meant sums.new })) }
+    ensures err { IfErr result (λ fault. IsPlanFault fault
+        (plans.planned_with node.now (sums_meant sums.old) (parts_meant parts))) }
     ensures not_read { plan_failed result ≡ false }
 {
     let more = texts_of(&parts.key, parts.shell.script.as_str());
@@ -114,8 +116,10 @@ fn planned<L: Layers>(
     node: &Node,
     sums: &mut Sums,
 ) -> Result<PlanTask, PlanFault>
-    ensures ok { IfOk result (λ task. L.tells → plans.planned (L.files layers.old) file.now keys.old node.now (sums_meant sums.old) ≡ Ok (record { task = task; sums = sums_meant sums.new })) }
-    ensures err { IfErr result (λ fault. L.tells → IsPlanFault fault (plans.planned (L.files layers.old) file.now keys.old node.now (sums_meant sums.old))) }
+    ensures ok { IfOk result (λ task. L.tells → plans.planned (L.files layers.old) file.now keys.old node.now
+        (sums_meant sums.old) ≡ Ok (record { task = task; sums = sums_meant sums.new })) }
+    ensures err { IfErr result (λ fault. L.tells → IsPlanFault fault
+        (plans.planned (L.files layers.old) file.now keys.old node.now (sums_meant sums.old))) }
     ensures keys { keys.new ≡ keys.old }
     ensures same { L.files layers.new ≡ L.files layers.old }
     ensures cause { Counts (L.faults layers.old) (L.faults layers.new) (plan_failed result) }
@@ -168,7 +172,8 @@ fn keys_of<'a>(
 
 /// Keeps the keys of the tasks of a recipe.
 fn keep<'a>(kept: &mut Kept<'a>, recipe: u32, keys: StoreKeys<'a>) -> Result<(), Mem>
-    ensures { OnOk result ((q : ℕ) → get nat_cmp kept.new q ≡ update nat_eq (get nat_cmp kept.old) recipe (Some keys.entry) q) }
+    ensures { OnOk result ((q : ℕ) → get nat_cmp kept.new q
+        ≡ update nat_eq (get nat_cmp kept.old) recipe (Some keys.entry) q) }
 {
     kept.insert(recipe, keys)?;
     Ok(())
@@ -184,9 +189,12 @@ fn planned_with<'a, L: Layers>(
     node: &Node,
     sums: &mut Sums,
 ) -> Result<PlanTask, PlanFault>
-    ensures kept { OnOk result ((q : ℕ) → get nat_cmp kept.new q ≡ update nat_eq (get nat_cmp kept.old) node.now.recipe (Some keys.entry) q) }
-    ensures ok { IfOk result (λ task. L.tells → plans.planned (L.files layers.old) file.now keys.entry node.now (sums_meant sums.old) ≡ Ok (record { task = task; sums = sums_meant sums.new })) }
-    ensures err { IfErr result (λ fault. L.tells → IsPlanFault fault (plans.planned (L.files layers.old) file.now keys.entry node.now (sums_meant sums.old))) }
+    ensures kept { OnOk result ((q : ℕ) → get nat_cmp kept.new q
+        ≡ update nat_eq (get nat_cmp kept.old) node.now.recipe (Some keys.entry) q) }
+    ensures ok { IfOk result (λ task. L.tells → plans.planned (L.files layers.old) file.now keys.entry node.now
+        (sums_meant sums.old) ≡ Ok (record { task = task; sums = sums_meant sums.new })) }
+    ensures err { IfErr result (λ fault. L.tells → IsPlanFault fault
+        (plans.planned (L.files layers.old) file.now keys.entry node.now (sums_meant sums.old))) }
     ensures same { L.files layers.new ≡ L.files layers.old }
     ensures cause { Counts (L.faults layers.old) (L.faults layers.new) (plan_failed result) }
 {
@@ -221,8 +229,10 @@ pub(crate) fn planned_node<'a, L: Layers>(
     requires within { node.now.recipe < length set.now.facts.recipes }
     requires kept { AreKept set.now.stores (get nat_cmp kept.old) }
     ensures kept { OnOk result (AreKept set.now.stores (get nat_cmp kept.new)) }
-    ensures ok { IfOk result (λ task. L.tells → plans.planned_node (L.files layers.old) set.now node.now (sums_meant sums.old) ≡ Ok (record { task = task; sums = sums_meant sums.new })) }
-    ensures err { IfErr result (λ fault. L.tells → IsPlanFault fault (plans.planned_node (L.files layers.old) set.now node.now (sums_meant sums.old))) }
+    ensures ok { IfOk result (λ task. L.tells → plans.planned_node (L.files layers.old) set.now node.now
+        (sums_meant sums.old) ≡ Ok (record { task = task; sums = sums_meant sums.new })) }
+    ensures err { IfErr result (λ fault. L.tells → IsPlanFault fault
+        (plans.planned_node (L.files layers.old) set.now node.now (sums_meant sums.old))) }
     ensures same { L.files layers.new ≡ L.files layers.old }
     ensures cause { Counts (L.faults layers.old) (L.faults layers.new) (plan_failed result) }
 {

@@ -34,7 +34,8 @@ pub(crate) fn flag_text(
     flag: &str,
 ) -> Result<Text, DataFault>
     ensures ok { IfOk result (λ made. expand store.now (unwrap_or (flag_of store.now name.now flag.now) []) ≡ Ok made) }
-    ensures err { IfErr result (λ fault. IsDataFault fault (expand store.now (unwrap_or (flag_of store.now name.now flag.now) []))) }
+    ensures err { IfErr result (λ fault. IsDataFault fault
+        (expand store.now (unwrap_or (flag_of store.now name.now flag.now) []))) }
 {
     let told = match store.flag(name, flag) {
         Some(text) => text,

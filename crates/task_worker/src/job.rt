@@ -77,7 +77,8 @@ fn limited_output(alloc: Global, tree: Tree) -> Result<Given, Mem>
 fn placed(alloc: Global, left: Left, placing: &Placing) -> Result<Given, Mem>
     requires { IsLeft left }
     ensures fit { IfOk result IsGiven }
-    ensures given { IfOk result (λ given. output_of placing.now.sstate placing.now.places (left_outcome left) ≡ outcome_of given) }
+    ensures given { IfOk result (λ given. output_of placing.now.sstate placing.now.places (left_outcome left)
+        ≡ outcome_of given) }
 {
     match left {
         Left::Tree(tree) => limited_output(

@@ -107,7 +107,9 @@ fn work_of(
     outputs: &[(u32, Tree)],
 ) -> Result<Tree, Mem>
     requires { AreShort outputs.now }
-    ensures { IfOk result (λ tree. tree ≡ put_inside (codes "work") (overlaid_all (map (λ n. n.output) (filter (is_of task.now.id.pn) (by_depth (needed_among tasks.now outputs.now)))))) }
+    ensures { IfOk result (λ tree. tree ≡ put_inside (codes "work")
+        (overlaid_all (map (λ n. n.output) (filter (is_of task.now.id.pn)
+        (by_depth (needed_among tasks.now outputs.now)))))) }
 {
     let parts = own_parts(alloc, tasks, outputs, task.id.pn.as_str())?;
     let own = laid_own(alloc, &parts)?;
@@ -159,7 +161,8 @@ pub fn layout(
     requires runnable { IsRunnable plan.now }
     requires task { task < length plan.now.tasks }
     requires short { AreShort outputs.now }
-    ensures { IfOk result (λ made. (t : TaskOfPlan) → slice_get plan.now.tasks task ≡ Some t → IsWithinLayout (layout_over plan.now.tasks t outputs.now) made) }
+    ensures { IfOk result (λ made. (t : TaskOfPlan) → slice_get plan.now.tasks task ≡ Some t
+        → IsWithinLayout (layout_over plan.now.tasks t outputs.now) made) }
 {
     let tasks = plan.tasks.as_slice();
     let tree = laid_out(alloc, tasks, &tasks[task as usize], outputs)?;

@@ -76,7 +76,8 @@ fn put_part<'a>(
     pn: &str,
     own: bool,
 ) -> Result<(), Mem>
-    ensures { OnOk result (parts_needed made.new.items ≡ parts_needed made.old.items ++ if_wanted own pn.now (needed_at tasks.now output.now)) }
+    ensures { OnOk result (parts_needed made.new.items ≡ parts_needed made.old.items
+        ++ if_wanted own pn.now (needed_at tasks.now output.now)) }
 {
     if let Some(part) = part_of(tasks, output) {
         if wanted(&part, pn, own) {
@@ -94,7 +95,8 @@ fn gathered<'a>(
     pn: &str,
     own: bool,
 ) -> Result<Vec<Part<'a>>, Mem>
-    ensures { IfOk result (λ made. parts_needed made.items ≡ filter (is_wanted own pn.now) (needed_among tasks.now outputs.now)) }
+    ensures { IfOk result (λ made. parts_needed made.items
+        ≡ filter (is_wanted own pn.now) (needed_among tasks.now outputs.now)) }
 {
     let mut made = Vec::new(alloc);
     for output in outputs {
@@ -110,7 +112,8 @@ pub(crate) fn own_parts<'a>(
     outputs: &'a [(u32, Tree)],
     pn: &str,
 ) -> Result<Vec<Part<'a>>, Mem>
-    ensures { IfOk result (λ made. parts_needed made.items ≡ filter (is_of pn.now) (by_depth (needed_among tasks.now outputs.now))) }
+    ensures { IfOk result (λ made. parts_needed made.items
+        ≡ filter (is_of pn.now) (by_depth (needed_among tasks.now outputs.now))) }
 {
     let mut made = gathered(alloc, tasks, outputs, pn, true)?;
     made.sort_by(|a, b| compare_depths(a, b))?;
@@ -124,7 +127,8 @@ pub(crate) fn other_parts<'a>(
     outputs: &'a [(u32, Tree)],
     pn: &str,
 ) -> Result<Vec<Part<'a>>, Mem>
-    ensures { IfOk result (λ made. parts_needed made.items ≡ filter (λ n. not (is_of pn.now n)) (by_name (needed_among tasks.now outputs.now))) }
+    ensures { IfOk result (λ made. parts_needed made.items
+        ≡ filter (λ n. not (is_of pn.now n)) (by_name (needed_among tasks.now outputs.now))) }
 {
     let mut made = gathered(alloc, tasks, outputs, pn, false)?;
     made.sort_by(|a, b| compare_names(a, b))?;

@@ -61,7 +61,8 @@ fn lay<B: Bench>(alloc: Global, bench: &mut B, layout: &Tree) -> Result<(), Benc
 
 /// Runs the job's script over its layout.
 fn run_once<B: Bench>(alloc: Global, bench: &mut B, job: &Job) -> Result<u32, BenchFault>
-    ensures gave { IfOk result (λ status. B.tells → Gave (B.gives bench.old job.now.script job.now.layout) status (B.place bench.new).output) }
+    ensures gave { IfOk result (λ status. B.tells → Gave (B.gives bench.old job.now.script job.now.layout) status
+        (B.place bench.new).output) }
     ensures ran { B.tells → RanJob (B.place bench.old).runs (B.place bench.new).runs job.now result }
     ensures gives { B.gives bench.new ≡ B.gives bench.old }
     ensures cause { Counts (B.faults bench.old) (B.faults bench.new) (bench_failed result) }
@@ -91,7 +92,8 @@ pub(crate) fn is_fit(tree: &Tree) -> bool
 /// Whether what was taken is within the limits of an output.
 fn judged(taken: Taken) -> Left
     ensures fit { IsLeft result }
-    ensures judged { (output : Entries) → IsTaken output output_limit taken → limited (Ok output) ≡ left_outcome result }
+    ensures judged { (output : Entries) → IsTaken output output_limit taken
+        → limited (Ok output) ≡ left_outcome result }
 {
     match taken {
         Taken::Tree(tree) => {
@@ -107,7 +109,8 @@ fn judged(taken: Taken) -> Left
 
 /// Runs the job, and takes what its script gives: the work tree, where it is within the limits.
 pub(crate) fn ran<B: Bench>(alloc: Global, bench: &mut B, job: &Job) -> Result<Left, BenchFault>
-    ensures left { IfOk result (λ left. B.tells → clean_output (B.gives bench.old) job.now.script job.now.layout ≡ left_outcome left) }
+    ensures left { IfOk result (λ left. B.tells → clean_output (B.gives bench.old) job.now.script job.now.layout
+        ≡ left_outcome left) }
     ensures fit { IfOk result IsLeft }
     ensures ran { B.tells → RanJob (B.place bench.old).runs (B.place bench.new).runs job.now result }
     ensures gives { B.gives bench.new ≡ B.gives bench.old }

@@ -87,7 +87,8 @@ pub(crate) fn start_near(entries: &[(Text, Entry)], near: usize, prefix: &str) -
 fn place_before(entries: &[(Text, Entry)], place: usize, prefix: &str) -> usize
     requires { IsAscending entries.now }
     ensures within { result ≤ length entries.now }
-    ensures before { (k : ℕ) (d : List ℕ × TreeEntry) → k < result → IsBefore (slice_index_or entries.now k d).0 prefix.now }
+    ensures before { (k : ℕ) (d : List ℕ × TreeEntry) → k < result
+        → IsBefore (slice_index_or entries.now k d).0 prefix.now }
 {
     if place == 0 || place > entries.len() {
         return 0;

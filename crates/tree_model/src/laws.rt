@@ -91,9 +91,12 @@ pub fn pick_after_place(tree: &Tree, folder: &str, put: &Tree, picked: &Tree)
 /// same digest, or nothing both.
 pub fn trees_of_equal_manifests(one: &Tree, other: &Tree)
     requires { manifest_lines one.now ≡ manifest_lines other.now }
-    ensures kinds { (path : List ℕ) → option_map kind_of (entry_at one.now path) ≡ option_map kind_of (entry_at other.now path) }
-    ensures lengths { (path : List ℕ) → option_map entry_length (entry_at one.now path) ≡ option_map entry_length (entry_at other.now path) }
-    ensures digests { (path : List ℕ) → option_map (λ e. sha256 (content_of e)) (entry_at one.now path) ≡ option_map (λ e. sha256 (content_of e)) (entry_at other.now path) }
+    ensures kinds { (path : List ℕ) → option_map kind_of (entry_at one.now path)
+        ≡ option_map kind_of (entry_at other.now path) }
+    ensures lengths { (path : List ℕ) → option_map entry_length (entry_at one.now path)
+        ≡ option_map entry_length (entry_at other.now path) }
+    ensures digests { (path : List ℕ) → option_map (λ e. sha256 (content_of e)) (entry_at one.now path)
+        ≡ option_map (λ e. sha256 (content_of e)) (entry_at other.now path) }
 {
     let (_one, _other) = (one.entries(), other.entries());
 }

@@ -63,7 +63,8 @@ pub(crate) fn bad_place(entries: &[(Text, Entry)]) -> Option<usize>
 pub(crate) fn stands_over(path: &str, later: &[(Text, Entry)]) -> bool
     requires sorted { IsSortedByPath later.now }
     requires first { All (λ e. IsUpTo path.now e.0) later.now }
-    ensures { MatchBool result (Any (λ e. IsAtOrBelow path.now e.0) later.now) (All (λ e. IsAtOrBelow path.now e.0 → ⊥) later.now) }
+    ensures { MatchBool result (Any (λ e. IsAtOrBelow path.now e.0) later.now)
+        (All (λ e. IsAtOrBelow path.now e.0 → ⊥) later.now) }
 {
     for entry in later {
         match reach_of(path, entry.0.as_str()) {

@@ -63,7 +63,8 @@ fn is_met(entries: &[(Text, Entry)], start: usize, path: &str) -> bool
 fn lies_below_one(entries: &[(Text, Entry)], start: usize, path: &str) -> bool
     requires tree { IsTree entries.now }
     requires start { IsStart entries.now path.now start }
-    ensures { MatchBool result (Any (λ e. IsBelow e.0 path.now) entries.now) (All (λ e. IsBelow e.0 path.now → ⊥) entries.now) }
+    ensures { MatchBool result (Any (λ e. IsBelow e.0 path.now) entries.now)
+        (All (λ e. IsBelow e.0 path.now → ⊥) entries.now) }
 {
     if start == 0 {
         return false;
@@ -105,7 +106,8 @@ fn take_greatest(
     requires other { IsSortedByPath other.old.items }
     ensures none { IfNone result ((vec_len one.old ≡ 0) × (vec_len other.old ≡ 0)) }
     ensures some { IfSome result (λ e. IsGreatest one.old.items other.old.items e one.new.items other.new.items) }
-    ensures length { IfSome result (λ e. vec_len one.new + vec_len other.new + 1 ≡ vec_len one.old + vec_len other.old) }
+    ensures length { IfSome result (λ e. vec_len one.new + vec_len other.new + 1
+        ≡ vec_len one.old + vec_len other.old) }
 {
     if comes_last(one, other) {
         one.pop()

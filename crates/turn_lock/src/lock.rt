@@ -153,7 +153,8 @@ impl<S: Story> TurnLock<S> {
         requires spare { (view_of other).spare ≡ 0 }
         ensures lock { IsSeatOf self.now seat.new }
         ensures seat { view_of seat.new ≡ joined (view_of seat.old) (view_of other) }
-        ensures seen { Begins (view_of seat.new).seen (view_of seat.old).seen × Begins (view_of seat.new).seen (view_of other).seen }
+        ensures seen { Begins (view_of seat.new).seen (view_of seat.old).seen
+            × Begins (view_of seat.new).seen (view_of other).seen }
         ensures free { IsFree seat.new }
     {
         let Seat {

@@ -57,7 +57,8 @@ fn one_turn<R: Wait + Clock>(
     ensures lock { IsSeatOf lock.now seat.new }
     ensures free { IsFree seat.new }
     ensures same { IsSameSeat (view_of seat.old) (view_of seat.new) }
-    ensures own { IfOk result (λ _. (view_of seat.new).own ≡ (view_of seat.old).own ++ ((view_of seat.old).number, entry) ∷ []) }
+    ensures own { IfOk result (λ _. (view_of seat.new).own ≡ (view_of seat.old).own
+        ++ ((view_of seat.old).number, entry) ∷ []) }
     ensures none { IfErr result (λ _. (view_of seat.new).own ≡ (view_of seat.old).own) }
 {
     let mut story = take_turn(rt, lock, seat);

@@ -95,7 +95,8 @@ impl<D: Device> Queue<D> {
         ensures queue { IsSeatAt self.now seat.new }
         ensures free { IsFree seat.new }
         ensures same { IsSameSeat (view_of seat.old) (view_of seat.new) }
-        ensures own { IfOk result (λ _. (view_of seat.new).own ≡ (view_of seat.old).own ++ record { seat = (view_of seat.old).number; task = task } ∷ []) }
+        ensures own { IfOk result (λ _. (view_of seat.new).own ≡ (view_of seat.old).own
+            ++ record { seat = (view_of seat.old).number; task = task } ∷ []) }
     {
         let mut state = self.lock.begin(rt, seat);
         state.device.touch();

@@ -68,7 +68,8 @@ fn not_found(fault: ExpandFault) -> Result<bool, Mem>
 
 /// Whether a name has an empty text and no removes, and is no function. Where nothing can be found it isn't.
 fn is_bare_name(alloc: Global, store: &Datastore, name: &str) -> Result<bool, Mem>
-    ensures { IfOk result (λ made. made ≡ false → (found : Has) → find_in store.now name.now ≡ Ok (Some found) → is_bare found ≡ false) }
+    ensures { IfOk result (λ made. made ≡ false → (found : Has) → find_in store.now name.now ≡ Ok (Some found)
+        → is_bare found ≡ false) }
 {
     match found_in(alloc, store, name) {
         Ok(Some(found)) => Ok(is_bare(&found)),
@@ -79,7 +80,8 @@ fn is_bare_name(alloc: Global, store: &Datastore, name: &str) -> Result<bool, Me
 
 /// Puts a name at the end, where it has the flag `export`.
 fn push_exported(list: &mut Texts, store: &Datastore, name: &Text) -> Result<(), Mem>
-    ensures { OnOk result (list.new ≡ list.old ++ (if is_some (flag store.now name.now (codes "export")) then name.now ∷ [] else [])) }
+    ensures { OnOk result (list.new ≡ list.old ++ (if is_some (flag store.now name.now (codes "export")) then name.now
+        ∷ [] else [])) }
 {
     if store.flag(name.as_str(), "export").is_some() {
         list.push(name.copy()?)?;

@@ -52,8 +52,10 @@ fn push_looked_up(
     seen: &Seen,
     text: &str,
 ) -> Result<(), ExpandFault>
-    ensures ok { OnOk result (behind list.old.items (looked_up (seen_with seen.now.store.now seen.now.task) text.now) ≡ Ok list.new.items) }
-    ensures err { IfErr result (λ fault. IsFaultOf fault (looked_up (seen_with seen.now.store.now seen.now.task) text.now)) }
+    ensures ok { OnOk result (behind list.old.items (looked_up (seen_with seen.now.store.now seen.now.task) text.now)
+        ≡ Ok list.new.items) }
+    ensures err { IfErr result (λ fault. IsFaultOf fault
+        (looked_up (seen_with seen.now.store.now seen.now.task) text.now)) }
 {
     let names = references(alloc, text, seen)?;
     push_all(list, names.as_slice())?;
@@ -67,8 +69,10 @@ fn push_all_looked_up(
     seen: &Seen,
     texts: &[Text],
 ) -> Result<(), ExpandFault>
-    ensures ok { OnOk result (behind list.old.items (all_looked_up (seen_with seen.now.store.now seen.now.task) texts.now) ≡ Ok list.new.items) }
-    ensures err { IfErr result (λ fault. IsFaultOf fault (all_looked_up (seen_with seen.now.store.now seen.now.task) texts.now)) }
+    ensures ok { OnOk result (behind list.old.items (all_looked_up (seen_with seen.now.store.now seen.now.task)
+        texts.now) ≡ Ok list.new.items) }
+    ensures err { IfErr result (λ fault. IsFaultOf fault
+        (all_looked_up (seen_with seen.now.store.now seen.now.task) texts.now)) }
 {
     for text in texts {
         push_looked_up(list, alloc, seen, text.as_str())?;
@@ -93,8 +97,10 @@ fn push_if_function(
     seen: &Seen,
     name: &Text,
 ) -> Result<(), ExpandFault>
-    ensures ok { OnOk result (behind list.old.items (function_named (seen_with seen.now.store.now seen.now.task) name.now) ≡ Ok list.new.items) }
-    ensures err { IfErr result (λ fault. IsFaultOf fault (function_named (seen_with seen.now.store.now seen.now.task) name.now)) }
+    ensures ok { OnOk result (behind list.old.items (function_named (seen_with seen.now.store.now seen.now.task)
+        name.now) ≡ Ok list.new.items) }
+    ensures err { IfErr result (λ fault. IsFaultOf fault
+        (function_named (seen_with seen.now.store.now seen.now.task) name.now)) }
 {
     if found_is_function(seen.find(alloc, name.as_str())?) {
         list.push(name.copy()?)?;
@@ -109,8 +115,10 @@ fn push_functions(
     seen: &Seen,
     names: &[Text],
 ) -> Result<(), ExpandFault>
-    ensures ok { OnOk result (behind list.old.items (functions_of (seen_with seen.now.store.now seen.now.task) names.now) ≡ Ok list.new.items) }
-    ensures err { IfErr result (λ fault. IsFaultOf fault (functions_of (seen_with seen.now.store.now seen.now.task) names.now)) }
+    ensures ok { OnOk result (behind list.old.items (functions_of (seen_with seen.now.store.now seen.now.task)
+        names.now) ≡ Ok list.new.items) }
+    ensures err { IfErr result (λ fault. IsFaultOf fault
+        (functions_of (seen_with seen.now.store.now seen.now.task) names.now)) }
 {
     for name in names {
         push_if_function(list, alloc, seen, name)?;
@@ -125,8 +133,10 @@ fn push_called(
     seen: &Seen,
     name: &str,
 ) -> Result<(), ExpandFault>
-    ensures ok { OnOk result (behind list.old.items (called_by (seen_with seen.now.store.now seen.now.task) name.now true) ≡ Ok list.new.items) }
-    ensures err { IfErr result (λ fault. IsFaultOf fault (called_by (seen_with seen.now.store.now seen.now.task) name.now true)) }
+    ensures ok { OnOk result (behind list.old.items (called_by (seen_with seen.now.store.now seen.now.task) name.now
+        true) ≡ Ok list.new.items) }
+    ensures err { IfErr result (λ fault. IsFaultOf fault
+        (called_by (seen_with seen.now.store.now seen.now.task) name.now true)) }
 {
     let text = value(alloc, name, seen)?;
     match text {
@@ -146,8 +156,11 @@ fn push_by_text(
     name: &str,
     found: &Resolved,
 ) -> Result<(), ExpandFault>
-    ensures ok { OnOk result (behind list.old.items (by_text (view_by seen.now.store.now seen.now.task [] false []) name.now found.now (flag seen.now.store.now name.now (codes "vardepvalue"))) ≡ Ok list.new.items) }
-    ensures err { IfErr result (λ fault. IsFaultOf fault (by_text (view_by seen.now.store.now seen.now.task [] false []) name.now found.now (flag seen.now.store.now name.now (codes "vardepvalue")))) }
+    ensures ok { OnOk result (behind list.old.items (by_text (view_by seen.now.store.now seen.now.task [] false [])
+        name.now found.now (flag seen.now.store.now name.now (codes "vardepvalue"))) ≡ Ok list.new.items) }
+    ensures err { IfErr result (λ fault. IsFaultOf fault
+        (by_text (view_by seen.now.store.now seen.now.task [] false []) name.now found.now
+        (flag seen.now.store.now name.now (codes "vardepvalue")))) }
 {
     if seen.store.flag(name, "vardepvalue").is_some() {
         return Ok(());
@@ -167,8 +180,10 @@ fn push_by_value(
     name: &str,
     found: &Option<Resolved>,
 ) -> Result<(), ExpandFault>
-    ensures ok { OnOk result (behind list.old.items (by_value (view_by seen.now.store.now seen.now.task [] false []) name.now found.now) ≡ Ok list.new.items) }
-    ensures err { IfErr result (λ fault. IsFaultOf fault (by_value (view_by seen.now.store.now seen.now.task [] false []) name.now found.now)) }
+    ensures ok { OnOk result (behind list.old.items (by_value (view_by seen.now.store.now seen.now.task [] false [])
+        name.now found.now) ≡ Ok list.new.items) }
+    ensures err { IfErr result (λ fault. IsFaultOf fault
+        (by_value (view_by seen.now.store.now seen.now.task [] false []) name.now found.now)) }
 {
     match found {
         Some(found) => {
@@ -203,8 +218,10 @@ fn push_flag(
     name: &str,
     which: &str,
 ) -> Result<(), ExpandFault>
-    ensures ok { OnOk result (behind list.old.items (flag_looked_up (seen_with seen.now.store.now seen.now.task) (flag seen.now.store.now name.now which.now)) ≡ Ok list.new.items) }
-    ensures err { IfErr result (λ fault. IsFaultOf fault (flag_looked_up (seen_with seen.now.store.now seen.now.task) (flag seen.now.store.now name.now which.now))) }
+    ensures ok { OnOk result (behind list.old.items (flag_looked_up (seen_with seen.now.store.now seen.now.task)
+        (flag seen.now.store.now name.now which.now)) ≡ Ok list.new.items) }
+    ensures err { IfErr result (λ fault. IsFaultOf fault
+        (flag_looked_up (seen_with seen.now.store.now seen.now.task) (flag seen.now.store.now name.now which.now))) }
 {
     match seen.store.flag(name, which) {
         Some(text) => push_looked_up(list, alloc, seen, text),
@@ -219,8 +236,10 @@ fn push_flags(
     seen: &Seen,
     task: &str,
 ) -> Result<(), ExpandFault>
-    ensures ok { OnOk result (behind list.old.items (by_flags (view_by seen.now.store.now seen.now.task [] false task.now) true) ≡ Ok list.new.items) }
-    ensures err { IfErr result (λ fault. IsFaultOf fault (by_flags (view_by seen.now.store.now seen.now.task [] false task.now) true)) }
+    ensures ok { OnOk result (behind list.old.items (by_flags
+        (view_by seen.now.store.now seen.now.task [] false task.now) true) ≡ Ok list.new.items) }
+    ensures err { IfErr result (λ fault. IsFaultOf fault
+        (by_flags (view_by seen.now.store.now seen.now.task [] false task.now) true)) }
 {
     for place in 0..7 {
         push_flag(list, alloc, seen, task, read_flag(place))?;
@@ -236,8 +255,10 @@ fn push_by_flags(
     own: bool,
     name: &str,
 ) -> Result<(), ExpandFault>
-    ensures ok { OnOk result (behind list.old.items (by_flags (view_by seen.now.store.now seen.now.task [] false name.now) own) ≡ Ok list.new.items) }
-    ensures err { IfErr result (λ fault. IsFaultOf fault (by_flags (view_by seen.now.store.now seen.now.task [] false name.now) own)) }
+    ensures ok { OnOk result (behind list.old.items (by_flags
+        (view_by seen.now.store.now seen.now.task [] false name.now) own) ≡ Ok list.new.items) }
+    ensures err { IfErr result (λ fault. IsFaultOf fault
+        (by_flags (view_by seen.now.store.now seen.now.task [] false name.now) own)) }
 {
     if own {
         return push_flags(list, alloc, seen, name);
@@ -252,8 +273,10 @@ pub(crate) fn words_of_flag(
     name: &str,
     which: &str,
 ) -> Result<Texts, ExpandFault>
-    ensures ok { IfOk result (λ made. flag_words (view_by seen.now.store.now seen.now.task [] false []) name.now which.now ≡ Ok made) }
-    ensures err { IfErr result (λ fault. IsFaultOf fault (flag_words (view_by seen.now.store.now seen.now.task [] false []) name.now which.now)) }
+    ensures ok { IfOk result (λ made. flag_words (view_by seen.now.store.now seen.now.task [] false []) name.now
+        which.now ≡ Ok made) }
+    ensures err { IfErr result (λ fault. IsFaultOf fault
+        (flag_words (view_by seen.now.store.now seen.now.task [] false []) name.now which.now)) }
 {
     let text = expand(alloc, seen.store.flag(name, which).unwrap_or(""), seen)?;
     Ok(words(alloc, text.as_str())?)
@@ -267,8 +290,10 @@ fn push_words(
     name: &str,
     which: &str,
 ) -> Result<(), ExpandFault>
-    ensures ok { OnOk result (behind list.old.items (flag_words (view_by seen.now.store.now seen.now.task [] false []) name.now which.now) ≡ Ok list.new.items) }
-    ensures err { IfErr result (λ fault. IsFaultOf fault (flag_words (view_by seen.now.store.now seen.now.task [] false []) name.now which.now)) }
+    ensures ok { OnOk result (behind list.old.items (flag_words (view_by seen.now.store.now seen.now.task [] false [])
+        name.now which.now) ≡ Ok list.new.items) }
+    ensures err { IfErr result (λ fault. IsFaultOf fault
+        (flag_words (view_by seen.now.store.now seen.now.task [] false []) name.now which.now)) }
 {
     let more = words_of_flag(alloc, seen, name, which)?;
     push_all(list, more.as_slice())?;
@@ -284,8 +309,10 @@ fn push_led(
     name: &str,
     found: &Option<Resolved>,
 ) -> Result<(), ExpandFault>
-    ensures ok { OnOk result (behind list.old.items (all_led (view_by seen.now.store.now seen.now.task [] false name.now) own name.now found.now) ≡ Ok list.new.items) }
-    ensures err { IfErr result (λ fault. IsFaultOf fault (all_led (view_by seen.now.store.now seen.now.task [] false name.now) own name.now found.now)) }
+    ensures ok { OnOk result (behind list.old.items (all_led
+        (view_by seen.now.store.now seen.now.task [] false name.now) own name.now found.now) ≡ Ok list.new.items) }
+    ensures err { IfErr result (λ fault. IsFaultOf fault
+        (all_led (view_by seen.now.store.now seen.now.task [] false name.now) own name.now found.now)) }
 {
     push_by_value(list, alloc, seen, name, found)?;
     push_by_flags(list, alloc, seen, own, name)?;
@@ -341,8 +368,10 @@ pub(crate) fn leads(
     name: &str,
     found: &Option<Resolved>,
 ) -> Result<Led, ExpandFault>
-    ensures ok { IfOk result (λ made. led_behind (view_by seen.now.store.now seen.now.task ignored.now false name.now) own name.now found.now ≡ Ok (led_of made)) }
-    ensures err { IfErr result (λ fault. IsFaultOf fault (led_behind (view_by seen.now.store.now seen.now.task ignored.now false name.now) own name.now found.now)) }
+    ensures ok { IfOk result (λ made. led_behind (view_by seen.now.store.now seen.now.task ignored.now false name.now)
+        own name.now found.now ≡ Ok (led_of made)) }
+    ensures err { IfErr result (λ fault. IsFaultOf fault
+        (led_behind (view_by seen.now.store.now seen.now.task ignored.now false name.now) own name.now found.now)) }
 {
     let mut list = Vec::new(alloc);
     push_led(&mut list, alloc, seen, own, name, found)?;

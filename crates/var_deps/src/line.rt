@@ -100,7 +100,8 @@ fn task_flags(
     sstate: bool,
     valued: bool,
 ) -> Result<ListOf<(Text, Text)>, Mem>
-    ensures { IfOk result (λ made. made ≡ told_flags (kept_flag (view_by store.now None [] sstate task.now) valued) kept_flags) }
+    ensures { IfOk result (λ made. made ≡ told_flags (kept_flag (view_by store.now None [] sstate task.now) valued)
+        kept_flags) }
 {
     let mut list = ListOf::new(alloc);
     for place in 0..10 {
@@ -147,8 +148,10 @@ fn line_value(
     name: &str,
     found: Option<Resolved>,
 ) -> Result<Option<Resolved>, ExpandFault>
-    ensures ok { IfOk result (λ made. line_value (view_by seen.now.store.now seen.now.task [] false []) name.now found ≡ Ok made) }
-    ensures err { IfErr result (λ fault. IsFaultOf fault (line_value (view_by seen.now.store.now seen.now.task [] false []) name.now found)) }
+    ensures ok { IfOk result (λ made. line_value (view_by seen.now.store.now seen.now.task [] false []) name.now found
+        ≡ Ok made) }
+    ensures err { IfErr result (λ fault. IsFaultOf fault
+        (line_value (view_by seen.now.store.now seen.now.task [] false []) name.now found)) }
 {
     match found {
         Some(found) => match seen.store.flag(name, "vardepvalue") {
@@ -171,7 +174,8 @@ fn own_value(
     sstate: Option<bool>,
     value: Option<Resolved>,
 ) -> Result<Option<Resolved>, Mem>
-    ensures { IfOk result (λ made. made ≡ own_value (view_by store.now None [] (unwrap_or sstate false) name.now) (is_some sstate) value) }
+    ensures { IfOk result (λ made. made ≡ own_value (view_by store.now None [] (unwrap_or sstate false) name.now)
+        (is_some sstate) value) }
 {
     match sstate {
         Some(sstate) => Ok(Some(task_value(alloc, store, name, sstate, value)?)),
@@ -188,7 +192,10 @@ fn line_of(
     found: Option<Resolved>,
     left_out: bool,
 ) -> Result<Line, Mem>
-    ensures { (led : LedNames) → led.left_out ≡ left_out → IfOk result (λ made. IsLine made name.now (line_behind (view_by seen.now.store.now seen.now.task [] (unwrap_or sstate false) name.now) (is_some sstate) name.now found led)) }
+    ensures { (led : LedNames) → led.left_out ≡ left_out
+        → IfOk result (λ made. IsLine made name.now (line_behind
+        (view_by seen.now.store.now seen.now.task [] (unwrap_or sstate false) name.now) (is_some sstate) name.now
+        found led)) }
 {
     let replaced = found.is_some() && seen.store.flag(name, "vardepvalue").is_some();
     match line_value(alloc, seen, name, found) {
@@ -202,7 +209,8 @@ fn line_of(
 
 /// No line because of this fault, unless it is want of memory.
 fn refused(fault: ExpandFault) -> Result<Line, Mem>
-    ensures line { (name : List ℕ) (meant : Result Told Refusal) → IsFaultOf fault meant → IfOk result (λ made. IsLine made name meant) }
+    ensures line { (name : List ℕ) (meant : Result Told Refusal) → IsFaultOf fault meant
+        → IfOk result (λ made. IsLine made name meant) }
     ensures refused { OnOk result (is_some (refusal_of fault) ≡ true) }
 {
     match fault {
@@ -220,8 +228,10 @@ fn read_name(
     name: &str,
 ) -> Result<(Option<Resolved>, Led), ExpandFault>
     ensures found { IfOk result (λ made. seen_with seen.now.store.now seen.now.task name.now ≡ Ok made.0) }
-    ensures led { IfOk result (λ made. led_behind (view_by seen.now.store.now seen.now.task ignored.now false name.now) own name.now made.0 ≡ Ok (led_of made.1)) }
-    ensures err { IfErr result (λ fault. IsFaultOf fault (read_led (view_by seen.now.store.now seen.now.task ignored.now false name.now) own name.now)) }
+    ensures led { IfOk result (λ made. led_behind (view_by seen.now.store.now seen.now.task ignored.now false
+        name.now) own name.now made.0 ≡ Ok (led_of made.1)) }
+    ensures err { IfErr result (λ fault. IsFaultOf fault
+        (read_led (view_by seen.now.store.now seen.now.task ignored.now false name.now) own name.now)) }
 {
     let found = seen.find(alloc, name)?;
     let led = leads(alloc, seen, ignored, own, name, &found)?;
@@ -237,7 +247,8 @@ pub(crate) fn know(
     sstate: Option<bool>,
     name: &str,
 ) -> Result<Known, Mem>
-    ensures { IfOk result (λ made. IsKnown (view_by seen.now.store.now seen.now.task ignored.now (unwrap_or sstate false) name.now) (is_some sstate) name.now made) }
+    ensures { IfOk result (λ made. IsKnown (view_by seen.now.store.now seen.now.task ignored.now
+        (unwrap_or sstate false) name.now) (is_some sstate) name.now made) }
 {
     match read_name(alloc, seen, ignored, sstate.is_some(), name) {
         Ok((found, led)) => {

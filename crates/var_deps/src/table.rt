@@ -51,7 +51,8 @@ fn put_value<V: Drop>(
     name: &str,
     value: V,
 ) -> Result<(), Mem>
-    ensures ok { OnOk result ((q : List ℕ) → get_by_text map.new q ≡ update bytes_eq (get_by_text map.old) name.now (Some value) q) }
+    ensures ok { OnOk result ((q : List ℕ) → get_by_text map.new q
+        ≡ update bytes_eq (get_by_text map.old) name.now (Some value) q) }
     ensures err { OnErr result ((q : List ℕ) → get_by_text map.new q ≡ get_by_text map.old q) }
 {
     let key = String::from_str(alloc, name)?;
@@ -87,7 +88,8 @@ impl Shared<'_> {
 
     /// What is known of a task.
     fn know_task(&self, alloc: Global, task: &str, sstate: bool) -> Result<Known, Mem>
-        ensures { IfOk result (λ made. IsKnown (view_by self.now.seen.store.now self.now.seen.task self.now.ignored sstate task.now) true task.now made) }
+        ensures { IfOk result (λ made. IsKnown (view_by self.now.seen.store.now self.now.seen.task self.now.ignored
+            sstate task.now) true task.now made) }
     {
         know(
             alloc,
@@ -135,7 +137,8 @@ impl Shared<'_> {
         requires { IsRight self.old }
         ensures right { IsRight self.new }
         ensures same { IsSame self.old self.new }
-        ensures ok { OnOk result (key_behind key.old (one_line (read_line (shared_view self.old) false name.now)) ≡ Ok key.new) }
+        ensures ok { OnOk result (key_behind key.old (one_line (read_line (shared_view self.old) false name.now))
+            ≡ Ok key.new) }
         ensures err { IfErr result (λ fault. IsFaultOf fault (read_line (shared_view self.old) false name.now)) }
     {
         if let Some(known) = self.known.get(name.as_str()) {
@@ -226,8 +229,10 @@ fn copy_value(alloc: Global, value: &Option<Resolved>) -> Result<Option<Resolved
 
 /// Puts the line of a name at the end of a key, or tells why there is none.
 fn push_line(alloc: Global, key: &mut Key, name: &Text, line: &Line) -> Result<(), ExpandFault>
-    ensures ok { (meant : Result Told Refusal) → IsLine line.now name.now meant → OnOk result (key_behind key.old (one_line meant) ≡ Ok key.new) }
-    ensures err { (meant : Result Told Refusal) → IsLine line.now name.now meant → IfErr result (λ fault. IsFaultOf fault meant) }
+    ensures ok { (meant : Result Told Refusal) → IsLine line.now name.now meant
+        → OnOk result (key_behind key.old (one_line meant) ≡ Ok key.new) }
+    ensures err { (meant : Result Told Refusal) → IsLine line.now name.now meant
+        → IfErr result (λ fault. IsFaultOf fault meant) }
 {
     match line {
         Line::Told { value, left_out } => {
@@ -271,8 +276,10 @@ impl Table<'_> {
         requires more { in_byte_order more.now ≡ more.now }
         ensures ready { IsReady self.new }
         ensures stays { StaysSo self.old self.new }
-        ensures ok { IfOk result (λ made. key_behind (record { lines = []; excluded = left_out }) (lines_of (task_view self.old) (with_more done.now more.now)) ≡ Ok made) }
-        ensures err { IfErr result (λ fault. IsFaultOf fault (lines_of (task_view self.old) (with_more done.now more.now))) }
+        ensures ok { IfOk result (λ made. key_behind (record { lines = []; excluded = left_out })
+            (lines_of (task_view self.old) (with_more done.now more.now)) ≡ Ok made) }
+        ensures err { IfErr result (λ fault. IsFaultOf fault
+            (lines_of (task_view self.old) (with_more done.now more.now))) }
     {
         let mut key = Key {
             lines: ListOf::new(alloc),
@@ -297,7 +304,8 @@ impl Table<'_> {
         sstate: bool,
     ) -> Result<(), Mem>
         requires right { IsRight self.old.shared }
-        requires seen { bare ≡ false → (found : Has) → find_in self.old.shared.seen.store.now task.now ≡ Ok (Some found) → is_bare found ≡ false }
+        requires seen { bare ≡ false → (found : Has) → find_in self.old.shared.seen.store.now task.now
+            ≡ Ok (Some found) → is_bare found ≡ false }
         ensures right { IsRight self.new.shared }
         ensures ready { OnOk result (IsReady self.new) }
         ensures task { OnOk result (self.new.task ≡ task.now) }
@@ -350,7 +358,8 @@ impl Table<'_> {
         requires ready { IsReady self.now }
         requires exports { AreExports self.now.shared.seen.store.now self.now.shared.ignored exports.now }
         requires task { is_in self.now.task todo.old.items ≡ true }
-        ensures { IfOk result (λ done. IsWalk (led_to (task_view self.now)) (todo.old.items ++ exports.now.start.names.items) done.now todo.new.items) }
+        ensures { IfOk result (λ done. IsWalk (led_to (task_view self.now))
+            (todo.old.items ++ exports.now.start.names.items) done.now todo.new.items) }
     {
         if !self.shares() {
             push_all(todo, exports.start.names.as_slice())?;

@@ -49,7 +49,8 @@ fn put_piece(alloc: Global, within: &[Text], out: &mut Text, piece: &str) -> Res
     requires { length out.old ≤ longest }
     ensures fits { OnOk result (length piece.now ≤ longest - length out.old) }
     ensures ok { OnOk result (out.new ≡ out.old ++ piece.now) }
-    ensures err { IfErr result (λ fault. IsFaultOf fault (fitting within.now (longest - length out.old) (length piece.now))) }
+    ensures err { IfErr result (λ fault. IsFaultOf fault
+        (fitting within.now (longest - length out.old) (length piece.now))) }
 {
     fit(alloc, within, LONGEST - out.as_str().len(), piece.len())?;
     Ok(out.push_str(piece)?)
@@ -67,12 +68,16 @@ fn expand_part<L: Lookup>(
 ) -> Result<(), ExpandFault>
     requires room { length out.old ≤ longest }
     requires going { IsGoing (L.finds from.now) left going.old }
-    ensures ok { OnOk result (grown (known (L.finds from.now) left going.old.within.items) (last_name going.old.within.items) part.now out.old ≡ Ok out.new) }
+    ensures ok { OnOk result (grown (known (L.finds from.now) left going.old.within.items)
+        (last_name going.old.within.items) part.now out.old ≡ Ok out.new) }
     ensures room { OnOk result (length out.new ≤ longest) }
-    ensures err { IfErr result (λ fault. IsFaultOf fault (grown (known (L.finds from.now) left going.old.within.items) (last_name going.old.within.items) part.now out.old)) }
+    ensures err { IfErr result (λ fault. IsFaultOf fault
+        (grown (known (L.finds from.now) left going.old.within.items) (last_name going.old.within.items) part.now
+        out.old)) }
     ensures same { OnOk result (going.new.within.items ≡ going.old.within.items) }
     ensures grew { OnOk result (Grew (L.finds from.now) left going.old going.new) }
-    ensures told { OnOk result (AllTelling (L.finds from.now) going.new (λ values. grown values (last_name going.old.within.items) part.now out.old ≡ Ok out.new)) }
+    ensures told { OnOk result (AllTelling (L.finds from.now) going.new
+        (λ values. grown values (last_name going.old.within.items) part.now out.old ≡ Ok out.new)) }
 {
     match part {
         Part::Plain(text) => put_piece(alloc, going.within.as_slice(), out, text.as_str()),
@@ -93,11 +98,15 @@ fn expand_parts<L: Lookup>(
     parts: &Parts,
 ) -> Result<Text, ExpandFault>
     requires going { IsGoing (L.finds from.now) left going.old }
-    ensures ok { IfOk result (λ made. expanded_parts (known (L.finds from.now) left going.old.within.items) (last_name going.old.within.items) (parts_in parts.now) longest ≡ Ok made) }
-    ensures err { IfErr result (λ fault. IsFaultOf fault (expanded_parts (known (L.finds from.now) left going.old.within.items) (last_name going.old.within.items) (parts_in parts.now) longest)) }
+    ensures ok { IfOk result (λ made. expanded_parts (known (L.finds from.now) left going.old.within.items)
+        (last_name going.old.within.items) (parts_in parts.now) longest ≡ Ok made) }
+    ensures err { IfErr result (λ fault. IsFaultOf fault
+        (expanded_parts (known (L.finds from.now) left going.old.within.items) (last_name going.old.within.items)
+        (parts_in parts.now) longest)) }
     ensures same { OnOk result (going.new.within.items ≡ going.old.within.items) }
     ensures grew { OnOk result (Grew (L.finds from.now) left going.old going.new) }
-    ensures told { IfOk result (λ made. AllTelling (L.finds from.now) going.new (λ values. expanded_parts values (last_name going.old.within.items) (parts_in parts.now) longest ≡ Ok made)) }
+    ensures told { IfOk result (λ made. AllTelling (L.finds from.now) going.new
+        (λ values. expanded_parts values (last_name going.old.within.items) (parts_in parts.now) longest ≡ Ok made)) }
 {
     let mut out = Text::new(alloc);
     for part in &parts.list {
@@ -116,11 +125,15 @@ fn expand_reference<L: Lookup>(
     name: &Parts,
 ) -> Result<Text, ExpandFault>
     requires going { IsGoing (L.finds from.now) left going.old }
-    ensures ok { IfOk result (λ made. reference_text (known (L.finds from.now) left going.old.within.items) (last_name going.old.within.items) (parts_in name.now) ≡ Ok made) }
-    ensures err { IfErr result (λ fault. IsFaultOf fault (reference_text (known (L.finds from.now) left going.old.within.items) (last_name going.old.within.items) (parts_in name.now))) }
+    ensures ok { IfOk result (λ made. reference_text (known (L.finds from.now) left going.old.within.items)
+        (last_name going.old.within.items) (parts_in name.now) ≡ Ok made) }
+    ensures err { IfErr result (λ fault. IsFaultOf fault
+        (reference_text (known (L.finds from.now) left going.old.within.items) (last_name going.old.within.items)
+        (parts_in name.now))) }
     ensures same { OnOk result (going.new.within.items ≡ going.old.within.items) }
     ensures grew { OnOk result (Grew (L.finds from.now) left going.old going.new) }
-    ensures told { IfOk result (λ made. AllTelling (L.finds from.now) going.new (λ values. reference_text values (last_name going.old.within.items) (parts_in name.now) ≡ Ok made)) }
+    ensures told { IfOk result (λ made. AllTelling (L.finds from.now) going.new
+        (λ values. reference_text values (last_name going.old.within.items) (parts_in name.now) ≡ Ok made)) }
 {
     let looked = expand_parts(alloc, from, going, left, name)?;
     if !are_name_bytes(looked.as_str().as_bytes()) {
@@ -143,7 +156,8 @@ fn value_within<L: Lookup>(
 ) -> Result<Option<Text>, ExpandFault>
     requires going { IsGoing (L.finds from.now) left going.old }
     ensures ok { IfOk result (λ made. known (L.finds from.now) left going.old.within.items name.now ≡ Ok made) }
-    ensures err { IfErr result (λ fault. IsFaultOf fault (known (L.finds from.now) left going.old.within.items name.now)) }
+    ensures err { IfErr result (λ fault. IsFaultOf fault
+        (known (L.finds from.now) left going.old.within.items name.now)) }
     ensures same { OnOk result (going.new.within.items ≡ going.old.within.items) }
     ensures grew { OnOk result (Grew (L.finds from.now) left going.old going.new) }
     ensures told { IfOk result (λ made. AllTelling (L.finds from.now) going.new (λ values. values name.now ≡ Ok made)) }
@@ -169,11 +183,15 @@ fn expand_value<L: Lookup>(
     found: Resolved,
 ) -> Result<Text, ExpandFault>
     requires going { IsGoing (L.finds from.now) left going.old }
-    ensures ok { IfOk result (λ made. expanded_value (known (L.finds from.now) left going.old.within.items) (last_name going.old.within.items) found ≡ Ok made) }
-    ensures err { IfErr result (λ fault. IsFaultOf fault (expanded_value (known (L.finds from.now) left going.old.within.items) (last_name going.old.within.items) found)) }
+    ensures ok { IfOk result (λ made. expanded_value (known (L.finds from.now) left going.old.within.items)
+        (last_name going.old.within.items) found ≡ Ok made) }
+    ensures err { IfErr result (λ fault. IsFaultOf fault
+        (expanded_value (known (L.finds from.now) left going.old.within.items) (last_name going.old.within.items)
+        found)) }
     ensures same { OnOk result (going.new.within.items ≡ going.old.within.items) }
     ensures grew { OnOk result (Grew (L.finds from.now) left going.old going.new) }
-    ensures told { IfOk result (λ made. AllTelling (L.finds from.now) going.new (λ values. expanded_value values (last_name going.old.within.items) found ≡ Ok made)) }
+    ensures told { IfOk result (λ made. AllTelling (L.finds from.now) going.new
+        (λ values. expanded_value values (last_name going.old.within.items) found ≡ Ok made)) }
 {
     let Resolved {
         text,
@@ -199,11 +217,15 @@ fn removed_words<L: Lookup>(
     removes: &[Text],
 ) -> Result<Texts, ExpandFault>
     requires going { IsGoing (L.finds from.now) left going.old }
-    ensures ok { IfOk result (λ made. removed (known (L.finds from.now) left going.old.within.items) (last_name going.old.within.items) removes.now ≡ Ok made) }
-    ensures err { IfErr result (λ fault. IsFaultOf fault (removed (known (L.finds from.now) left going.old.within.items) (last_name going.old.within.items) removes.now)) }
+    ensures ok { IfOk result (λ made. removed (known (L.finds from.now) left going.old.within.items)
+        (last_name going.old.within.items) removes.now ≡ Ok made) }
+    ensures err { IfErr result (λ fault. IsFaultOf fault
+        (removed (known (L.finds from.now) left going.old.within.items) (last_name going.old.within.items)
+        removes.now)) }
     ensures same { OnOk result (going.new.within.items ≡ going.old.within.items) }
     ensures grew { OnOk result (Grew (L.finds from.now) left going.old going.new) }
-    ensures told { IfOk result (λ made. AllTelling (L.finds from.now) going.new (λ values. removed values (last_name going.old.within.items) removes.now ≡ Ok made)) }
+    ensures told { IfOk result (λ made. AllTelling (L.finds from.now) going.new
+        (λ values. removed values (last_name going.old.within.items) removes.now ≡ Ok made)) }
 {
     let mut words = Texts::new(alloc);
     for remove in removes {
@@ -223,11 +245,14 @@ fn expand_owned<L: Lookup>(
     text: Text,
 ) -> Result<Text, ExpandFault>
     requires going { IsGoing (L.finds from.now) left going.old }
-    ensures ok { IfOk result (λ made. expanded (known (L.finds from.now) left going.old.within.items) (last_name going.old.within.items) text ≡ Ok made) }
-    ensures err { IfErr result (λ fault. IsFaultOf fault (expanded (known (L.finds from.now) left going.old.within.items) (last_name going.old.within.items) text)) }
+    ensures ok { IfOk result (λ made. expanded (known (L.finds from.now) left going.old.within.items)
+        (last_name going.old.within.items) text ≡ Ok made) }
+    ensures err { IfErr result (λ fault. IsFaultOf fault
+        (expanded (known (L.finds from.now) left going.old.within.items) (last_name going.old.within.items) text)) }
     ensures same { OnOk result (going.new.within.items ≡ going.old.within.items) }
     ensures grew { OnOk result (Grew (L.finds from.now) left going.old going.new) }
-    ensures told { IfOk result (λ made. AllTelling (L.finds from.now) going.new (λ values. expanded values (last_name going.old.within.items) text ≡ Ok made)) }
+    ensures told { IfOk result (λ made. AllTelling (L.finds from.now) going.new
+        (λ values. expanded values (last_name going.old.within.items) text ≡ Ok made)) }
 {
     if holds_opening(text.as_str().as_bytes()) {
         return expand_text(alloc, from, going, left, text.as_str());
@@ -238,9 +263,12 @@ fn expand_owned<L: Lookup>(
 
 /// The parts of a text, in the expansion of these names.
 fn read_within(alloc: Global, within: &[Text], text: &str) -> Result<Parts, ExpandFault>
-    ensures ok { IfOk result (λ made. (values : Values) → expanded values (last_name within.now) text.now ≡ expanded_parts values (last_name within.now) (parts_in made) longest) }
+    ensures ok { IfOk result (λ made. (values : Values)
+        → expanded values (last_name within.now) text.now
+        ≡ expanded_parts values (last_name within.now) (parts_in made) longest) }
     ensures shallow { IfOk result (λ made. depth (parts_in made) ≤ deepest) }
-    ensures err { IfErr result (λ fault. (values : Values) → IsFaultOf fault (expanded values (last_name within.now) text.now)) }
+    ensures err { IfErr result (λ fault. (values : Values)
+        → IsFaultOf fault (expanded values (last_name within.now) text.now)) }
 {
     match read(alloc, text) {
         Ok(parts) => Ok(parts),
@@ -261,11 +289,15 @@ fn expand_text<L: Lookup>(
     text: &str,
 ) -> Result<Text, ExpandFault>
     requires going { IsGoing (L.finds from.now) left going.old }
-    ensures ok { IfOk result (λ made. expanded (known (L.finds from.now) left going.old.within.items) (last_name going.old.within.items) text.now ≡ Ok made) }
-    ensures err { IfErr result (λ fault. IsFaultOf fault (expanded (known (L.finds from.now) left going.old.within.items) (last_name going.old.within.items) text.now)) }
+    ensures ok { IfOk result (λ made. expanded (known (L.finds from.now) left going.old.within.items)
+        (last_name going.old.within.items) text.now ≡ Ok made) }
+    ensures err { IfErr result (λ fault. IsFaultOf fault
+        (expanded (known (L.finds from.now) left going.old.within.items) (last_name going.old.within.items)
+        text.now)) }
     ensures same { OnOk result (going.new.within.items ≡ going.old.within.items) }
     ensures grew { OnOk result (Grew (L.finds from.now) left going.old going.new) }
-    ensures told { IfOk result (λ made. AllTelling (L.finds from.now) going.new (λ values. expanded values (last_name going.old.within.items) text.now ≡ Ok made)) }
+    ensures told { IfOk result (λ made. AllTelling (L.finds from.now) going.new
+        (λ values. expanded values (last_name going.old.within.items) text.now ≡ Ok made)) }
 {
     let parts = read_within(alloc, going.within.as_slice(), text)?;
     expand_parts(alloc, from, going, left, &parts)
@@ -277,8 +309,10 @@ pub(crate) fn expand_name<L: Lookup>(
     from: &L,
     name: &Parts,
 ) -> Result<Text, ExpandFault>
-    ensures ok { IfOk result (λ made. expanded_parts (value_by (L.finds from.now)) [] (parts_in name.now) longest ≡ Ok made) }
-    ensures err { IfErr result (λ fault. IsFaultOf fault (expanded_parts (value_by (L.finds from.now)) [] (parts_in name.now) longest)) }
+    ensures ok { IfOk result (λ made. expanded_parts (value_by (L.finds from.now)) [] (parts_in name.now) longest
+        ≡ Ok made) }
+    ensures err { IfErr result (λ fault. IsFaultOf fault
+        (expanded_parts (value_by (L.finds from.now)) [] (parts_in name.now) longest)) }
 {
     let mut going = Going::new(alloc);
     expand_parts(alloc, from, &mut going, DEEPEST, name)

@@ -75,7 +75,8 @@ impl Frame {
 
     /// The parts with plain text behind them.
     pub(crate) fn with_text(self, alloc: Global, text: &str) -> Result<Frame, Mem>
-        ensures { IfOk result (λ made. parts_in made.parts ≡ joined_with (parts_in self.parts) (text_before text.now end)) }
+        ensures { IfOk result (λ made. parts_in made.parts
+            ≡ joined_with (parts_in self.parts) (text_before text.now end)) }
     {
         let mut list = self.parts.list;
         list.push(Part::Plain(Text::from_str(alloc, text)?))?;
@@ -88,7 +89,8 @@ impl Frame {
     /// The parts with a reference behind them, that has the other parts as its name.
     pub(crate) fn with_reference(self, name: Frame) -> Result<Frame, Mem>
         requires { name.nested < 64 }
-        ensures { IfOk result (λ made. parts_in made.parts ≡ joined_with (parts_in self.parts) (reference (parts_in name.parts) end)) }
+        ensures { IfOk result (λ made. parts_in made.parts
+            ≡ joined_with (parts_in self.parts) (reference (parts_in name.parts) end)) }
     {
         let mut list = self.parts.list;
         list.push(Part::Ref(name.parts))?;

@@ -95,7 +95,8 @@ fn kept_value(
     left: usize,
     name: &str,
 ) -> Result<Option<Known>, Mem>
-    ensures { IfOk result (λ made. MatchOption made (IsBeyond (kept_in values.now) left name.now) (λ kept. (kept_in values.now name.now ≡ Some (kept_of kept)) × (kept.height ≤ left))) }
+    ensures { IfOk result (λ made. MatchOption made (IsBeyond (kept_in values.now) left name.now)
+        (λ kept. (kept_in values.now name.now ≡ Some (kept_of kept)) × (kept.height ≤ left))) }
 {
     let Some(kept) = values.get(name) else {
         return Ok(None);
@@ -147,7 +148,8 @@ fn has_no_more(found: &Resolved) -> bool
 fn plain_value(alloc: Global, name: &str, found: Resolved) -> Result<Text, ExpandFault>
     ensures ok { IfOk result (λ made. made ≡ found.text) }
     ensures fits { OnOk result (length found.text ≤ longest) }
-    ensures err { IfErr result (λ fault. IsFaultOf fault (require (nat_le (length found.text) longest) (too_long name.now))) }
+    ensures err { IfErr result (λ fault. IsFaultOf fault
+        (require (nat_le (length found.text) longest) (too_long name.now))) }
 {
     if found.text.as_str().len() > LONGEST {
         return Err(ExpandFault::TooLong {
@@ -167,7 +169,8 @@ pub(crate) fn at_hand<L: Lookup>(
 ) -> Result<AtHand, ExpandFault>
     requires { IsGoing (L.finds from.now) left going.old }
     ensures ok { IfOk result (λ made. IsAtHand (L.finds from.now) left going.old going.new name.now made) }
-    ensures err { IfErr result (λ fault. IsFaultOf fault (known (L.finds from.now) left going.old.within.items name.now)) }
+    ensures err { IfErr result (λ fault. IsFaultOf fault
+        (known (L.finds from.now) left going.old.within.items name.now)) }
 {
     if let Some(kept) = kept_value(&going.values, left, name)? {
         going.height = higher(going.height, kept.height);

@@ -24,8 +24,10 @@ fn note_reference<L: Lookup>(
     names: &mut Vec<Text>,
     name: &Parts,
 ) -> Result<(), ExpandFault>
-    ensures ok { OnOk result (noted (value_by (L.finds from.now)) (reference (parts_in name.now) end) names.old.items ≡ Ok names.new.items) }
-    ensures err { IfErr result (λ fault. IsFaultOf fault (noted (value_by (L.finds from.now)) (reference (parts_in name.now) end) names.old.items)) }
+    ensures ok { OnOk result (noted (value_by (L.finds from.now)) (reference (parts_in name.now) end) names.old.items
+        ≡ Ok names.new.items) }
+    ensures err { IfErr result (λ fault. IsFaultOf fault
+        (noted (value_by (L.finds from.now)) (reference (parts_in name.now) end) names.old.items)) }
 {
     let looked = expand_name(alloc, from, name)?;
     note_parts(alloc, from, names, name)?;
@@ -43,8 +45,10 @@ fn note_part<L: Lookup>(
     names: &mut Vec<Text>,
     part: &Part,
 ) -> Result<(), ExpandFault>
-    ensures ok { OnOk result (noted (value_by (L.finds from.now)) (part_before part.now end) names.old.items ≡ Ok names.new.items) }
-    ensures err { IfErr result (λ fault. IsFaultOf fault (noted (value_by (L.finds from.now)) (part_before part.now end) names.old.items)) }
+    ensures ok { OnOk result (noted (value_by (L.finds from.now)) (part_before part.now end) names.old.items
+        ≡ Ok names.new.items) }
+    ensures err { IfErr result (λ fault. IsFaultOf fault
+        (noted (value_by (L.finds from.now)) (part_before part.now end) names.old.items)) }
 {
     match part {
         Part::Plain(_) => Ok(()),
@@ -60,8 +64,10 @@ fn note_parts<L: Lookup>(
     names: &mut Vec<Text>,
     parts: &Parts,
 ) -> Result<(), ExpandFault>
-    ensures ok { OnOk result (noted (value_by (L.finds from.now)) (parts_in parts.now) names.old.items ≡ Ok names.new.items) }
-    ensures err { IfErr result (λ fault. IsFaultOf fault (noted (value_by (L.finds from.now)) (parts_in parts.now) names.old.items)) }
+    ensures ok { OnOk result (noted (value_by (L.finds from.now)) (parts_in parts.now) names.old.items
+        ≡ Ok names.new.items) }
+    ensures err { IfErr result (λ fault. IsFaultOf fault
+        (noted (value_by (L.finds from.now)) (parts_in parts.now) names.old.items)) }
 {
     for part in &parts.list {
         note_part(alloc, from, names, part)?;

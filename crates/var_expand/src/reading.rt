@@ -22,8 +22,10 @@ fn step(standing: Standing, alloc: Global, rest: &str) -> Result<(Standing, usiz
     ensures moves { IfOk result (λ made. 0 < made.1) }
     ensures within { IfOk result (λ made. made.1 ≤ length rest.now) }
     ensures cut { IfOk result (λ made. IsCharBoundary rest.now made.1) }
-    ensures reads { IfOk result (λ made. read_on made.0 (levels (drop made.1 rest.now)) ≡ read_on standing (levels rest.now)) }
-    ensures deep { IfErr result (λ fault. fault ≡ ReadFault.TooDeep → deepest < depth (read_on standing (levels rest.now))) }
+    ensures reads { IfOk result (λ made. read_on made.0 (levels (drop made.1 rest.now))
+        ≡ read_on standing (levels rest.now)) }
+    ensures deep { IfErr result (λ fault. fault ≡ ReadFault.TooDeep
+        → deepest < depth (read_on standing (levels rest.now))) }
 {
     let bytes = rest.as_bytes();
     if bytes.starts_with(b"${") {

@@ -31,9 +31,11 @@ fn ends_run(bytes: &[u8]) -> bool
 /// How many bytes stand before the first `}` or `${`.
 pub(crate) fn run_len(bytes: &[u8]) -> usize
     ensures within { result ≤ length bytes.now }
-    ensures read { levels bytes.now ≡ in_front (text_before (take result bytes.now) end) (levels (drop result bytes.now)) }
+    ensures read { levels bytes.now ≡ in_front (text_before (take result bytes.now) end)
+        (levels (drop result bytes.now)) }
     ensures stands { result < length bytes.now → slice_index bytes.now result < 128 }
-    ensures moves { 0 < length bytes.now → begins_with (codes "}") bytes.now ≡ false → begins_with (codes "${") bytes.now ≡ false → 0 < result }
+    ensures moves { 0 < length bytes.now → begins_with (codes "}") bytes.now ≡ false
+        → begins_with (codes "${") bytes.now ≡ false → 0 < result }
 {
     let mut at = 0;
     while at < bytes.len() && !ends_run(&bytes[at..]) {

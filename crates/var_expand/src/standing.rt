@@ -59,7 +59,8 @@ impl Standing {
 
     /// Behind plain text.
     pub(crate) fn with_run(self, alloc: Global, text: &str) -> Result<Standing, Mem>
-        ensures { IfOk result (λ made. (rest : Levels) → read_on made rest ≡ read_on self (in_front (text_before text.now end) rest)) }
+        ensures { IfOk result (λ made. (rest : Levels)
+            → read_on made rest ≡ read_on self (in_front (text_before text.now end) rest)) }
     {
         Ok(Standing {
             outer: self.outer,
@@ -72,7 +73,8 @@ impl Standing {
         requires name { is_name (held self.inner) ≡ true }
         requires open { 0 < length self.outer.items }
         ensures ok { IfOk result (λ made. (rest : Levels) → read_on made rest ≡ read_on self (before_brace end rest)) }
-        ensures deep { IfErr result (λ fault. fault ≡ ReadFault.TooDeep → (rest : Levels) → deepest < depth (read_on self (before_brace end rest))) }
+        ensures deep { IfErr result (λ fault. fault ≡ ReadFault.TooDeep → (rest : Levels)
+            → deepest < depth (read_on self (before_brace end rest))) }
     {
         if self.inner.nested == 64 {
             return Err(ReadFault::TooDeep);
@@ -102,7 +104,8 @@ impl Standing {
     /// Behind a brace. Where what stands behind the last opening is no name, no reference that is open is one.
     pub(crate) fn with_brace(self, alloc: Global) -> Result<Standing, ReadFault>
         ensures ok { IfOk result (λ made. (rest : Levels) → read_on made rest ≡ read_on self (before_brace end rest)) }
-        ensures deep { IfErr result (λ fault. fault ≡ ReadFault.TooDeep → (rest : Levels) → deepest < depth (read_on self (before_brace end rest))) }
+        ensures deep { IfErr result (λ fault. fault ≡ ReadFault.TooDeep → (rest : Levels)
+            → deepest < depth (read_on self (before_brace end rest))) }
     {
         if self.outer.is_empty() {
             return Ok(self.with_plain_brace(alloc)?);
