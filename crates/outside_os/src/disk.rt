@@ -4,8 +4,9 @@ ghost use Rattle.std.specs.Prelude.{[], None};
 use crate::faults::{FirstFault, is_memory, one_more};
 use crate::folder::{
     Part, is_empty, is_entry, join, lay_entry, list_items, look, look_through, move_entry,
-    no_memory, read_entry,
+    no_memory, read_unchanged,
 };
+use crate::listed::Listed;
 use crate::lock::{BENCHES_FOLDER, LOCK, Locking};
 use crate::seen::SeenFolders;
 use outside_traits::{Disk, DiskFault};
@@ -34,9 +35,10 @@ const HERE: &str = ".";
 ///
 /// The first call takes the lock of a run, on the file `build/bench/lock`, and the object has it as long as it is there.
 /// Where another process has it that call is a fault, as is each later one until the lock is free, and nothing is touched.
-/// With the lock held nothing else changes the folders of the disk, so the object looks once at each folder that an entry
-/// has above it, until it takes that folder away itself. Where somebody removes such a folder by hand, a write into it is
-/// a fault.
+/// With the lock held nothing else changes the disk, so the object looks once at each folder that an entry has above it,
+/// until it takes that folder away itself, and what it has listed it reads in the listing's order without another look,
+/// until it changes anything. Where somebody removes such a folder by hand, a write into it is a fault; where somebody
+/// makes a listed file longer, its first bytes are read.
 #[derive(Drop)]
 pub struct FolderDisk<R> {
     folder: BuildFolder<R>,
@@ -63,6 +65,9 @@ struct BuildFolder<R> {
 
     /// The folders that aren't looked at again.
     seen: SeenFolders,
+
+    /// What the last listing saw, which isn't looked at again as it is read.
+    listed: Listed,
 }
 
 impl<R: AllocGlobal> FolderDisk<R> {
@@ -76,6 +81,7 @@ impl<R: AllocGlobal> FolderDisk<R> {
         let changed = BTreeSet::new(rt.alloc());
         let settled = BTreeSet::new(rt.alloc());
         let seen = SeenFolders::none(rt.alloc());
+        let listed = Listed::none(rt.alloc());
         FolderDisk {
             folder: BuildFolder {
                 rt,
@@ -83,6 +89,7 @@ impl<R: AllocGlobal> FolderDisk<R> {
                 changed,
                 settled,
                 seen,
+                listed,
             },
             calls: 0,
             faults: 0,
@@ -202,12 +209,16 @@ impl<R: Files + Locking + AllocGlobal + Clone + Drop> BuildFolder<R> {
 
     fn read(&mut self, path: &str) -> io::Result<Option<Entry>> {
         self.hold()?;
+        if let Some(metadata) = self.listed.next(path) {
+            let whole = join(self.rt.alloc(), ROOT, path)?;
+            return read_unchanged(&self.rt, whole.as_str(), metadata);
+        }
         let Some(whole) = self.open_place(path)? else {
             return Ok(None);
         };
         match look(&self.rt, whole.as_str())? {
             Some(metadata) if is_entry(&metadata) => {
-                read_entry(&self.rt, whole.as_str(), &metadata, u64::MAX)
+                read_unchanged(&self.rt, whole.as_str(), &metadata)
             }
             _ => Ok(None),
         }
@@ -215,6 +226,7 @@ impl<R: Files + Locking + AllocGlobal + Clone + Drop> BuildFolder<R> {
 
     fn write(&mut self, path: &str, entry: &Entry) -> io::Result<()> {
         self.hold()?;
+        self.listed.forget();
         if is_below(BENCHES, path) {
             return Err(io::Error::from(ErrorKind::InvalidInput));
         }
@@ -230,6 +242,7 @@ impl<R: Files + Locking + AllocGlobal + Clone + Drop> BuildFolder<R> {
 
     fn rename(&mut self, from: &str, to: &str) -> io::Result<()> {
         self.hold()?;
+        self.listed.forget();
         let source = match self.open_place(from)? {
             Some(source) if !is_below(BENCHES, to) => source,
             _ => return Err(io::Error::from(ErrorKind::InvalidInput)),
@@ -246,6 +259,7 @@ impl<R: Files + Locking + AllocGlobal + Clone + Drop> BuildFolder<R> {
 
     fn remove(&mut self, path: &str) -> io::Result<()> {
         self.hold()?;
+        self.listed.forget();
         let Some(whole) = self.open_place(path)? else {
             return Ok(());
         };
@@ -268,8 +282,13 @@ impl<R: Files + Locking + AllocGlobal + Clone + Drop> BuildFolder<R> {
             opens: false,
         };
         let mut paths = Texts::new(alloc);
-        for item in list_items(&self.rt, &part, u64::MAX)?.into_iter().flatten() {
-            paths.push(item.path).map_err(no_memory)?;
+        if let Some(items) = list_items(&self.rt, &part, u64::MAX)? {
+            for item in &items {
+                paths
+                    .push(item.path.copy().map_err(no_memory)?)
+                    .map_err(no_memory)?;
+            }
+            self.listed = Listed::of(items);
         }
         Ok(paths)
     }

@@ -102,14 +102,25 @@ pub fn read_bytes<R: Files + AllocGlobal>(
     if size > max {
         return Ok(None);
     }
-    let file = fs::open(rt, path)?;
-    // By the room of one byte more the end is seen without growing.
-    let mut bytes = Vec::with_capacity(rt.alloc(), size.saturating_add(1) as usize)?;
-    file.take(max.saturating_add(1)).read_to_end(&mut bytes)?;
+    let bytes = read_up_to(rt, path, size, max.saturating_add(1))?;
     if bytes.len() as u64 > max {
         return Ok(None);
     }
     Ok(Some(Bytes::from_vec(bytes)))
+}
+
+/// The first bytes of a file that had this size when it was looked at, at most so many.
+fn read_up_to<R: Files + AllocGlobal>(
+    rt: &R,
+    path: &str,
+    size: u64,
+    most: u64,
+) -> io::Result<Vec<u8>> {
+    let file = fs::open(rt, path)?;
+    // By the room of one byte more the end is seen without growing.
+    let mut bytes = Vec::with_capacity(rt.alloc(), size.saturating_add(1) as usize)?;
+    file.take(most).read_to_end(&mut bytes)?;
+    Ok(bytes)
 }
 
 /// The entry at a path with this metadata, or `None` where its length is above `max`: a file or a link.
@@ -122,10 +133,45 @@ pub fn read_entry<R: Files + AllocGlobal>(
     if metadata.is_symlink() {
         return read_link(rt, path, max);
     }
-    let exec = metadata.mode() & OWNER_RUNS != 0;
     match read_bytes(rt, path, metadata.len(), max)? {
-        Some(bytes) => Ok(Some(Entry::File { exec, bytes })),
+        Some(bytes) => Ok(Some(file_entry(metadata, bytes))),
         None => Ok(None),
+    }
+}
+
+/// The entry at a path with this metadata, a file or a link, where nothing else changes it: of a file the bytes up to its
+/// length, which takes one call less than to look for its end. `None` where nothing is there any more.
+pub fn read_unchanged<R: Files + AllocGlobal>(
+    rt: &R,
+    path: &str,
+    metadata: &Metadata,
+) -> io::Result<Option<Entry>> {
+    let found = if metadata.is_symlink() {
+        read_link(rt, path, u64::MAX)
+    } else {
+        read_file(rt, path, metadata)
+    };
+    match found {
+        Err(error) if is_absent(&error) => Ok(None),
+        found => found,
+    }
+}
+
+/// A file with this metadata and its bytes up to the length.
+fn read_file<R: Files + AllocGlobal>(
+    rt: &R,
+    path: &str,
+    metadata: &Metadata,
+) -> io::Result<Option<Entry>> {
+    let bytes = read_up_to(rt, path, metadata.len(), metadata.len())?;
+    Ok(Some(file_entry(metadata, Bytes::from_vec(bytes))))
+}
+
+/// A file with this metadata and these bytes.
+fn file_entry(metadata: &Metadata, bytes: Bytes) -> Entry {
+    Entry::File {
+        exec: metadata.mode() & OWNER_RUNS != 0,
+        bytes,
     }
 }
 

@@ -12,6 +12,7 @@ mod disk;
 mod faults;
 mod folder;
 mod layers;
+mod listed;
 mod lock;
 mod runs;
 mod seen;
