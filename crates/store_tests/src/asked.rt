@@ -47,8 +47,8 @@ pub fn publish<D: Disk>(
     store.publish(alloc, &sample.task, &sample.sig, &sample.tree, &manifest)
 }
 
-/// Opens a disk and publishes the sample there: the disk behind it, and whether that was answered with `Ok`.
-pub fn publish_over<D: Disk>(alloc: Global, disk: D, sample: &Sample) -> (D, bool)
+/// Opens a disk and publishes the sample there, and gives the disk behind it.
+pub fn publish_over<D: Disk>(alloc: Global, disk: D, sample: &Sample) -> D
     requires reach { 3600 ≤ D.reach }
     requires fresh { D.tells → IsFresh (D.story disk) }
     requires sample { IsSample sample.now.task sample.now.sig sample.now.tree }
@@ -56,22 +56,17 @@ pub fn publish_over<D: Disk>(alloc: Global, disk: D, sample: &Sample) -> (D, boo
     match open_store(alloc, disk) {
         Ok(store) => {
             let mut store = store;
-            let done = publish(alloc, &mut store, sample);
-            (store.into_disk(), done.is_ok())
+            let _ = publish(alloc, &mut store, sample);
+            store.into_disk()
         }
-        Err(refused) => (refused.disk, false),
+        Err(refused) => refused.disk,
     }
 }
 
 /// How the sample's output is there.
-pub fn there(
-    alloc: Global,
-    store: &mut Store<MemDisk>,
-    sample: &Sample,
-    setscene: bool,
-) -> Option<Avail> {
+fn there(alloc: Global, store: &mut Store<MemDisk>, sample: &Sample) -> Option<Avail> {
     store
-        .available(alloc, &sample.task, &sample.sig, setscene)
+        .available(alloc, &sample.task, &sample.sig, false)
         .ok()
 }
 
@@ -88,30 +83,5 @@ fn has_output(alloc: Global, store: &mut Store<MemDisk>, sample: &Sample) -> boo
 
 /// Whether the sample is there by its work folder, which holds its tree.
 pub fn is_there(alloc: Global, store: &mut Store<MemDisk>, sample: &Sample) -> bool {
-    there(alloc, store, sample, false) == Some(Avail::Work) && has_output(alloc, store, sample)
-}
-
-/// Whether the sample is missing, and there is no object to restore.
-pub fn is_nowhere(alloc: Global, store: &mut Store<MemDisk>, sample: &Sample) -> bool
-    requires { IsSample sample.now.task sample.now.sig sample.now.tree }
-{
-    there(alloc, store, sample, true) == Some(Avail::Missing)
-        && is_restored(alloc, store, sample) == Some(false)
-}
-
-/// What restoring the sample answers.
-pub fn is_restored(alloc: Global, store: &mut Store<MemDisk>, sample: &Sample) -> Option<bool>
-    requires { IsSample sample.now.task sample.now.sig sample.now.tree }
-{
-    store.restore(alloc, &sample.task, &sample.sig).ok()
-}
-
-/// Whether what the store tells of the sample is so: its work folder holds its tree, or it is missing.
-pub fn is_honest(alloc: Global, store: &mut Store<MemDisk>, sample: &Sample) -> bool {
-    match there(alloc, store, sample, false) {
-        Some(Avail::Work) => has_output(alloc, store, sample),
-        Some(Avail::Missing) => true,
-        Some(Avail::Object) => false,
-        None => false,
-    }
+    there(alloc, store, sample) == Some(Avail::Work) && has_output(alloc, store, sample)
 }

@@ -28,7 +28,7 @@ fn refuses(alloc: Global, first: &Sample, again: &Sample) -> Result<bool, Fail>
     requires first { IsSample first.now.task first.now.sig first.now.tree }
     requires again { IsSample again.now.task again.now.sig again.now.tree }
 {
-    let (disk, _) = publish_over(alloc, empty(alloc)?, first);
+    let disk = publish_over(alloc, empty(alloc)?, first);
     let mut store = opened(alloc, disk.image(0)?)?;
     Ok(
         tells_collision(alloc, &store)

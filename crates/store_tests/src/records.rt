@@ -1,3 +1,4 @@
+// Signatures and records as bytes.
 use sig_gen::{SigFault, decode, decode_stored, encode, encode_manifest, encode_stored};
 use std::alloc::Global;
 use std::test::Fail;

@@ -1,7 +1,0 @@
-use Rattle.std.proofs.Common.{ℕ, List, ◌<◌, get_or}
-use Rattle.tree_model.specs.declared.entry.Entry.{Entry}
-use Rattle.tree_model.specs.Path.{IsClean, inside}
-use Rattle.record_tests.proofs.objects.fits.Given as goal
-
-abbrev pub invariant-loop-path : goal.invariant-loop-path
-invariant-loop-path l = (k : ℕ) (d : List ℕ × Entry) → k < l.path-index → IsClean (inside l.folder (get_or l.path-items k d).0)
