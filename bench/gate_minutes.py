@@ -27,6 +27,10 @@ import time
 
 TICK = os.sysconf("SC_CLK_TCK")
 MARKS = "<!-- made by bench/gate_minutes.py -->\n", "<!-- until here -->\n"
+TITLES = [
+    "| Crate | Lines: code/definitions/proofs | Proof | Tests | Seed | Edits | Number of edits | Dearest edit | Minutes | A thousand lines of code |",
+    "|---|---|---|---|---|---|---|---|---|---|",
+]
 
 
 def processes(session):
@@ -96,6 +100,12 @@ def edits_of(crate):
     return sorted(os.path.basename(it)[:-5] for it in glob.glob(f"crates/{crate}/must-fail/*.edit"))
 
 
+def a_thousand(lines, minutes):
+    """The minutes for each thousand lines of code."""
+    code = int(lines.split("/")[0])
+    return f"{1000 * minutes / code:.1f}" if code else "–"
+
+
 def table(sums, whole):
     """The table, one row a crate, the dearest first."""
     crates = sorted({crate for crate, _ in sums if crate and os.path.isdir(f"crates/{crate}")})
@@ -107,13 +117,12 @@ def table(sums, whole):
         each = of(crate, "proof"), of(crate, "tests"), of(crate, "seed"), sum(tried.values())
         dearest = f"{max(tried.values()):.0f} s" if tried else "–"
         lines = "/".join(str(lines_of(crate, *it)) for it in (["src/**/*.rt"], ["specs/**/*.antt"], ["proofs/**/*.antt"]))
-        rows.append((sum(each), f"| `{crate}` | {lines} | {' | '.join(minutes(it) for it in each)} | {len(tried) or '–'} | {dearest} | {minutes(sum(each))} |"))
-    yield "| Crate | Lines: code/definitions/proofs | Proof | Tests | Seed | Edits | Number of edits | Dearest edit | Minutes |"
-    yield "|---|---|---|---|---|---|---|---|---|"
+        rows.append((sum(each), f"| `{crate}` | {lines} | {' | '.join(minutes(it) for it in each)} | {len(tried) or '–'} | {dearest} | {minutes(sum(each))} | {a_thousand(lines, sum(each) / 60)} |"))
+    yield from TITLES
     yield from (row for _, row in sorted(rows, reverse=True))
     known = sum(cost for cost, _ in rows)
-    yield f"| the rest: compiling, linking, running | | | | | | | | {minutes(whole - known)} |"
-    yield f"| **the whole run** | | | | | | | | **{minutes(whole)}** |"
+    yield f"| the rest: compiling, linking, running | | | | | | | | {minutes(whole - known)} | |"
+    yield f"| **the whole run** | | | | | | | | **{minutes(whole)}** | |"
     slow = sorted(((cost, crate, name) for crate in crates for name, cost in edits(crate).items() if cost > 40), reverse=True)
     yield ""
     yield "Edits over 40 s: " + (", ".join(f"`{crate}/{name}` {cost:.0f} s" for cost, crate, name in slow) or "none") + "."
@@ -132,18 +141,18 @@ def joined(files):
                 was = rows.get(cells[0], cells)
                 most = [f"{max(float(one), float(other)):.1f}" for one, other in zip(was[2:6], cells[2:6])]
                 dearest = max(was[7], cells[7], key=lambda it: int(it.split()[0]) if it[0].isdigit() else -1)
-                rows[cells[0]] = [*cells[:2], *most, cells[6], dearest, f"{sum(map(float, most)):.1f}"]
+                minutes = sum(map(float, most))
+                rows[cells[0]] = [*cells[:2], *most, cells[6], dearest, f"{minutes:.1f}", a_thousand(cells[1], minutes)]
             elif line.startswith("| the rest"):
-                rest += float(cells[-1])
+                rest += float(cells[8])
             elif line.startswith("Edits over 40 s: "):
                 for name, cost in re.findall(r"(`[^`]*`) (\d+) s", line):
                     slow[name] = min(int(cost), slow.get(name, int(cost)))
-    titles = [line.rstrip("\n") for line in open(files[0]) if line.startswith(("| Crate", "|--"))]
     yield from heads
-    yield from titles
-    yield from ("| " + " | ".join(row) + " |" for row in sorted(rows.values(), key=lambda row: -float(row[-1])) if float(row[-1]))
-    yield f"| the rest: compiling, linking, running | | | | | | | | {rest:.1f} |"
-    yield f"| **together** | | | | | | | | **{rest + sum(float(row[-1]) for row in rows.values()):.1f}** |"
+    yield from TITLES
+    yield from ("| " + " | ".join(row) + " |" for row in sorted(rows.values(), key=lambda row: -float(row[8])) if float(row[8]))
+    yield f"| the rest: compiling, linking, running | | | | | | | | {rest:.1f} | |"
+    yield f"| **together** | | | | | | | | **{rest + sum(float(row[8]) for row in rows.values()):.1f}** | |"
     yield ""
     yield "Edits over 40 s: " + (", ".join(f"{name} {cost} s" for name, cost in sorted(slow.items(), key=lambda it: -it[1]) if cost > 40) or "none") + "."
 

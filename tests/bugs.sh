@@ -2,11 +2,34 @@
 # Tries the bugs of tests/bugs: one-line changes that the contracts of a crate have to refuse, as the must-fail edits do that the
 # gate tries. These stand apart, since the first edit of a crate costs as much as the whole crate's proof (docs/GATE.md).
 #
-# Usage: tests/bugs.sh [CRATE ..]     all crates of tests/bugs, or these
+# Usage: tests/bugs.sh [CRATE ..]           all crates of tests/bugs, or these
+#        tests/bugs.sh --changed COMMIT     those that changed since that commit, or stand on a crate that did
 # Each is laid beside the crate's own edits, tried by `rt must-fail`, and taken away again. Ends with the number that were refused
 # and the number that weren't; the status is 0 where all were.
 cd -- "$(dirname -- "$0")/.." || exit 1
-[ $# -gt 0 ] || set -- $(cd tests/bugs && ls)
+
+# The crates that changed since a commit, and all that stand on these: crates.txt has the lowest first.
+changed_since() {
+    found=$(git diff --name-only "$1" -- crates | cut -d / -f 2 | sort -u | tr '\n' ' ')
+    awk -v found="$found" '
+        BEGIN { split(found, names, " "); for (at in names) hit[names[at]] = 1 }
+        /^#/ || NF == 0 { next }
+        {
+            for (at = 1; at <= NF; at++) { sub(/:$/, "", $at); if (hit[$at]) hit[$1] = 1 }
+            if (hit[$1]) print $1
+        }' crates.txt
+}
+
+if [ "$1" = --changed ]; then
+    changed=$(changed_since "${2:?a commit}") || exit 1
+    set --
+    for crate in $changed; do
+        [ ! -d "tests/bugs/$crate" ] || set -- "$@" "$crate"
+    done
+    [ $# -gt 0 ] || { echo "bugs: no crate with bugs has changed"; exit 0; }
+else
+    [ $# -gt 0 ] || set -- $(cd tests/bugs && ls)
+fi
 
 laid=
 take_away() {
