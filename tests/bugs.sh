@@ -10,7 +10,8 @@ cd -- "$(dirname -- "$0")/.." || exit 1
 
 # The crates that changed since a commit, and all that stand on these: crates.txt has the lowest first.
 changed_since() {
-    found=$(git diff --name-only "$1" -- crates | cut -d / -f 2 | sort -u | tr '\n' ' ')
+    git rev-parse --quiet --verify "$1^{commit}" >/dev/null || { echo "bugs: there is no commit $1" >&2; return 1; }
+    found=$({ git diff --name-only "$1" -- crates; git ls-files --others --exclude-standard -- crates; } | cut -d / -f 2 | sort -u | tr '\n' ' ')
     awk -v found="$found" '
         BEGIN { split(found, names, " "); for (at in names) hit[names[at]] = 1 }
         /^#/ || NF == 0 { next }
