@@ -1,6 +1,7 @@
 // Reading files and classes by name.
 ghost use Rattle.std.specs.Prelude.{◌≡◌, true, false, is_ok, Ok, Err, IfOk, IfErr, IfSome, is_some, option_map, codes};
 ghost use Rattle.outside_traits.specs.Fault.{Counts};
+ghost use Rattle.outside_traits.specs.Store.{SameFiles};
 ghost use Rattle.datastore.specs.Faults.{IsDataFault};
 ghost use Rattle.load_model.specs.LoadRefusal.{asked_at, nowhere};
 ghost use Rattle.load_model.specs.Layers.{words_of};
@@ -59,7 +60,7 @@ fn read_first<L: Layers>(
     ensures err { IfErr result (λ fault. L.tells → IsLoadFault fault
         (read_first (sources_for layer.now (L.files layers.old)) nowhere (origin_of kind path.now)
         (contents_for layer.now (contents_meant contents)) reading)) }
-    ensures same { L.files layers.new ≡ L.files layers.old }
+    ensures same { SameFiles L.files layers.old layers.new }
     ensures cause { Counts (L.faults layers.old) (L.faults layers.new) (load_failed result) }
 {
     let mut reading = reading;
@@ -96,7 +97,7 @@ fn read_searched<L: Layers>(
         (option_map found_meant found) reading ≡ Ok made) }
     ensures err { IfErr result (λ fault. L.tells → IsLoadFault fault
         (file_found (sources_of (L.files layers.old)) kind must path.now (option_map found_meant found) reading)) }
-    ensures same { L.files layers.new ≡ L.files layers.old }
+    ensures same { SameFiles L.files layers.old layers.new }
     ensures cause { Counts (L.faults layers.old) (L.faults layers.new) (load_failed result) }
 {
     match found {
@@ -149,7 +150,7 @@ fn read_inherited<L: Layers>(
     ensures err { IfErr result (λ fault. L.tells → IsLoadFault fault
         (classes_after (read_first (sources_of (L.files layers.old))) (sources_of (L.files layers.old)) nowhere true
         names.now reading)) }
-    ensures same { L.files layers.new ≡ L.files layers.old }
+    ensures same { SameFiles L.files layers.old layers.new }
     ensures cause { Counts (L.faults layers.old) (L.faults layers.new) (load_failed result) }
 {
     let mut reading = reading;
@@ -183,7 +184,7 @@ impl Reading {
             ≡ Ok made) }
         ensures err { IfErr result (λ fault. L.tells → IsLoadFault fault
             (entries (sources_of (L.files layers.old)) kind path.now self)) }
-        ensures same { L.files layers.new ≡ L.files layers.old }
+        ensures same { SameFiles L.files layers.old layers.new }
         ensures cause { Counts (L.faults layers.old) (L.faults layers.new) (load_failed result) }
     {
         match contents_at(alloc, layers, kind, path) {
@@ -213,7 +214,7 @@ impl Reading {
             (entries (sources_for layer.now (L.files layers.old)) kind path.now self)) }
         ensures refused { IfErr result (λ fault. L.tells → is_some (cause_of fault.kind) ≡ true
             → is_some (sources_of (L.files layers.old) path.now kind) ≡ true) }
-        ensures same { L.files layers.new ≡ L.files layers.old }
+        ensures same { SameFiles L.files layers.old layers.new }
         ensures cause { Counts (L.faults layers.old) (L.faults layers.new) (load_failed result) }
     {
         match contents_at(alloc, layers, kind, path) {
@@ -244,7 +245,7 @@ impl Reading {
             path.now self ≡ Ok made) }
         ensures err { IfErr result (λ fault. L.tells → IsLoadFault fault
             (searched_entries (sources_of (L.files layers.old)) kind must path.now self)) }
-        ensures same { L.files layers.new ≡ L.files layers.old }
+        ensures same { SameFiles L.files layers.old layers.new }
         ensures cause { Counts (L.faults layers.old) (L.faults layers.new) (load_failed result) }
     {
         match search(alloc, layers, &self, &nowhere(), kind, None, path) {
@@ -268,7 +269,7 @@ impl Reading {
             ≡ Ok made) }
         ensures err { IfErr result (λ fault. L.tells → IsLoadFault fault
             (class_entries (sources_of (L.files layers.old)) must name.now self)) }
-        ensures same { L.files layers.new ≡ L.files layers.old }
+        ensures same { SameFiles L.files layers.old layers.new }
         ensures cause { Counts (L.faults layers.old) (L.faults layers.new) (load_failed result) }
     {
         let mut reading = self;
@@ -293,7 +294,7 @@ impl Reading {
         ensures ok { IfOk result (λ made. L.tells → with_inherit (sources_of (L.files layers.old)) self ≡ Ok made) }
         ensures err { IfErr result (λ fault. L.tells → IsLoadFault fault
             (with_inherit (sources_of (L.files layers.old)) self)) }
-        ensures same { L.files layers.new ≡ L.files layers.old }
+        ensures same { SameFiles L.files layers.old layers.new }
         ensures cause { Counts (L.faults layers.old) (L.faults layers.new) (load_failed result) }
     {
         match inherited(alloc, &self) {

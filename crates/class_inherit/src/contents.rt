@@ -2,6 +2,7 @@
 ghost use Rattle.std.specs.Prelude.{◌≡◌, ◌≤◌, IfOk, IfErr, option_map, length};
 ghost use Rattle.bb_parser.specs.Faults.{named};
 ghost use Rattle.outside_traits.specs.Fault.{Counts};
+ghost use Rattle.outside_traits.specs.Store.{SameFiles};
 ghost use Rattle.load_model.specs.Loading.{most_bytes, contents_of, sources_of};
 ghost use Rattle.class_inherit.specs.Faults.{IsUntold, load_failed};
 ghost use Rattle.class_inherit.specs.Reading.{contents_meant};
@@ -76,7 +77,7 @@ pub(crate) fn contents_at<L: Layers>(
     ensures ok { IfOk result (λ found. L.tells → option_map contents_meant found
         ≡ sources_of (L.files layers.old) path.now kind) }
     ensures err { IfErr result IsUntold }
-    ensures same { L.files layers.new ≡ L.files layers.old }
+    ensures same { SameFiles L.files layers.old layers.new }
     ensures cause { Counts (L.faults layers.old) (L.faults layers.new) (load_failed result) }
 {
     match layers.read(alloc, path, MOST_BYTES) {

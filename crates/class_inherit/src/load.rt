@@ -2,6 +2,7 @@
 ghost use Rattle.std.specs.Prelude.{◌≡◌, [], true, false, Some, Ok, IfOk, IfErr, OnOk, map};
 ghost use Rattle.meta_model.specs.Entries as entries;
 ghost use Rattle.outside_traits.specs.Fault.{Counts};
+ghost use Rattle.outside_traits.specs.Store.{SameFiles};
 ghost use Rattle.load_model.specs.LoadRefusal.{asked_at, missing_required, missing_class};
 ghost use Rattle.load_model.specs.Loading.{read_within, statements_after, statement_after, includes_after, include_after, classes_after, class_after, with_class};
 ghost use Rattle.class_inherit.specs.Adding.{added};
@@ -149,7 +150,7 @@ pub(crate) fn read_found<L: Layers>(
     ensures err { IfErr result (λ fault. L.tells → IsLoadFault fault
         (read_within left (sources_for layer.now (L.files layers.old)) (where_is place.now) (origin_meant origin.now)
         (contents_for layer.now (contents_meant contents.now)) reading.old)) }
-    ensures same { L.files layers.new ≡ L.files layers.old }
+    ensures same { SameFiles L.files layers.old layers.new }
     ensures cause { Counts (L.faults layers.old) (L.faults layers.new) (load_failed result) }
 {
     if left == 0 {
@@ -201,7 +202,7 @@ fn run_statements<L: Layers>(
         (statements_after (read_within left (sources_for layer.now (L.files layers.old)))
         (sources_for layer.now (L.files layers.old)) (origin_meant origin.now)
         (map (λ s. (s.0, statement_for layer.now s.1)) list.now) reading.old)) }
-    ensures same { L.files layers.new ≡ L.files layers.old }
+    ensures same { SameFiles L.files layers.old layers.new }
     ensures cause { Counts (L.faults layers.old) (L.faults layers.new) (load_failed result) }
 {
     for (line, statement) in list {
@@ -237,7 +238,7 @@ fn run_statement<L: Layers>(
         (statement_after (read_within left (sources_for layer.now (L.files layers.old)))
         (sources_for layer.now (L.files layers.old)) (where_is place.now) (origin_meant origin.now)
         (statement_for layer.now statement.now) reading.old)) }
-    ensures same { L.files layers.new ≡ L.files layers.old }
+    ensures same { SameFiles L.files layers.old layers.new }
     ensures cause { Counts (L.faults layers.old) (L.faults layers.new) (load_failed result) }
 {
     match statement {
@@ -274,7 +275,7 @@ fn include_named<L: Layers>(
         (includes_named (read_within left (sources_for layer.now (L.files layers.old)))
         (sources_for layer.now (L.files layers.old)) (where_is place.now) (origin_meant origin.now) must layer.now
         text.now reading.old)) }
-    ensures same { L.files layers.new ≡ L.files layers.old }
+    ensures same { SameFiles L.files layers.old layers.new }
     ensures cause { Counts (L.faults layers.old) (L.faults layers.new) (load_failed result) }
 {
     match words_at(alloc, reading, layer, place, text) {
@@ -304,7 +305,7 @@ fn inherit_named<L: Layers>(
     ensures err { IfErr result (λ fault. L.tells → IsLoadFault fault
         (classes_named (read_within left (sources_for layer.now (L.files layers.old)))
         (sources_for layer.now (L.files layers.old)) (where_is place.now) text.now reading.old)) }
-    ensures same { L.files layers.new ≡ L.files layers.old }
+    ensures same { SameFiles L.files layers.old layers.new }
     ensures cause { Counts (L.faults layers.old) (L.faults layers.new) (load_failed result) }
 {
     match words_at(alloc, reading, &None, place, text) {
@@ -333,7 +334,7 @@ fn include_words<L: Layers>(
         (includes_after (read_within left (sources_for layer.now (L.files layers.old)))
         (sources_for layer.now (L.files layers.old)) (where_is place.now) (origin_meant origin.now) must words.now
         reading.old)) }
-    ensures same { L.files layers.new ≡ L.files layers.old }
+    ensures same { SameFiles L.files layers.old layers.new }
     ensures cause { Counts (L.faults layers.old) (L.faults layers.new) (load_failed result) }
 {
     for word in words {
@@ -374,7 +375,7 @@ fn include_word<L: Layers>(
         (include_after (read_within left (sources_for layer.now (L.files layers.old)))
         (sources_for layer.now (L.files layers.old)) (where_is place.now) (origin_meant origin.now) must word.now
         reading.old)) }
-    ensures same { L.files layers.new ≡ L.files layers.old }
+    ensures same { SameFiles L.files layers.old layers.new }
     ensures cause { Counts (L.faults layers.old) (L.faults layers.new) (load_failed result) }
 {
     let folder = folder_of(origin.path);
@@ -426,7 +427,7 @@ pub(crate) fn inherit_words<L: Layers>(
     ensures err { IfErr result (λ fault. L.tells → IsLoadFault fault
         (classes_after (read_within left (sources_for layer.now (L.files layers.old)))
         (sources_for layer.now (L.files layers.old)) (where_is place.now) true names.now reading.old)) }
-    ensures same { L.files layers.new ≡ L.files layers.old }
+    ensures same { SameFiles L.files layers.old layers.new }
     ensures cause { Counts (L.faults layers.old) (L.faults layers.new) (load_failed result) }
 {
     for name in names {
@@ -462,7 +463,7 @@ pub(crate) fn inherit_word<L: Layers>(
     ensures err { IfErr result (λ fault. L.tells → IsLoadFault fault
         (class_after (read_within left (sources_for layer.now (L.files layers.old)))
         (sources_for layer.now (L.files layers.old)) (where_is place.now) must name.now reading.old)) }
-    ensures same { L.files layers.new ≡ L.files layers.old }
+    ensures same { SameFiles L.files layers.old layers.new }
     ensures cause { Counts (L.faults layers.old) (L.faults layers.new) (load_failed result) }
 {
     if reading.has_begun(name) {

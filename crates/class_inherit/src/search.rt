@@ -2,6 +2,7 @@
 ghost use Rattle.std.specs.Prelude.{◌≡◌, ◌∷◌, ◌++◌, [], IfOk, IfErr, Ok, option_map, option_to_list, codes};
 ghost use Rattle.std.specs.Option.{option_copied};
 ghost use Rattle.outside_traits.specs.Fault.{Counts};
+ghost use Rattle.outside_traits.specs.Store.{SameFiles};
 ghost use Rattle.datastore.specs.Faults.{IsDataFault};
 ghost use Rattle.load_model.specs.Paths.{paths_in};
 ghost use Rattle.load_model.specs.LoadRefusal.{asked_at};
@@ -32,7 +33,7 @@ fn found_in<L: Layers>(
     ensures ok { IfOk result (λ found. L.tells → option_map found_meant found
         ≡ first_found (sources_of (L.files layers.old)) kind (paths_in (folder.now ∷ []) word.now)) }
     ensures err { IfErr result IsUntold }
-    ensures same { L.files layers.new ≡ L.files layers.old }
+    ensures same { SameFiles L.files layers.old layers.new }
     ensures cause { Counts (L.faults layers.old) (L.faults layers.new) (load_failed result) }
 {
     let path = match path_in(alloc, folder, word) {
@@ -58,7 +59,7 @@ fn first_in<L: Layers>(
     ensures ok { IfOk result (λ found. L.tells → option_map found_meant found
         ≡ first_found (sources_of (L.files layers.old)) kind (paths_in folders.now word.now)) }
     ensures err { IfErr result IsUntold }
-    ensures same { L.files layers.new ≡ L.files layers.old }
+    ensures same { SameFiles L.files layers.old layers.new }
     ensures cause { Counts (L.faults layers.old) (L.faults layers.new) (load_failed result) }
 {
     for folder in folders {
@@ -80,7 +81,7 @@ fn first_in_project<L: Layers>(
     ensures ok { IfOk result (λ found. L.tells → option_map found_meant found
         ≡ first_found (sources_of (L.files layers.old)) kind (paths_in (codes "." ∷ folders.now) word.now)) }
     ensures err { IfErr result IsUntold }
-    ensures same { L.files layers.new ≡ L.files layers.old }
+    ensures same { SameFiles L.files layers.old layers.new }
     ensures cause { Counts (L.faults layers.old) (L.faults layers.new) (load_failed result) }
 {
     match found_in(alloc, layers, kind, ".", word)? {
@@ -103,7 +104,7 @@ fn first_from<L: Layers>(
         ≡ first_found (sources_of (L.files layers.old)) kind
         (paths_in (option_to_list (option_copied first.entry) ++ codes "." ∷ folders.now) word.now)) }
     ensures err { IfErr result IsUntold }
-    ensures same { L.files layers.new ≡ L.files layers.old }
+    ensures same { SameFiles L.files layers.old layers.new }
     ensures cause { Counts (L.faults layers.old) (L.faults layers.new) (load_failed result) }
 {
     let Some(folder) = first else {
@@ -145,7 +146,7 @@ pub(crate) fn search<L: Layers>(
     ensures err { IfErr result (λ fault. L.tells → IsLoadFault fault
         (asked_at (where_is place.now) (searched (sources_of (L.files layers.old)) kind reading.now.lines
         (option_to_list (option_copied first.entry)) word.now))) }
-    ensures same { L.files layers.new ≡ L.files layers.old }
+    ensures same { SameFiles L.files layers.old layers.new }
     ensures cause { Counts (L.faults layers.old) (L.faults layers.new) (load_failed result) }
 {
     if is_absolute(word) {
@@ -171,7 +172,7 @@ pub(crate) fn search_class<L: Layers>(
     ensures err { IfErr result (λ fault. L.tells → IsLoadFault fault
         (asked_at (where_is place.now) (class_searched (sources_of (L.files layers.old)) reading.now.lines
         name.now))) }
-    ensures same { L.files layers.new ≡ L.files layers.old }
+    ensures same { SameFiles L.files layers.old layers.new }
     ensures cause { Counts (L.faults layers.old) (L.faults layers.new) (load_failed result) }
 {
     if is_absolute(name) {

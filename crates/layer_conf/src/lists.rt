@@ -4,7 +4,7 @@ ghost use Rattle.std.specs.List.Sorted.{IsStrictlySortedBy};
 ghost use Rattle.std.specs.Ordering.{nat_cmp};
 ghost use Rattle.std.specs.Cmp.Lexicographic.{slice_cmp};
 ghost use Rattle.outside_traits.specs.Fault.{Counts};
-ghost use Rattle.outside_traits.specs.Store.{IsListing};
+ghost use Rattle.outside_traits.specs.Store.{IsListing, SameFiles};
 ghost use Rattle.load_model.specs.Paths.{path_named};
 ghost use Rattle.load_model.specs.Loading.{sources_of};
 ghost use Rattle.load_model.specs.Layers as meant;
@@ -55,7 +55,7 @@ fn globs_over(alloc: Global, store: &Datastore) -> Result<Vec<Text>, LayerFault>
 fn listed<L: Layers>(alloc: Global, layers: &mut L) -> Result<Texts, LayerFault>
     ensures paths { IfOk result (λ paths. L.tells → IsListing [] (L.files layers.old) paths) }
     ensures free { IfErr result (λ fault. layer_refusal fault ≡ None) }
-    ensures same { L.files layers.new ≡ L.files layers.old }
+    ensures same { SameFiles L.files layers.old layers.new }
     ensures cause { Counts (L.faults layers.old) (L.faults layers.new) (layers_failed result) }
 {
     match layers.list(alloc, "") {
@@ -103,7 +103,7 @@ fn lists_over<L: Layers>(
         → with_lists paths (configured_meant made.now) ≡ Ok (listed_meant made.now lists.0 lists.1)) }
     ensures err { IfErr result (λ fault. L.tells → (paths : List (List ℕ)) → IsListing [] (L.files layers.old) paths
         → IsLayerFault fault (with_lists paths (configured_meant made.now))) }
-    ensures same { L.files layers.new ≡ L.files layers.old }
+    ensures same { SameFiles L.files layers.old layers.new }
     ensures cause { Counts (L.faults layers.old) (L.faults layers.new) (layers_failed result) }
 {
     let globs = match globs_over(alloc, &made.store) {
@@ -135,7 +135,7 @@ fn with_lists<L: Layers>(
         → with_lists paths (configured_meant made) ≡ Ok (config_meant config)) }
     ensures err { IfErr result (λ fault. L.tells → (paths : List (List ℕ)) → IsListing [] (L.files layers.old) paths
         → IsLayerFault fault (with_lists paths (configured_meant made))) }
-    ensures same { L.files layers.new ≡ L.files layers.old }
+    ensures same { SameFiles L.files layers.old layers.new }
     ensures cause { Counts (L.faults layers.old) (L.faults layers.new) (layers_failed result) }
 {
     match lists_over(alloc, layers, &made) {
@@ -162,7 +162,7 @@ pub fn read_layers<L: Layers>(alloc: Global, layers: &mut L) -> Result<Config, L
         → meant.config (sources_of (L.files layers.old)) paths ≡ Ok (config_meant made)) }
     ensures err { IfErr result (λ fault. L.tells → (paths : List (List ℕ)) → IsListing [] (L.files layers.old) paths
         → IsLayerFault fault (meant.config (sources_of (L.files layers.old)) paths)) }
-    ensures same { L.files layers.new ≡ L.files layers.old }
+    ensures same { SameFiles L.files layers.old layers.new }
     ensures cause { Counts (L.faults layers.old) (L.faults layers.new) (layers_failed result) }
 {
     match read_configured(alloc, layers) {

@@ -2,6 +2,7 @@
 ghost use Rattle.std.specs.Prelude.{◌≡◌, ◌++◌, ◌∷◌, [], Ok, Some, IfOk, IfErr, OnOk};
 ghost use Rattle.meta_model.specs.declared.entry.EntryLine.TheVariants.{Set};
 ghost use Rattle.outside_traits.specs.Fault.{Counts};
+ghost use Rattle.outside_traits.specs.Store.{SameFiles};
 ghost use Rattle.load_model.specs.Loading.{sources_of};
 ghost use Rattle.load_model.specs.Layers as meant;
 ghost use Rattle.layer_conf.specs.Faults.{IsLayerFault, layers_failed};
@@ -104,7 +105,7 @@ fn bitbake_conf<L: Layers>(
         ≡ Ok made) }
     ensures err { IfErr result (λ fault. L.tells → IsLayerFault fault
         (meant.bitbake_conf (sources_of (L.files layers.old)) must reading)) }
-    ensures same { L.files layers.new ≡ L.files layers.old }
+    ensures same { SameFiles L.files layers.old layers.new }
     ensures cause { Counts (L.faults layers.old) (L.faults layers.new) (layers_failed result) }
 {
     match reading.searched(alloc, layers, "conf/bitbake.conf", Kind::Conf, must) {
@@ -127,7 +128,7 @@ fn layer_for<L: Layers>(
         (Some path.now) reading ≡ Ok made) }
     ensures err { IfErr result (λ fault. L.tells → IsLayerFault fault
         (meant.layer_at (sources_of (L.files layers.old)) word.now (Some path.now) reading)) }
-    ensures same { L.files layers.new ≡ L.files layers.old }
+    ensures same { SameFiles L.files layers.old layers.new }
     ensures cause { Counts (L.faults layers.old) (L.faults layers.new) (layers_failed result) }
 {
     match reading.file_if_there(alloc, layers, layer, path, Kind::Conf) {
@@ -149,7 +150,7 @@ fn layer_there<L: Layers>(
         (Some path.now) reading ≡ Ok made) }
     ensures err { IfErr result (λ fault. L.tells → IsLayerFault fault
         (meant.layer_at (sources_of (L.files layers.old)) word.now (Some path.now) reading)) }
-    ensures same { L.files layers.new ≡ L.files layers.old }
+    ensures same { SameFiles L.files layers.old layers.new }
     ensures cause { Counts (L.faults layers.old) (L.faults layers.new) (layers_failed result) }
 {
     match word.copy() {
@@ -170,7 +171,7 @@ fn layer_named<L: Layers>(
         ≡ Ok made) }
     ensures err { IfErr result (λ fault. L.tells → IsLayerFault fault
         (meant.layer_at (sources_of (L.files layers.old)) word.now path reading)) }
-    ensures same { L.files layers.new ≡ L.files layers.old }
+    ensures same { SameFiles L.files layers.old layers.new }
     ensures cause { Counts (L.faults layers.old) (L.faults layers.new) (layers_failed result) }
 {
     match path {
@@ -190,7 +191,7 @@ fn layer_at<L: Layers>(
         (meant.layer_file word.now) reading ≡ Ok made) }
     ensures err { IfErr result (λ fault. L.tells → IsLayerFault fault
         (meant.layer_at (sources_of (L.files layers.old)) word.now (meant.layer_file word.now) reading)) }
-    ensures same { L.files layers.new ≡ L.files layers.old }
+    ensures same { SameFiles L.files layers.old layers.new }
     ensures cause { Counts (L.faults layers.old) (L.faults layers.new) (layers_failed result) }
 {
     match layer_file(alloc, word.as_str()) {
@@ -210,7 +211,7 @@ fn layers_after<L: Layers>(
         ≡ Ok made) }
     ensures err { IfErr result (λ fault. L.tells → IsLayerFault fault
         (meant.layers_after (sources_of (L.files layers.old)) words.now first)) }
-    ensures same { L.files layers.new ≡ L.files layers.old }
+    ensures same { SameFiles L.files layers.old layers.new }
     ensures cause { Counts (L.faults layers.old) (L.faults layers.new) (layers_failed result) }
 {
     let mut reading = first;
@@ -234,7 +235,7 @@ fn with_layers<L: Layers>(
         ≡ Ok (configured_meant made)) }
     ensures err { IfErr result (λ fault. L.tells → IsLayerFault fault
         (layered_over (sources_of (L.files layers.old)) first words)) }
-    ensures same { L.files layers.new ≡ L.files layers.old }
+    ensures same { SameFiles L.files layers.old layers.new }
     ensures cause { Counts (L.faults layers.old) (L.faults layers.new) (layers_failed result) }
 {
     let all = match layers_after(alloc, layers, words.as_slice(), first) {
@@ -260,7 +261,7 @@ fn layered<L: Layers>(
         ≡ Ok (configured_meant made)) }
     ensures err { IfErr result (λ fault. L.tells → IsLayerFault fault
         (layered_from (sources_of (L.files layers.old)) first)) }
-    ensures same { L.files layers.new ≡ L.files layers.old }
+    ensures same { SameFiles L.files layers.old layers.new }
     ensures cause { Counts (L.faults layers.old) (L.faults layers.new) (layers_failed result) }
 {
     match words_of(alloc, first.store(), "BBLAYERS") {
@@ -274,7 +275,7 @@ fn flat<L: Layers>(alloc: Global, layers: &mut L) -> Result<Configured, LayerFau
     ensures ok { IfOk result (λ made. L.tells → meant.flat (sources_of (L.files layers.old))
         ≡ Ok (configured_meant made)) }
     ensures err { IfErr result (λ fault. L.tells → IsLayerFault fault (meant.flat (sources_of (L.files layers.old)))) }
-    ensures same { L.files layers.new ≡ L.files layers.old }
+    ensures same { SameFiles L.files layers.old layers.new }
     ensures cause { Counts (L.faults layers.old) (L.faults layers.new) (layers_failed result) }
 {
     let store = match built_in_flat(alloc) {
@@ -299,7 +300,7 @@ pub(crate) fn read_configured<L: Layers>(
         ≡ Ok (configured_meant made)) }
     ensures err { IfErr result (λ fault. L.tells → IsLayerFault fault
         (meant.configured (sources_of (L.files layers.old)))) }
-    ensures same { L.files layers.new ≡ L.files layers.old }
+    ensures same { SameFiles L.files layers.old layers.new }
     ensures cause { Counts (L.faults layers.old) (L.faults layers.new) (layers_failed result) }
 {
     let store = match built_in(alloc) {

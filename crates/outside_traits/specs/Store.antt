@@ -45,6 +45,10 @@ pub record IsListing {V : Type 0} (prefix : List ℕ) (held : List ℕ → Optio
   pub are_held : (q : List ℕ) → Contains paths q → BeginsWith prefix q × IsSome (held q)
   pub all : (q : List ℕ) → BeginsWith prefix q → IsSome (held q) → Contains paths q
 
+-- A call changed no file. The files are what a device holds, read off it before the call and after it.
+abbrev pub SameFiles : {T : Type 0} → (T → List ℕ → Option (List ℕ)) → T → T → Type 0
+SameFiles files old new = files new ≡ files old
+
 -- the path is neither the folder nor above it nor under it
 pub record IsApart (folder q : List ℕ) : Type 0 where
   pub not_folder : q ≢ folder

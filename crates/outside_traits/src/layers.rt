@@ -2,7 +2,7 @@
 ghost use Rattle.std.specs.Prelude.{◌≡◌, ◌<◌, ◌≤◌, List, ℕ, Option, IfOk, IfSome, IsSome, IsSomeAnd, IsErrOf, length};
 ghost use Rattle.tree_model.specs.Path.{IsClean};
 ghost use Rattle.outside_traits.specs.Fault.{Counts, read_failed};
-ghost use Rattle.outside_traits.specs.Store.{IsListing};
+ghost use Rattle.outside_traits.specs.Store.{IsListing, SameFiles};
 
 use crate::ReadFault;
 use std::alloc::Global;
@@ -29,14 +29,14 @@ pub trait Layers {
         ensures within { IfOk result (λ found. IfSome found (λ bytes. length bytes ≤ max)) }
         ensures too_long { IsErrOf result ReadFault.TooLong → tells
             → IsSomeAnd (files self.old path.now) (λ bytes. max < length bytes) }
-        ensures same { files self.new ≡ files self.old }
+        ensures same { SameFiles files self.old self.new }
         ensures cause { Counts (faults self.old) (faults self.new) (read_failed result) };
 
     /// The paths of the files that begin with the prefix, in byte order. Never `TooLong`.
     fn list(&mut self, alloc: Global, prefix: &str) -> Result<Texts, ReadFault>
         ensures paths { IfOk result (λ paths. tells → IsListing prefix.now (files self.old) paths) }
         ensures not_long { IsErrOf result ReadFault.TooLong → ⊥ }
-        ensures same { files self.new ≡ files self.old }
+        ensures same { SameFiles files self.old self.new }
         ensures cause { Counts (faults self.old) (faults self.new) (read_failed result) };
 
     /// Files stand at clean paths.

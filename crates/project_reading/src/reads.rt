@@ -2,7 +2,7 @@
 ghost use Rattle.std.specs.Prelude.{◌≡◌, [], List, ℕ, true, Ok, IfOk, IfErr};
 ghost use Rattle.meta_model.specs.declared.event.Status.TheVariants as status;
 ghost use Rattle.outside_traits.specs.Fault.{Counts};
-ghost use Rattle.outside_traits.specs.Store.{IsListing};
+ghost use Rattle.outside_traits.specs.Store.{IsListing, SameFiles};
 ghost use Rattle.load_model.specs.Loading.{sources_of};
 ghost use Rattle.layer_conf.specs.Config.{config_meant};
 ghost use Rattle.project_reading.specs.Project as project;
@@ -37,7 +37,7 @@ pub fn read_config<L: Layers>(alloc: Global, layers: &mut L) -> Result<Config, S
     ensures err { IfErr result (λ status. L.tells → (paths : List (List ℕ)) → IsListing [] (L.files layers.old) paths
         → IsRefusedAs status (project.read_config (sources_of (L.files layers.old)) paths)) }
     ensures refusal { IfErr result (λ status. is_refusal status ≡ true) }
-    ensures same { L.files layers.new ≡ L.files layers.old }
+    ensures same { SameFiles L.files layers.old layers.new }
     ensures cause { Counts (L.faults layers.old) (L.faults layers.new) (mode_failed result) }
 {
     match read_layers(alloc, layers) {
@@ -60,7 +60,7 @@ pub fn read_recipes<L: Layers>(
     ensures err { IfErr result (λ status. L.tells → IsRefusedAs status
         (project.read_recipes (sources_of (L.files layers.old)) (config_meant config.now))) }
     ensures refusal { IfErr result (λ status. is_refusal status ≡ true) }
-    ensures same { L.files layers.new ≡ L.files layers.old }
+    ensures same { SameFiles L.files layers.old layers.new }
     ensures cause { Counts (L.faults layers.old) (L.faults layers.new) (mode_failed result) }
 {
     let recipes = config.recipes.as_slice();

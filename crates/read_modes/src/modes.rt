@@ -1,7 +1,7 @@
 // The modes that only read metadata.
 ghost use Rattle.std.specs.Prelude.{◌≡◌, [], List, ℕ, true, Ok, IfOk, IfErr};
 ghost use Rattle.outside_traits.specs.Fault.{Counts};
-ghost use Rattle.outside_traits.specs.Store.{IsListing};
+ghost use Rattle.outside_traits.specs.Store.{IsListing, SameFiles};
 ghost use Rattle.load_model.specs.Loading.{sources_of};
 ghost use Rattle.layer_conf.specs.Config.{config_meant};
 ghost use Rattle.read_modes.specs.Modes as modes;
@@ -35,7 +35,7 @@ fn parsed<L: Layers>(alloc: Global, layers: &mut L, config: &Config) -> Result<T
     ensures err { IfErr result (λ status. L.tells → IsRefusedAs status
         (modes.parsed_over (sources_of (L.files layers.old)) (config_meant config.now))) }
     ensures refusal { IfErr result (λ status. is_refusal status ≡ true) }
-    ensures same { L.files layers.new ≡ L.files layers.old }
+    ensures same { SameFiles L.files layers.old layers.new }
     ensures cause { Counts (L.faults layers.old) (L.faults layers.new) (mode_failed result) }
 {
     match read_recipes(alloc, layers, config) {
@@ -51,7 +51,7 @@ fn versions<L: Layers>(alloc: Global, layers: &mut L, config: &Config) -> Result
     ensures err { IfErr result (λ status. L.tells → IsRefusedAs status
         (modes.versions_over (sources_of (L.files layers.old)) (config_meant config.now))) }
     ensures refusal { IfErr result (λ status. is_refusal status ≡ true) }
-    ensures same { L.files layers.new ≡ L.files layers.old }
+    ensures same { SameFiles L.files layers.old layers.new }
     ensures cause { Counts (L.faults layers.old) (L.faults layers.new) (mode_failed result) }
 {
     match read_recipes(alloc, layers, config) {
@@ -72,7 +72,7 @@ fn target_values<L: Layers>(
     ensures err { IfErr result (λ status. L.tells → IsRefusedAs status
         (modes.targets_over (sources_of (L.files layers.old)) (config_meant config.now) targets.now)) }
     ensures refusal { IfErr result (λ status. is_refusal status ≡ true) }
-    ensures same { L.files layers.new ≡ L.files layers.old }
+    ensures same { SameFiles L.files layers.old layers.new }
     ensures cause { Counts (L.faults layers.old) (L.faults layers.new) (mode_failed result) }
 {
     match read_recipes(alloc, layers, config) {
@@ -93,7 +93,7 @@ fn environment_of<L: Layers>(
     ensures err { IfErr result (λ status. L.tells → IsRefusedAs status
         (modes.environment_of (sources_of (L.files layers.old)) (config_meant config) targets.now)) }
     ensures refusal { IfErr result (λ status. is_refusal status ≡ true) }
-    ensures same { L.files layers.new ≡ L.files layers.old }
+    ensures same { SameFiles L.files layers.old layers.new }
     ensures cause { Counts (L.faults layers.old) (L.faults layers.new) (mode_failed result) }
 {
     match targets {
@@ -115,7 +115,7 @@ fn text_of<L: Layers>(
     ensures err { IfErr result (λ status. L.tells → IsRefusedAs status
         (modes.text_of mode (sources_of (L.files layers.old)) (config_meant config) targets.now)) }
     ensures refusal { IfErr result (λ status. is_refusal status ≡ true) }
-    ensures same { L.files layers.new ≡ L.files layers.old }
+    ensures same { SameFiles L.files layers.old layers.new }
     ensures cause { Counts (L.faults layers.old) (L.faults layers.new) (mode_failed result) }
 {
     match mode {
@@ -144,7 +144,7 @@ pub fn read_mode<L: Layers>(
     ensures err { IfErr result (λ status. L.tells → (paths : List (List ℕ)) → IsListing [] (L.files layers.old) paths
         → IsRefusedAs status (modes.mode_text mode (sources_of (L.files layers.old)) paths targets.now)) }
     ensures refusal { IfErr result (λ status. is_refusal status ≡ true) }
-    ensures same { L.files layers.new ≡ L.files layers.old }
+    ensures same { SameFiles L.files layers.old layers.new }
     ensures cause { Counts (L.faults layers.old) (L.faults layers.new) (mode_failed result) }
 {
     match read_config(alloc, layers) {

@@ -3,6 +3,7 @@ ghost use Rattle.std.specs.Prelude.{◌≡◌, ◌≤◌, ◌+◌, ◌++◌, ◌
 ghost use Rattle.std.specs.Map.{lookup};
 ghost use Rattle.std.specs.BTreeMap.{get_by_text, btree_map_len};
 ghost use Rattle.outside_traits.specs.Fault.{Counts};
+ghost use Rattle.outside_traits.specs.Store.{SameFiles};
 ghost use Rattle.load_model.specs.Loading.{sources_of};
 ghost use Rattle.load_model.specs.Recipes.{Recipe as Read, recipes_read};
 ghost use Rattle.load_model.specs.Facts as facts;
@@ -47,7 +48,7 @@ fn read_one<L: Layers>(
     ensures err { IfErr result (λ fault. L.tells → IsSetFault fault
         (file_read (sources_of (L.files layers.old)) known.now.config.now known.now.appends.now
         (file_meant file.now))) }
-    ensures same { L.files layers.new ≡ L.files layers.old }
+    ensures same { SameFiles L.files layers.old layers.new }
     ensures cause { Counts (L.faults layers.old) (L.faults layers.new) (set_failed result) }
 {
     match read_recipe(alloc, layers, known, file) {
@@ -76,7 +77,7 @@ fn read_each<L: Layers>(
     ensures err { IfErr result (λ fault. L.tells → IsSetFault fault
         (recipes_read (sources_of (L.files layers.old)) known.now.config.now known.now.appends.now
         (map file_meant files.now))) }
-    ensures same { L.files layers.new ≡ L.files layers.old }
+    ensures same { SameFiles L.files layers.old layers.new }
     ensures cause { Counts (L.faults layers.old) (L.faults layers.new) (set_failed result) }
 {
     let mut picks = BTreeMap::new(alloc);
@@ -101,7 +102,7 @@ fn read_files<L: Layers>(
     ensures err { IfErr result (λ fault. L.tells → IsSetFault fault
         (read_over (sources_of (L.files layers.old)) known.now.config.now (wished wishes) (map file_meant files.now)
         known.now.appends.now)) }
-    ensures same { L.files layers.new ≡ L.files layers.old }
+    ensures same { SameFiles L.files layers.old layers.new }
     ensures cause { Counts (L.faults layers.old) (L.faults layers.new) (set_failed result) }
 {
     let versions = versions_of(alloc, wishes.versions.as_slice())?;
@@ -123,7 +124,7 @@ fn read_under<L: Layers>(
         appends.now (wished wishes) ≡ Ok made) }
     ensures err { IfErr result (λ fault. L.tells → IsSetFault fault
         (set_under (sources_of (L.files layers.old)) config.now recipes.now appends.now (wished wishes))) }
-    ensures same { L.files layers.new ≡ L.files layers.old }
+    ensures same { SameFiles L.files layers.old layers.new }
     ensures cause { Counts (L.faults layers.old) (L.faults layers.new) (set_failed result) }
 {
     let files = files_of(alloc, recipes, appends)?;
@@ -156,7 +157,7 @@ fn read_sharing<L: Layers>(
         appends.now (wished wishes) ≡ Ok made) }
     ensures err { IfErr result (λ fault. L.tells → IsSetFault fault
         (set_under (sources_of (L.files layers.old)) config.now recipes.now appends.now (wished wishes))) }
-    ensures same { L.files layers.new ≡ L.files layers.old }
+    ensures same { SameFiles L.files layers.old layers.new }
     ensures cause { Counts (L.faults layers.old) (L.faults layers.new) (set_failed result) }
 {
     match shared_of(alloc, config) {
@@ -185,7 +186,7 @@ pub fn read_all<L: Layers>(
         recipes.now appends.now ≡ Ok made) }
     ensures err { IfErr result (λ fault. L.tells → IsSetFault fault
         (facts.recipe_set (sources_of (L.files layers.old)) config.now recipes.now appends.now)) }
-    ensures same { L.files layers.new ≡ L.files layers.old }
+    ensures same { SameFiles L.files layers.old layers.new }
     ensures cause { Counts (L.faults layers.old) (L.faults layers.new) (set_failed result) }
 {
     match wishes_of(alloc, config) {

@@ -2,6 +2,7 @@
 ghost use Rattle.std.specs.Prelude.{◌≡◌, Ok, IfOk, IfErr};
 ghost use Rattle.meta_model.specs.declared.line.Kind.TheVariants.{Recipe as RecipeFile};
 ghost use Rattle.outside_traits.specs.Fault.{Counts};
+ghost use Rattle.outside_traits.specs.Store.{SameFiles};
 ghost use Rattle.load_model.specs.Loading.{sources_of, with_lines, entries};
 ghost use Rattle.load_model.specs.Recipes as recipes;
 ghost use Rattle.class_inherit.specs.Faults.{IsLoadFault, load_failed};
@@ -27,7 +28,7 @@ fn with_classes<L: Layers>(
     ensures ok { IfOk result (λ made. L.tells → classes_read (sources_of (L.files layers.old)) reading ≡ Ok made) }
     ensures err { IfErr result (λ fault. L.tells → IsLoadFault fault
         (classes_read (sources_of (L.files layers.old)) reading)) }
-    ensures same { L.files layers.new ≡ L.files layers.old }
+    ensures same { SameFiles L.files layers.old layers.new }
     ensures cause { Counts (L.faults layers.old) (L.faults layers.new) (load_failed result) }
 {
     match reading.class(alloc, layers, "base", false) {
@@ -48,7 +49,7 @@ fn with_append<L: Layers>(
     ensures err { IfErr result (λ fault. L.tells → IsLoadFault fault
         (entries (sources_of (L.files layers.old)) RecipeFile append.now
         (with_lines (recipes.file_lines append.now) reading))) }
-    ensures same { L.files layers.new ≡ L.files layers.old }
+    ensures same { SameFiles L.files layers.old layers.new }
     ensures cause { Counts (L.faults layers.old) (L.faults layers.new) (load_failed result) }
 {
     match at_file(alloc, reading, append) {
@@ -68,7 +69,7 @@ fn with_appends<L: Layers>(
         ≡ Ok made) }
     ensures err { IfErr result (λ fault. L.tells → IsLoadFault fault
         (recipes.appended (sources_of (L.files layers.old)) appends.now first)) }
-    ensures same { L.files layers.new ≡ L.files layers.old }
+    ensures same { SameFiles L.files layers.old layers.new }
     ensures cause { Counts (L.faults layers.old) (L.faults layers.new) (load_failed result) }
 {
     let mut reading = first;
@@ -93,7 +94,7 @@ fn with_files<L: Layers>(
         reading ≡ Ok made) }
     ensures err { IfErr result (λ fault. L.tells → IsLoadFault fault
         (files_read (sources_of (L.files layers.old)) path.now appends.now reading)) }
-    ensures same { L.files layers.new ≡ L.files layers.old }
+    ensures same { SameFiles L.files layers.old layers.new }
     ensures cause { Counts (L.faults layers.old) (L.faults layers.new) (load_failed result) }
 {
     let own = match reading.file(alloc, layers, path, Kind::Recipe) {
@@ -123,7 +124,7 @@ pub(crate) fn loaded<L: Layers>(
         (name_meant name.now) appends.now ≡ Ok made) }
     ensures err { IfErr result (λ fault. L.tells → IsLoadFault fault
         (entries_with (sources_of (L.files layers.old)) config.now path.now (name_meant name.now) appends.now)) }
-    ensures same { L.files layers.new ≡ L.files layers.old }
+    ensures same { SameFiles L.files layers.old layers.new }
     ensures cause { Counts (L.faults layers.old) (L.faults layers.new) (load_failed result) }
 {
     let start = match start_of(alloc, config, path, name) {

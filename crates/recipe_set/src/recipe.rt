@@ -1,6 +1,7 @@
 // One recipe.
 ghost use Rattle.std.specs.Prelude.{◌≡◌, ◌++◌, Ok, List, ℕ, IfOk, IfErr, false};
 ghost use Rattle.outside_traits.specs.Fault.{Counts};
+ghost use Rattle.outside_traits.specs.Store.{SameFiles};
 ghost use Rattle.load_model.specs.LoadRefusal.{refused_as};
 ghost use Rattle.load_model.specs.Loading.{sources_of};
 ghost use Rattle.load_model.specs.Recipes as recipes;
@@ -154,7 +155,7 @@ fn reading_of<L: Layers>(
     ensures err { IfErr result (λ fault. L.tells → IsSetFault fault
         (refused_as recipes.load (recipes.recipe_entries (sources_of (L.files layers.old)) known.now.config.now
         file.now.0 (name_meant file.now.1) known.now.appends.now))) }
-    ensures same { L.files layers.new ≡ L.files layers.old }
+    ensures same { SameFiles L.files layers.old layers.new }
     ensures cause { Counts (L.faults layers.old) (L.faults layers.new) (set_failed result) }
 {
     let path = file.0.as_str();
@@ -181,7 +182,7 @@ pub(crate) fn read_recipe<L: Layers>(
     ensures err { IfErr result (λ fault. L.tells → IsSetFault fault
         (recipes.recipe_read (sources_of (L.files layers.old)) known.now.config.now known.now.appends.now file.now.0
         (name_meant file.now.1))) }
-    ensures same { L.files layers.new ≡ L.files layers.old }
+    ensures same { SameFiles L.files layers.old layers.new }
     ensures cause { Counts (L.faults layers.old) (L.faults layers.new) (set_failed result) }
 {
     match reading_of(alloc, layers, known, file) {

@@ -1,7 +1,7 @@
 // The plan of words.
 ghost use Rattle.std.specs.Prelude.{◌≡◌, [], List, ℕ, Ok, IfOk, IfErr, true, option_copied};
 ghost use Rattle.outside_traits.specs.Fault.{Counts};
-ghost use Rattle.outside_traits.specs.Store.{IsListing};
+ghost use Rattle.outside_traits.specs.Store.{IsListing, SameFiles};
 ghost use Rattle.project_reading.specs.Answered.{is_refusal, mode_failed};
 ghost use Rattle.run_targets.specs.Meaning.{asked_meant};
 ghost use Rattle.run_targets.specs.Runs.{HasRun};
@@ -32,7 +32,7 @@ fn plan_of<L: Layers>(
     ensures err { IfErr result (λ status. L.tells → IsNoPlanOf
         (plan_under force (L.files layers.old) found.now.asked.set found.now.graph found.now.threads) status) }
     ensures refusal { IfErr result (λ status. is_refusal status ≡ true) }
-    ensures same { L.files layers.new ≡ L.files layers.old }
+    ensures same { SameFiles L.files layers.old layers.new }
     ensures cause { Counts (L.faults layers.old) (L.faults layers.new) (mode_failed result) }
 {
     let set = &found.asked.set;
@@ -60,7 +60,7 @@ fn planned<L: Layers>(
     ensures err { IfErr result (λ status. L.tells → (paths : List (List ℕ)) → IsListing [] (L.files layers.old) paths
         → IsNoPlan (L.files layers.old) paths words.now (option_copied task.entry) force status) }
     ensures refusal { IfErr result (λ status. is_refusal status ≡ true) }
-    ensures same { L.files layers.new ≡ L.files layers.old }
+    ensures same { SameFiles L.files layers.old layers.new }
     ensures cause { Counts (L.faults layers.old) (L.faults layers.new) (mode_failed result) }
 {
     match find_run(alloc, layers, words, task) {
@@ -92,7 +92,7 @@ pub fn find_plan<L: Layers>(
     ensures sound { IfOk result IsSound }
     ensures spellings { IfOk result HasSpellings }
     ensures refusal { IfErr result (λ status. is_refusal status ≡ true) }
-    ensures same { L.files layers.new ≡ L.files layers.old }
+    ensures same { SameFiles L.files layers.old layers.new }
     ensures cause { Counts (L.faults layers.old) (L.faults layers.new) (mode_failed result) }
 {
     match planned(alloc, layers, words, task, force) {

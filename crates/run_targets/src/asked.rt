@@ -2,7 +2,7 @@
 ghost use Rattle.std.specs.Prelude.{◌≡◌, [], List, ℕ, true, false, Ok, IfOk, IfErr};
 ghost use Rattle.std.specs.Option.{option_copied};
 ghost use Rattle.outside_traits.specs.Fault.{Counts};
-ghost use Rattle.outside_traits.specs.Store.{IsListing};
+ghost use Rattle.outside_traits.specs.Store.{IsListing, SameFiles};
 ghost use Rattle.load_model.specs.Loading.{sources_of};
 ghost use Rattle.layer_conf.specs.Config.{config_meant};
 ghost use Rattle.project_reading.specs.Answered.{IsRefusedAs, is_refusal, mode_failed};
@@ -155,7 +155,7 @@ fn read_under<L: Layers>(
         (meant.asked_under (sources_of (L.files layers.old)) (config_meant config) words.now
         (option_copied task.entry))) }
     ensures refusal { IfErr result (λ status. is_refusal status ≡ true) }
-    ensures same { L.files layers.new ≡ L.files layers.old }
+    ensures same { SameFiles L.files layers.old layers.new }
     ensures cause { Counts (L.faults layers.old) (L.faults layers.new) (mode_failed result) }
 {
     match read_recipes(alloc, layers, &config) {
@@ -178,7 +178,7 @@ pub(crate) fn read_asked<L: Layers>(
         → IsRefusedAs status (meant.asked (sources_of (L.files layers.old)) paths words.now
         (option_copied task.entry))) }
     ensures refusal { IfErr result (λ status. is_refusal status ≡ true) }
-    ensures same { L.files layers.new ≡ L.files layers.old }
+    ensures same { SameFiles L.files layers.old layers.new }
     ensures cause { Counts (L.faults layers.old) (L.faults layers.new) (mode_failed result) }
 {
     match read_config(alloc, layers) {

@@ -2,6 +2,7 @@
 ghost use Rattle.std.specs.Prelude.{◌≡◌, ◌<◌, [], false, length, nat_eq, All, Ok, IfOk, IfErr};
 ghost use Rattle.std.specs.List.{list_any};
 ghost use Rattle.outside_traits.specs.Fault.{Counts};
+ghost use Rattle.outside_traits.specs.Store.{SameFiles};
 ghost use Rattle.plan_model.specs.Plans as plans;
 ghost use Rattle.task_plan.specs.Faults.{IsPlanFault, IsWantOfMemory, plan_failed};
 ghost use Rattle.task_plan.specs.Steps.{forced_tasks};
@@ -34,7 +35,7 @@ fn tasks_of<L: Layers>(
         nodes.now ≡ Ok made) }
     ensures err { IfErr result (λ fault. L.tells → IsPlanFault fault
         (forced_tasks (L.files layers.old) set.now plans.no_sums 0 forced.now nodes.now)) }
-    ensures same { L.files layers.new ≡ L.files layers.old }
+    ensures same { SameFiles L.files layers.old layers.new }
     ensures cause { Counts (L.faults layers.old) (L.faults layers.new) (plan_failed result) }
 {
     let mut kept = BTreeMap::new(alloc);
@@ -94,7 +95,7 @@ pub fn plan<L: Layers>(
         ≡ Ok made) }
     ensures err { IfErr result (λ fault. L.tells → IsPlanFault fault
         (plans.plan_of (L.files layers.old) set.now graph.now threads)) }
-    ensures same { L.files layers.new ≡ L.files layers.old }
+    ensures same { SameFiles L.files layers.old layers.new }
     ensures cause { Counts (L.faults layers.old) (L.faults layers.new) (plan_failed result) }
 {
     let nodes = graph.nodes.as_slice();
@@ -119,7 +120,7 @@ pub fn forced_plan<L: Layers>(
         ≡ Ok made) }
     ensures err { IfErr result (λ fault. L.tells → IsPlanFault fault
         (plans.forced_plan_of (L.files layers.old) set.now graph.now threads)) }
-    ensures same { L.files layers.new ≡ L.files layers.old }
+    ensures same { SameFiles L.files layers.old layers.new }
     ensures cause { Counts (L.faults layers.old) (L.faults layers.new) (plan_failed result) }
 {
     let nodes = graph.nodes.as_slice();

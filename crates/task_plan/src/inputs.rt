@@ -4,6 +4,7 @@ ghost use Rattle.tree_model.specs.declared.entry.Entry.TheVariants.{File as Plai
 ghost use Rattle.tree_model.specs.Overlay.{overlaid};
 ghost use Rattle.tree_model.specs.Path.{IsClean};
 ghost use Rattle.outside_traits.specs.Fault.{Counts};
+ghost use Rattle.outside_traits.specs.Store.{SameFiles};
 ghost use Rattle.load_model.specs.Paths as paths;
 ghost use Rattle.plan_model.specs.Sound.{IsOnePart};
 ghost use Rattle.plan_model.specs.Inputs as meant;
@@ -70,7 +71,7 @@ fn bytes_at<L: Layers>(
         (L.files layers.old path.now) ≡ Ok (paths.file_name path.now, Plain false bytes)) }
     ensures err { IfErr result (λ fault. L.tells → IsPlanFault fault
         (meant.input_there file.now word.now path.now (L.files layers.old path.now))) }
-    ensures same { L.files layers.new ≡ L.files layers.old }
+    ensures same { SameFiles L.files layers.old layers.new }
     ensures cause { Counts (L.faults layers.old) (L.faults layers.new) (plan_failed result) }
 {
     match layers.read(alloc, path, MOST_OF_INPUT) {
@@ -104,7 +105,7 @@ fn file_at<L: Layers>(
         (L.files layers.old path.now) ≡ Ok (made.0, Plain false made.1)) }
     ensures err { IfErr result (λ fault. L.tells → IsPlanFault fault
         (meant.input_there file.now word.now path.now (L.files layers.old path.now))) }
-    ensures same { L.files layers.new ≡ L.files layers.old }
+    ensures same { SameFiles L.files layers.old layers.new }
     ensures cause { Counts (L.faults layers.old) (L.faults layers.new) (plan_failed result) }
 {
     match bytes_at(alloc, layers, file, word, path) {
@@ -128,7 +129,7 @@ fn input_of<L: Layers>(
         ≡ Ok (made.0, Plain false made.1)) }
     ensures err { IfErr result (λ fault. L.tells → IsPlanFault fault
         (meant.input_of (L.files layers.old) file.now word.now)) }
-    ensures same { L.files layers.new ≡ L.files layers.old }
+    ensures same { SameFiles L.files layers.old layers.new }
     ensures cause { Counts (L.faults layers.old) (L.faults layers.new) (plan_failed result) }
 {
     match path_of(alloc, word) {
@@ -197,7 +198,7 @@ fn one_more<L: Layers>(
         word.now ≡ Ok (inputs_meant inputs.new)) }
     ensures err { IfErr result (λ fault. L.tells → IsPlanFault fault
         (meant.one_more (L.files layers.old) file.now (inputs_meant inputs.old) word.now)) }
-    ensures same { L.files layers.new ≡ L.files layers.old }
+    ensures same { SameFiles L.files layers.old layers.new }
     ensures cause { Counts (L.faults layers.old) (L.faults layers.new) (plan_failed result) }
 {
     match input_of(alloc, layers, file, word) {
@@ -218,7 +219,7 @@ fn take_word<L: Layers>(
         ≡ Ok (inputs_meant inputs.new)) }
     ensures err { IfErr result (λ fault. L.tells → IsPlanFault fault
         (word_taken (L.files layers.old) file.now (inputs_meant inputs.old) word.now)) }
-    ensures same { L.files layers.new ≡ L.files layers.old }
+    ensures same { SameFiles L.files layers.old layers.new }
     ensures cause { Counts (L.faults layers.old) (L.faults layers.new) (plan_failed result) }
 {
     match input_word(word) {
@@ -239,7 +240,7 @@ fn take_words<L: Layers>(
         (meant.input_words words.now) ≡ Ok (inputs_meant inputs.new)) }
     ensures err { IfErr result (λ fault. L.tells → IsPlanFault fault
         (meant.inputs_of (L.files layers.old) file.now (inputs_meant inputs.old) (meant.input_words words.now))) }
-    ensures same { L.files layers.new ≡ L.files layers.old }
+    ensures same { SameFiles L.files layers.old layers.new }
     ensures cause { Counts (L.faults layers.old) (L.faults layers.new) (plan_failed result) }
 {
     for word in words {
@@ -261,7 +262,7 @@ fn files_of<L: Layers>(
     ensures err { IfErr result (λ fault. L.tells → IsPlanFault fault
         (meant.inputs_of (L.files layers.old) file.now (record { tree = []; bytes = bytes })
         (meant.input_words words.now))) }
-    ensures same { L.files layers.new ≡ L.files layers.old }
+    ensures same { SameFiles L.files layers.old layers.new }
     ensures cause { Counts (L.faults layers.old) (L.faults layers.new) (plan_failed result) }
 {
     let mut inputs = Inputs {
@@ -287,7 +288,7 @@ pub(crate) fn task_inputs<L: Layers>(
         bytes ≡ Ok (inputs_meant made)) }
     ensures err { IfErr result (λ fault. L.tells → IsPlanFault fault
         (plans.task_inputs (L.files layers.old) file.now store.now task.now bytes)) }
-    ensures same { L.files layers.new ≡ L.files layers.old }
+    ensures same { SameFiles L.files layers.old layers.new }
     ensures cause { Counts (L.faults layers.old) (L.faults layers.new) (plan_failed result) }
 {
     match checksum_words(alloc, file, store, task) {

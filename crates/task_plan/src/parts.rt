@@ -1,6 +1,7 @@
 // What is worked out for a task.
 ghost use Rattle.std.specs.Prelude.{◌≡◌, IfOk, IfErr, Ok};
 ghost use Rattle.outside_traits.specs.Fault.{Counts};
+ghost use Rattle.outside_traits.specs.Store.{SameFiles};
 ghost use Rattle.script_gen.specs.Given.{IsKeyOf};
 ghost use Rattle.plan_model.specs.Plans as plans;
 ghost use Rattle.task_plan.specs.Faults.{IsPlanFault, plan_failed};
@@ -38,7 +39,7 @@ fn parts_with<L: Layers>(
         ≡ Ok (parts_meant made)) }
     ensures err { IfErr result (λ fault. L.tells → IsPlanFault fault
         (plans.parts_of (L.files layers.old) file.now keys.now task.now bytes)) }
-    ensures same { L.files layers.new ≡ L.files layers.old }
+    ensures same { SameFiles L.files layers.old layers.new }
     ensures cause { Counts (L.faults layers.old) (L.faults layers.new) (plan_failed result) }
 {
     let inputs = task_inputs(alloc, layers, file, keys.store(), task, bytes)?;
@@ -66,7 +67,7 @@ pub(crate) fn parts_of<L: Layers>(
     ensures err { IfErr result (λ fault. L.tells → IsPlanFault fault
         (plans.parts_of (L.files layers.old) file.now keys.old task.now bytes)) }
     ensures keys { keys.new ≡ keys.old }
-    ensures same { L.files layers.new ≡ L.files layers.old }
+    ensures same { SameFiles L.files layers.old layers.new }
     ensures cause { Counts (L.faults layers.old) (L.faults layers.new) (plan_failed result) }
 {
     let key = key_of(alloc, file, keys, task)?;

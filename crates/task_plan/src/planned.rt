@@ -4,6 +4,7 @@ ghost use Rattle.std.specs.Ordering.{nat_cmp};
 ghost use Rattle.std.specs.BTreeMap.{get};
 ghost use Rattle.std.specs.Map.{update};
 ghost use Rattle.outside_traits.specs.Fault.{Counts};
+ghost use Rattle.outside_traits.specs.Store.{SameFiles};
 ghost use Rattle.plan_model.specs.Plans as plans;
 ghost use Rattle.task_plan.specs.Faults.{IsPlanFault, plan_failed};
 ghost use Rattle.task_plan.specs.Steps.{IsFaultOfKeys};
@@ -121,7 +122,7 @@ fn planned<L: Layers>(
     ensures err { IfErr result (λ fault. L.tells → IsPlanFault fault
         (plans.planned (L.files layers.old) file.now keys.old node.now (sums_meant sums.old))) }
     ensures keys { keys.new ≡ keys.old }
-    ensures same { L.files layers.new ≡ L.files layers.old }
+    ensures same { SameFiles L.files layers.old layers.new }
     ensures cause { Counts (L.faults layers.old) (L.faults layers.new) (plan_failed result) }
 {
     match parts_of(
@@ -195,7 +196,7 @@ fn planned_with<'a, L: Layers>(
         (sums_meant sums.old) ≡ Ok (record { task = task; sums = sums_meant sums.new })) }
     ensures err { IfErr result (λ fault. L.tells → IsPlanFault fault
         (plans.planned (L.files layers.old) file.now keys.entry node.now (sums_meant sums.old))) }
-    ensures same { L.files layers.new ≡ L.files layers.old }
+    ensures same { SameFiles L.files layers.old layers.new }
     ensures cause { Counts (L.faults layers.old) (L.faults layers.new) (plan_failed result) }
 {
     let mut keys = keys;
@@ -233,7 +234,7 @@ pub(crate) fn planned_node<'a, L: Layers>(
         (sums_meant sums.old) ≡ Ok (record { task = task; sums = sums_meant sums.new })) }
     ensures err { IfErr result (λ fault. L.tells → IsPlanFault fault
         (plans.planned_node (L.files layers.old) set.now node.now (sums_meant sums.old))) }
-    ensures same { L.files layers.new ≡ L.files layers.old }
+    ensures same { SameFiles L.files layers.old layers.new }
     ensures cause { Counts (L.faults layers.old) (L.faults layers.new) (plan_failed result) }
 {
     let file = file_of(set, node.recipe);
