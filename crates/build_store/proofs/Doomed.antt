@@ -6,9 +6,9 @@ use Rattle.std.proofs.lemmas.Bool.{false≢true}
 use Rattle.std.proofs.lemmas.List.{take_more}
 use Rattle.std.proofs.lemmas.List.Elements.{Contains-append_left, Contains-append_right, Contains-append_cases, Contains-push, Contains-push_cases}
 use Rattle.tree_model.specs.declared.entry.Entry.{Entry}
-use Rattle.tree_model.specs.Path.{inside}
+use Rattle.tree_model.specs.Path.{BeginsWith, inside}
 use Rattle.tree_model.specs.Hash.{hash_text}
-use Rattle.outside_traits.specs.Store.{BeginsWith, ChangesAt, IsListing, Store}
+use Rattle.outside_traits.specs.Store.{ChangesAt, IsListing, Store}
 use Rattle.outside_traits.specs.Story.{Story}
 use Rattle.outside_traits.specs.Answers.{Removes}
 use Rattle.outside_traits.proofs.Held.{removed_none, removes_ok}

@@ -5,9 +5,9 @@ use Rattle.std.specs.Option.{is_some}
 use Rattle.std.specs.List.{AllByRecursion}
 use Rattle.std.proofs.lemmas.Bool.{cases_eq, false≢true}
 use Rattle.std.proofs.lemmas.Option.{get_or_from_slice_get, slice_get-get_or}
-use Rattle.tree_model.specs.Path.{IsAtOrBelow, inside}
+use Rattle.tree_model.specs.Path.{BeginsWith, IsAtOrBelow, inside}
 use Rattle.tree_model.specs.Hash.{hash_text}
-use Rattle.outside_traits.specs.Store.{BeginsWith, Store}
+use Rattle.outside_traits.specs.Store.{Store}
 use Rattle.outside_traits.specs.Story.{IsImage, Story}
 use Rattle.outside_traits.specs.Passes.{Passes, Same}
 use Rattle.outside_traits.proofs.Calls.{same_then}

@@ -14,9 +14,9 @@ use Rattle.std.proofs.lemmas.Option.{get_or_from_slice_get, slice_get-get_or}
 use Rattle.std.proofs.Math.Seq.{get_or-append_seam}
 use Rattle.tree_model.specs.declared.entry.Entry.{Entry}
 use Rattle.tree_model.specs.declared.entry.Entry.TheVariants.{File}
-use Rattle.tree_model.specs.Path.{inside}
+use Rattle.tree_model.specs.Path.{BeginsWith, inside}
 use Rattle.tree_model.specs.Hash.{hash_text}
-use Rattle.outside_traits.specs.Store.{BeginsWith, IsListing, Store}
+use Rattle.outside_traits.specs.Store.{IsListing, Store}
 use Rattle.store_model.specs.Spelling.{name_of, record_bytes}
 use Rattle.store_model.proofs.Digests.{same_name_text}
 use Rattle.store_model.proofs.Ordered.{each_append, each_weaker}

@@ -4,9 +4,9 @@ use Rattle.std.specs.List.{AllByRecursion}
 use Rattle.std.specs.List.Sorted.{IsStrictlySortedBy}
 use Rattle.std.specs.Ordering.{nat_cmp}
 use Rattle.std.specs.Cmp.Lexicographic.{slice_cmp}
-use Rattle.tree_model.specs.Path.{inside}
+use Rattle.tree_model.specs.Path.{BeginsWith, inside}
 use Rattle.tree_model.specs.declared.entry.Entry.{Entry}
-use Rattle.outside_traits.specs.Store.{BeginsWith, Store}
+use Rattle.outside_traits.specs.Store.{Store}
 use Rattle.store_model.specs.Spelling.{name_of, record_bytes}
 use Rattle.sig_gen.specs.Stored.{SpellsStored}
 use Rattle.record_belief.specs.declared.candidate.Candidate.{Candidate}

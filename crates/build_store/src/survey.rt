@@ -1,7 +1,7 @@
 // What opening a disk finds and what it is to take away.
 ghost use Rattle.std.specs.Prelude.{◌≡◌, ◌++◌, ◌<◌, ◌^◌, Contains, IfOk, IsSome, List, None, OnOk, codes, is_some, ◌∷◌, [], length, ℕ};
 ghost use Rattle.std.specs.List.{AllByRecursion};
-ghost use Rattle.outside_traits.specs.Store.{BeginsWith};
+ghost use Rattle.tree_model.specs.Path.{BeginsWith};
 ghost use Rattle.outside_traits.specs.Fault.{Counts, disk_failed};
 ghost use Rattle.outside_traits.specs.Passes.{Passes, Same};
 ghost use Rattle.record_belief.specs.Believed.{Ascend, AreBelieved};

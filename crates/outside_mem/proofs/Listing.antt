@@ -24,7 +24,8 @@ use Rattle.std.proofs.lemmas.Slice.Eq.{bytes_eq-Decides}
 use Rattle.std.proofs.lemmas.Map.Text.{is_eq-slice_cmp}
 use Rattle.std.specs.Borrow.{Bor}
 use Rattle.std.specs.Map.Iter.{deref_pair}
-use Rattle.outside_traits.specs.Store.{BeginsWith, IsListing}
+use Rattle.tree_model.specs.Path.{BeginsWith}
+use Rattle.outside_traits.specs.Store.{IsListing}
 use Rattle.outside_traits.proofs.Puts.{bool_cases}
 
 -- entries of a map by text
@@ -115,6 +116,19 @@ begins_with prefix q holds =
 -- the test of a prefix passes
 pub starts : (prefix q : List ℕ) → BeginsWith prefix q → starts_with nat_eq q prefix ≡ true
 starts prefix q begins = (bytes_eq-Decides prefix (take (length prefix) q)).1 (sym (ap (λ (l : List ℕ). take (length prefix) l) begins.1 ∙ take_at prefix begins.0 (length prefix) refl))
+
+-- ... and fails of any other
+pub starts_not : (prefix q : List ℕ) → (BeginsWith prefix q → ⊥) → starts_with nat_eq q prefix ≡ false
+starts_not prefix q unlike = elim (bool_cases (starts_with nat_eq q prefix)) [
+  | inl yes' ↦ absurd (unlike (begins_with prefix q yes'))
+  | inr fails ↦ fails
+  ]
+
+-- one more that begins with the prefix is picked behind the others
+pub picked_more : (prefix : List ℕ) (qs : List (List ℕ)) (q : List ℕ) → BeginsWith prefix q → picked prefix (qs ++ q ∷ []) ≡ picked prefix qs ++ q ∷ []
+picked_more prefix qs q begins =
+    filter-append (λ x. starts_with nat_eq x prefix) qs (q ∷ [])
+    ∙ ap (λ (b : Bool). picked prefix qs ++ cond b (q ∷ []) []) (starts prefix q begins)
 
 -- the picked names of an ordered map are the listing
 pub picked_listing : (prefix : List ℕ) (m : BTreeMap (String Global) (List ℕ)) → IsOrdered string_cmp m → IsListing prefix (get_by_text m) (picked prefix (names m.entries))

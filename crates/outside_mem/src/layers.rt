@@ -1,7 +1,6 @@
 // Files of metadata in memory.
-ghost use Rattle.std.specs.Prelude.{◌≡◌, ◌<◌, ◌≤◌, List, ℕ, IfOk, IfSome, IsSome, IsSomeAnd, false, IsErrOf, OnOk, length, map, nat_eq};
+ghost use Rattle.std.specs.Prelude.{◌≡◌, ◌<◌, ◌≤◌, List, ℕ, IfOk, IfSome, IsSome, IsSomeAnd, false, IsErrOf, OnOk, length, map};
 ghost use Rattle.std.specs.BTreeMap.{get_by_text};
-ghost use Rattle.std.specs.List.{starts_with};
 ghost use Rattle.tree_model.specs.Path.{IsClean};
 ghost use Rattle.outside_traits.specs.Fault.{Counts, read_failed};
 ghost use Rattle.outside_traits.specs.Store.{IsListing};
@@ -11,7 +10,7 @@ use crate::plan::{FaultPlan, count_fault};
 use outside_traits::{Layers, ReadFault};
 use std::alloc::Global;
 use std::collections::BTreeMap;
-use tree_model::{Bytes, Mem, Text, Texts, is_clean};
+use tree_model::{Bytes, Mem, Text, Texts, begins_with, is_clean};
 
 /// Layers that hold files in memory. They never change, and never fail.
 #[derive(Drop)]
@@ -193,17 +192,10 @@ fn listed(alloc: Global, files: &BTreeMap<String, Bytes>, prefix: &str) -> Resul
 {
     let mut found = Texts::new(alloc);
     for (path, _) in files.range(String::from_str(alloc, prefix)?..) {
-        if !begins(path.as_str(), prefix) {
+        if !begins_with(path.as_str(), prefix) {
             break;
         }
         found.push(Text::from_str(alloc, path.as_str())?)?;
     }
     Ok(found)
-}
-
-/// Whether the path begins with the prefix.
-fn begins(path: &str, prefix: &str) -> bool
-    ensures { result ≡ starts_with nat_eq path.now prefix.now }
-{
-    path.starts_with(prefix)
 }

@@ -5,7 +5,7 @@ use Rattle.std.specs.List.Sorted.{IsStrictlySortedBy}
 use Rattle.std.specs.Cmp.Lexicographic.{slice_cmp}
 use Rattle.std.specs.Str.{bytes_eq}
 use Rattle.tree_model.specs.declared.entry.Entry.{Entry}
-use Rattle.tree_model.specs.Path.{IsBelow, inside}
+use Rattle.tree_model.specs.Path.{BeginsWith, IsBelow, inside}
 use Rattle.tree_model.specs.Tree.{entry_at}
 
 -- what each path holds
@@ -34,10 +34,6 @@ pub record Moves (from to : List ℕ) (x : Option Entry) (old new : Store) : Typ
   pub others : (q : List ℕ) → q ≢ from → q ≢ to → new q ≡ old q
   pub source : (new from ≡ old from) ⊎ (new from ≡ None)
   pub target : (new to ≡ old to) ⊎ (new to ≡ x)
-
--- a text that begins with the prefix
-abbrev pub BeginsWith : List ℕ → List ℕ → Type 0
-BeginsWith prefix q = (rest : List ℕ) × (q ≡ prefix ++ rest)
 
 -- just the paths with the prefix at which something is held, each once, in byte order
 pub record IsListing {V : Type 0} (prefix : List ℕ) (held : List ℕ → Option V) (paths : List (List ℕ)) : Type 0 where

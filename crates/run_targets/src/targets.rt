@@ -1,6 +1,5 @@
 // The targets that words name.
 ghost use Rattle.std.specs.Prelude.{◌≡◌, true, false, Ok, IfOk, IfErr};
-ghost use Rattle.meta_model.specs.Text.{begins_with as begins};
 ghost use Rattle.project_reading.specs.Answered.{IsRefusedAs, is_refusal, mode_failed};
 ghost use Rattle.run_targets.specs.Targets as targets;
 ghost use Rattle.run_targets.specs.Asked as asked;
@@ -10,18 +9,11 @@ use project_reading::{nothing_provides, or_status};
 use std::alloc::Global;
 use tree_model::{Mem, Text};
 
-/// Whether the text begins with the front.
-fn begins_with(text: &str, front: &str) -> bool
-    ensures { result ≡ begins front.now text.now }
-{
-    text.as_bytes().starts_with(front.as_bytes())
-}
-
 /// Whether a word asks for another configuration: it begins with `mc:`, which nothing provides until several are built (own rule).
 pub fn is_elsewhere(word: &str) -> bool
     ensures { result ≡ targets.is_elsewhere word.now }
 {
-    begins_with(word, "mc:")
+    word.as_bytes().starts_with(b"mc:")
 }
 
 /// The name of a target: what stands before its first colon, or the whole word.
@@ -38,7 +30,7 @@ pub fn target_name(word: &str) -> &str
 fn task_named(alloc: Global, name: &str) -> Result<Text, Mem>
     ensures { IfOk result (λ made. made ≡ targets.task_named name.now) }
 {
-    if begins_with(name, "do_") {
+    if name.as_bytes().starts_with(b"do_") {
         return Text::from_str(alloc, name);
     }
     let mut made = Text::from_str(alloc, "do_")?;

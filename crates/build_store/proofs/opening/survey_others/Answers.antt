@@ -1,7 +1,8 @@
 use Rattle.std.proofs.Common.{◌∙◌, subst}
 use Rattle.std.proofs.lemmas.Result.{on_ok_weaker}
 use Rattle.std.specs.Prelude.{codes}
-use Rattle.outside_traits.specs.Store.{BeginsWith, Store}
+use Rattle.tree_model.specs.Path.{BeginsWith}
+use Rattle.outside_traits.specs.Store.{Store}
 use Rattle.build_store.specs.Survey.{Dooms, IsAt}
 use Rattle.build_store.proofs.Opened.{dooms_areas}
 use Rattle.build_store.proofs.opening.survey_others.Goals as goal
