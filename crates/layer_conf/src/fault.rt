@@ -18,9 +18,9 @@ pub enum LayerFault {
     NoSuchLayer { path: Text },
     /// A word of BBFILES with `[`.
     BadPattern { word: Text },
-    /// A file isn't loaded. Its kind is `Read` only where the layers' count of faults rose; it is never want of memory.
+    /// A file isn't loaded. Its kind is `Read` only where the layers' count of faults rose.
     Load(LoadFault),
-    /// BBLAYERS or BBFILES can't be expanded; it is never want of memory.
+    /// BBLAYERS or BBFILES can't be expanded.
     Data(DataFault),
     /// The files can't be listed; the layers' count of faults rose.
     List,

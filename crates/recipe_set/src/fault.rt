@@ -18,11 +18,11 @@ pub enum SetFault {
     BadName { file: Text },
     /// The append belongs to no recipe.
     DanglingAppend { file: Text },
-    /// A file isn't loaded. Its kind is `Read` only where the layers' count of faults rose; it is never want of memory.
+    /// A file isn't loaded. Its kind is `Read` only where the layers' count of faults rose.
     Load(LoadFault),
     /// There are more than 2,000 recipe files.
     Recipes,
-    /// A value of the file, or where the file is empty of the configuration, can't be given; it is never want of memory.
+    /// A value of the file, or where the file is empty of the configuration, can't be given.
     Data { file: Text, fault: DataFault },
     /// Memory ran out.
     Memory,

@@ -16,7 +16,7 @@ pub enum ScriptFault {
     /// `[sstate-inputdirs]` or `[sstate-outputdirs]` one that, without a `${WORKDIR}/` in front, is neither `.` nor such a path, or
     /// the first one without a partner.
     BadFlag { flag: Text, word: Text },
-    /// A value that is asked for isn't given. It is never want of memory.
+    /// A value that is asked for isn't given.
     Data(DataFault),
     /// Memory ran out.
     Memory,

@@ -19,7 +19,7 @@ pub enum PlanFault {
     /// A word of a flag of one of the recipe's tasks can't be used; `script_gen` says which words.
     #[error("{}: [{}] can't have {}", .file.as_str(), .flag.as_str(), .word.as_str())]
     BadFlag { file: Text, flag: Text, word: Text },
-    /// A text of the recipe can't be expanded; it is never want of memory.
+    /// A text of the recipe can't be expanded.
     #[error("{}: {fault:?}", .file.as_str())]
     Data { file: Text, fault: DataFault },
     /// A word of `[file-checksums]` names no file; it is the word without `:True`.
