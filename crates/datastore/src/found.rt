@@ -212,7 +212,12 @@ impl Maps {
         text: Text,
         removes: Texts,
     ) -> Result<Option<Resolved>, Mem>
-        ensures { IfOk result (λ made. made ≡ Some (record { text = text; removes = removes; flags = told_flag (named_at self.now name.now) (codes "export") ++ told_flag (named_at self.now name.now) (codes "func") })) }
+        ensures { IfOk result (λ made. made ≡ Some (record {
+          text = text;
+          removes = removes;
+          flags = told_flag (named_at self.now name.now) (codes "export")
+              ++ told_flag (named_at self.now name.now) (codes "func");
+        })) }
     {
         let flags = self.told_flags(alloc, name)?;
         Ok(Some(Resolved {

@@ -44,7 +44,16 @@ fn facts_made(
     packages: ListOf<Package>,
     tasks: ListOf<TaskFacts>,
 ) -> Result<RecipeFacts, Mem>
-    ensures { IfOk result (λ made. made ≡ record { file = recipe.now.file; pn = recipe.now.pn; pv = recipe.now.pv; pr = recipe.now.pr; provides = provides; depends = depends; packages = packages; tasks = tasks }) }
+    ensures { IfOk result (λ made. made ≡ record {
+      file = recipe.now.file;
+      pn = recipe.now.pn;
+      pv = recipe.now.pv;
+      pr = recipe.now.pr;
+      provides = provides;
+      depends = depends;
+      packages = packages;
+      tasks = tasks;
+    }) }
 {
     let (file, pn) = pair_of(&recipe.file, &recipe.pn)?;
     let (pv, pr) = pair_of(&recipe.pv, &recipe.pr)?;

@@ -61,7 +61,11 @@ fn package_made(
     provided: &Texts,
     provides: &Texts,
 ) -> Result<Package, Mem>
-    ensures { IfOk result (λ made. made ≡ record { name = name.now; rdepends = needed.now ++ needs.now; rprovides = provided.now ++ provides.now }) }
+    ensures { IfOk result (λ made. made ≡ record {
+      name = name.now;
+      rdepends = needed.now ++ needs.now;
+      rprovides = provided.now ++ provides.now;
+    }) }
 {
     let name = Text::from_str(alloc, name)?;
     let rdepends = with_all(needed, needs)?;

@@ -55,7 +55,14 @@ fn task_made(
     rdeptask: Texts,
     recrdeptask: Texts,
 ) -> Result<TaskFacts, Mem>
-    ensures { IfOk result (λ made. made ≡ record { task = task.now; after = after.now; depends = map facts.named_task depends.now; deptask = deptask; rdeptask = rdeptask; recrdeptask = recrdeptask }) }
+    ensures { IfOk result (λ made. made ≡ record {
+      task = task.now;
+      after = after.now;
+      depends = map facts.named_task depends.now;
+      deptask = deptask;
+      rdeptask = rdeptask;
+      recrdeptask = recrdeptask;
+    }) }
 {
     let depends = named_tasks(alloc, depends)?;
     let task = task.copy()?;

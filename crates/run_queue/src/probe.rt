@@ -105,9 +105,13 @@ impl<D: Disk, E: Before> Probe for Asking<'_, D, E> {
 
     ghost view = { λ p. record { plan = p.plan.now; rows = p.store.now.rows } };
 
-    ghost says = { λ p. kept_or_meant E.earlier D.tells (D.story p.store.now.disk).held p.store.now.rows p.setscene p.plan.now.tasks p.begun.now };
+    ghost says = { λ p. kept_or_meant E.earlier D.tells (D.story p.store.now.disk).held p.store.now.rows p.setscene
+        p.plan.now.tasks p.begun.now };
 
-    ghost Stays = { λ a b. (b.plan.now ≡ a.plan.now) × (b.begun.now ≡ a.begun.now) × (b.setscene ≡ a.setscene) × (b.store.ghost_name ≡ a.store.ghost_name) × (b.fault.ghost_name ≡ a.fault.ghost_name) × Asks D.tells D.story D.faults a.store.now b.store.now a.fault.now b.fault.now };
+    ghost Stays = { λ a b.
+        (b.plan.now ≡ a.plan.now) × (b.begun.now ≡ a.begun.now) × (b.setscene ≡ a.setscene)
+        × (b.store.ghost_name ≡ a.store.ghost_name) × (b.fault.ghost_name ≡ a.fault.ghost_name)
+        × Asks D.tells D.story D.faults a.store.now b.store.now a.fault.now b.fault.now };
 
     ghost asked = { λ p. 0 };
 
@@ -144,13 +148,25 @@ impl<D: Disk, E: Before> Probe for Asking<'_, D, E> {
         }
     }
 
-    ghost stays_itself = { λ p. (refl, refl, refl, refl, refl, asks_itself D.tells D.story D.faults p.store.now p.fault.now) };
+    ghost stays_itself = { λ p.
+        (refl, refl, refl, refl, refl, asks_itself D.tells D.story D.faults p.store.now p.fault.now) };
 
-    ghost stays_on = { λ a b c first second. (second.0 ∙ first.0, second.1 ∙ first.1, second.2 ∙ first.2, second.3 ∙ first.3, second.4 ∙ first.4, asks_on D.tells D.story D.faults a.store.now b.store.now c.store.now a.fault.now b.fault.now c.fault.now first.5 second.5) };
+    ghost stays_on = { λ a b c first second. (
+      second.0 ∙ first.0,
+      second.1 ∙ first.1,
+      second.2 ∙ first.2,
+      second.3 ∙ first.3,
+      second.4 ∙ first.4,
+      asks_on D.tells D.story D.faults a.store.now b.store.now c.store.now a.fault.now b.fault.now c.fault.now
+          first.5 second.5,
+    ) };
 
-    ghost says_stays = { λ a b stays. kept_or_meant_follows E.earlier D.tells (D.story b.store.now.disk).held (D.story a.store.now.disk).held b.store.now.rows a.store.now.rows b.setscene a.setscene b.plan.now.tasks a.plan.now.tasks b.begun.now a.begun.now (λ tells. (stays.5.images tells).held) stays.5.rows stays.2 (ap (λ (p : ThePlan). p.tasks) stays.0) stays.1 };
+    ghost says_stays = { λ a b stays. kept_or_meant_follows E.earlier D.tells
+        (λ tells. (stays.5.images tells).held) stays.5.rows stays.2 (ap (λ (p : ThePlan). p.tasks) stays.0) stays.1 };
 
-    ghost says_still = { λ a b stays. kept_or_meant_follows E.earlier D.tells (D.story a.store.now.disk).held (D.story b.store.now.disk).held a.store.now.rows b.store.now.rows a.setscene b.setscene a.plan.now.tasks b.plan.now.tasks a.begun.now b.begun.now (λ tells. sym (stays.5.images tells).held) (sym stays.5.rows) (sym stays.2) (ap (λ (p : ThePlan). p.tasks) (sym stays.0)) (sym stays.1) };
+    ghost says_still = { λ a b stays. kept_or_meant_follows E.earlier D.tells
+        (λ tells. sym (stays.5.images tells).held) (sym stays.5.rows) (sym stays.2)
+        (ap (λ (p : ThePlan). p.tasks) (sym stays.0)) (sym stays.1) };
 }
 
 /// What a run knows of a plan's tasks, asked of a store that had met no fault.

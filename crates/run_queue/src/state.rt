@@ -68,9 +68,33 @@ impl<D: Disk, W: Sink> Model for RunState<D, W> {
     ghost use Rattle.run_queue.specs.Keeps.{HasRoom, IsState};
     ghost use Rattle.run_queue.specs.Seen.{known_in, no_meaning};
 
-    ghost view = { λ s. record { plan = s.plan; options = s.options; store = s.store; sink = s.sink; sink_failed = s.sink_failed; fault = s.fault; tale = s.tale.items; begun = s.begun.items; known = option_map known_in s.replan } };
+    ghost view = { λ s. record {
+      plan = s.plan;
+      options = s.options;
+      store = s.store;
+      sink = s.sink;
+      sink_failed = s.sink_failed;
+      fault = s.fault;
+      tale = s.tale.items;
+      begun = s.begun.items;
+      known = option_map known_in s.replan;
+    } };
 
-    ghost invariant = { λ s. HasRoom (vec_capacity s.tale) (length s.tale.items) (fates_told (length s.plan.tasks) s.tale.items) × (s.board ≡ fates_told (length s.plan.tasks) s.tale.items) × IfSome s.replan (IsCurrent no_meaning (record { plan = s.plan; rows = s.store.rows })) × IsState (D.faults s.store.disk) (record { plan = s.plan; options = s.options; store = s.store; sink = s.sink; sink_failed = s.sink_failed; fault = s.fault; tale = s.tale.items; begun = s.begun.items; known = option_map known_in s.replan }) };
+    ghost invariant = { λ s.
+        HasRoom (vec_capacity s.tale) (length s.tale.items) (fates_told (length s.plan.tasks) s.tale.items)
+        × (s.board ≡ fates_told (length s.plan.tasks) s.tale.items)
+        × IfSome s.replan (IsCurrent no_meaning (record { plan = s.plan; rows = s.store.rows }))
+        × IsState (D.faults s.store.disk) (record {
+          plan = s.plan;
+          options = s.options;
+          store = s.store;
+          sink = s.sink;
+          sink_failed = s.sink_failed;
+          fault = s.fault;
+          tale = s.tale.items;
+          begun = s.begun.items;
+          known = option_map known_in s.replan;
+        }) };
 }
 
 /// Writes the line of an event, unless the sink has failed, and says whether it has failed now.

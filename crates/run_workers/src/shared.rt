@@ -57,7 +57,8 @@ impl<K: Began, D: Disk, W: Sink> Model for Shared<K, D, W> {
 
     ghost view = { λ s. record { state = s.state; printed = s.printed; whole = s.whole } };
 
-    ghost invariant = { λ s. Kept D.tells W.tells K.alike D.story W.written W.faults K.first K.faults K.gives (record { state = s.state; printed = s.printed; whole = s.whole }) };
+    ghost invariant = { λ s. Kept D.tells W.tells K.alike D.story W.written W.faults K.first K.faults K.gives
+        (record { state = s.state; printed = s.printed; whole = s.whole }) };
 }
 
 impl<K: Began, D: Disk, W: Sink> Story for Shared<K, D, W> {
