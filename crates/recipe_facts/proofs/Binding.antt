@@ -10,7 +10,8 @@ use Rattle.datastore.specs.declared.fault.DataFault.{DataFault}
 use Rattle.datastore.specs.declared.fault.DataFault.TheVariants.{Unstable, Expand, Memory}
 use Rattle.datastore.specs.Faults.{IsDataFault, IsWantOfMemory, data_refusal}
 use Rattle.meta_model.specs.Passing.{◌>>=◌, behind, IsRefused}
-use Rattle.meta_model.proofs.Passing.{IsInTurn, goes_on, refused_on, one_refused}
+use Rattle.meta_model.proofs.Passing.{IsInTurn, goes_on, one_refused}
+use Rattle.datastore.proofs.Freezing.{fault_same}
 
 said_expand : {A : Type 0} (fault : ExpandFault) (m : Result A Refusal) → IsFaultOf fault m → IsRefused (data_refusal (Expand fault)) m
 said_expand (expand.ValueCycle name) m h = h
@@ -35,12 +36,6 @@ pub says : {A : Type 0} (fault : DataFault) (m : Result A Refusal) → IsRefused
 says (Unstable before last) m h = h
 says (Expand fault) m h = says_expand fault m h
 says Memory m h = tt
-
-pub fault_on : {A B : Type 0} (fault : DataFault) (m : Result A Refusal) (f : A → Result B Refusal) → IsDataFault fault m → IsDataFault fault (m >>= f)
-fault_on fault m f h = says fault (m >>= f) (refused_on (data_refusal fault) m f (said fault m h))
-
-pub fault_same : {A : Type 0} (fault : DataFault) (m n : Result A Refusal) → m ≡ n → IsDataFault fault n → IsDataFault fault m
-fault_same fault m n e h = subst (IsDataFault fault) (sym e) h
 
 -- a fault of what follows an answer is one of the whole
 pub fault_later : {A B : Type 0} (fault : DataFault) (m : Result A Refusal) (a : A) (f : A → Result B Refusal) → m ≡ Ok a → IsDataFault fault (f a) → IsDataFault fault (m >>= f)

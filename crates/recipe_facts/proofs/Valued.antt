@@ -15,7 +15,7 @@ use Rattle.load_model.specs.LoadRefusal.{◌>>=◌}
 use Rattle.load_model.specs.Facts.{with_value, values_behind, valued_names, environment}
 use Rattle.meta_model.specs.Passing.{behind}
 use Rattle.meta_model.proofs.Passing.{behind_more, next_of}
-use Rattle.recipe_facts.proofs.Binding.{fault_on, fault_same}
+use Rattle.datastore.proofs.Freezing.{fault_on, fault_same}
 
 pub cut_front : (front name : List ℕ) (r : Option (Bor (List ℕ))) → MatchOption r (FindsTextPrefix front name None) (λ x. (n : ℕ) × FindsTextPrefix front name (Some n) × (x.now ≡ drop n name) × (length x.now + n ≡ length name))
     → MatchOption r (begins_with front name ≡ false) (λ key. (begins_with front name ≡ true) × (key.now ≡ drop (length front) name))

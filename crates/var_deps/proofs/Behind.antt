@@ -13,7 +13,8 @@ use Rattle.task_model.specs.Views.{is_function}
 use Rattle.task_model.specs.Leads.{all_looked_up, functions_of}
 use Rattle.var_deps.specs.Reading.{function_named, flag_looked_up}
 use Rattle.meta_model.specs.Passing.{behind}
-use Rattle.var_deps.proofs.Passing.{fault_on, fault_same, no_fault}
+use Rattle.var_expand.proofs.Expanding.{fault_on, fault_same}
+use Rattle.var_deps.proofs.Passing.{no_fault}
 
 abbrev pub Names : Type 0
 Names = List (List ℕ)

@@ -13,7 +13,7 @@ use Rattle.datastore.specs.Faults.{IsDataFault, IsWantOfMemory, told_as}
 use Rattle.task_model.specs.Leads.{value_words}
 use Rattle.task_model.specs.Keys.{key, key_over}
 use Rattle.task_model.proofs.Leaders.{store_view}
-use Rattle.var_deps.proofs.Passing.{fault_on}
+use Rattle.var_expand.proofs.Expanding.{fault_on}
 use Rattle.meta_model.proofs.Passing.{goes_on}
 
 pub data_fault_on : {A B : Type 0} (fault : DataFault) (m : Result A Refusal) (f : A → Result B Refusal) → IsDataFault fault m → IsDataFault fault (m >>= f)

@@ -12,7 +12,7 @@ use Rattle.task_model.specs.Keys.{Told, names_led}
 use Rattle.var_deps.specs.declared.line.Known.{Known}
 use Rattle.var_deps.specs.Reading.{led_behind, line_behind, view_by}
 use Rattle.var_deps.specs.Known.{IsLine, IsKnown, read_led, read_line}
-use Rattle.var_deps.proofs.Passing.{fault_on, fault_same}
+use Rattle.var_expand.proofs.Expanding.{fault_on, fault_same}
 use Rattle.meta_model.proofs.Passing.{goes_on}
 use Rattle.var_deps.proofs.Tables.{found_once}
 

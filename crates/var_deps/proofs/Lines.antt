@@ -18,7 +18,8 @@ use Rattle.task_model.proofs.KeyNames.{over_view, one_least}
 use Rattle.var_deps.specs.Seen.{seen_with}
 use Rattle.var_deps.specs.Reading.{view_by}
 use Rattle.var_deps.specs.Kept.{key_behind, one_line}
-use Rattle.var_deps.proofs.Passing.{fault_on, fault_same, no_fault, refused_any}
+use Rattle.var_expand.proofs.Expanding.{fault_on, fault_same}
+use Rattle.var_deps.proofs.Passing.{no_fault, refused_any}
 use Rattle.meta_model.proofs.Passing.{goes_on}
 
 or_apart : (a b c : Bool) → (a || (b || c)) ≡ ((a || b) || c)

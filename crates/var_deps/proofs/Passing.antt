@@ -7,17 +7,7 @@ use Rattle.meta_model.proofs.Passing.{goes_on}
 use Rattle.var_expand.specs.declared.fault.ExpandFault.{ExpandFault}
 use Rattle.var_expand.specs.declared.fault.ExpandFault.TheVariants.{ValueCycle, TooDeep, TooLong, Unstable, Memory}
 use Rattle.var_expand.specs.Faults.{IsFaultOf, IsWantOfMemory}
-
--- a refusal of the first answer is one of the whole
-pub fault_on : {A B : Type 0} (fault : ExpandFault) (m : Result A Refusal) (f : A → Result B Refusal) → IsFaultOf fault m → IsFaultOf fault (m >>= f)
-fault_on (ValueCycle name) m f h = ap (λ k. k >>= f) h
-fault_on (TooDeep name) m f h = ap (λ k. k >>= f) h
-fault_on (TooLong name) m f h = ap (λ k. k >>= f) h
-fault_on (Unstable before last) m f h = ap (λ k. k >>= f) h
-fault_on Memory m f h = tt
-
-pub fault_same : {A : Type 0} (fault : ExpandFault) (m n : Result A Refusal) → m ≡ n → IsFaultOf fault n → IsFaultOf fault m
-fault_same fault m n e h = subst (IsFaultOf fault) (sym e) h
+use Rattle.var_expand.proofs.Expanding.{fault_same}
 
 -- a fault of what follows an answer is one of the whole
 pub fault_later : {A B : Type 0} (fault : ExpandFault) (m : Result A Refusal) (a : A) (f : A → Result B Refusal) → m ≡ Ok a → IsFaultOf fault (f a) → IsFaultOf fault (m >>= f)

@@ -11,7 +11,8 @@ use Rattle.task_model.specs.Keys.{key_over, lines_of, reached}
 use Rattle.task_model.specs.Leads.{View, Led, exported, flag_words, is_key_name, starting, without}
 use Rattle.var_deps.specs.Exports.{starting_with}
 use Rattle.var_deps.proofs.Loops.{filter_more, any_more}
-use Rattle.var_deps.proofs.Passing.{fault_on, no_fault}
+use Rattle.var_expand.proofs.Expanding.{fault_on}
+use Rattle.var_deps.proofs.Passing.{no_fault}
 use Rattle.meta_model.proofs.Passing.{goes_on}
 
 abbrev pub Names : Type 0

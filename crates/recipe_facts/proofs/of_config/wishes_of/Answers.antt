@@ -4,7 +4,7 @@ use Rattle.meta_model.specs.Frozen.{frozen}
 use Rattle.datastore.specs.Faults.{IsDataFault}
 use Rattle.load_model.specs.Facts.{wishes, wishes_over}
 use Rattle.recipe_facts.specs.Wished.{wished}
-use Rattle.recipe_facts.proofs.Binding.{fault_same}
+use Rattle.datastore.proofs.Freezing.{fault_same}
 use Rattle.meta_model.proofs.Passing.{goes_on}
 use Rattle.recipe_facts.proofs.of_config.wishes_of.Goals as goal
 

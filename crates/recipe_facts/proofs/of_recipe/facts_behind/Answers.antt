@@ -2,7 +2,8 @@ use Rattle.std.proofs.Common.{◌∙◌, ap, sym, Ok}
 use Rattle.meta_model.specs.Tasks.{tasks}
 use Rattle.load_model.specs.Facts.{all_tasks}
 use Rattle.recipe_facts.specs.Recipe.{recipe_meant, packages_of, facts_behind}
-use Rattle.recipe_facts.proofs.Binding.{exit, fault_on, fault_later, want}
+use Rattle.datastore.proofs.Freezing.{fault_on}
+use Rattle.recipe_facts.proofs.Binding.{exit, fault_later, want}
 use Rattle.meta_model.proofs.Passing.{goes_on}
 use Rattle.recipe_facts.proofs.Chains.{facts3, facts4}
 use Rattle.recipe_facts.proofs.of_recipe.facts_behind.Goals as goal

@@ -5,7 +5,8 @@ use Rattle.load_model.specs.LoadRefusal.{◌>>=◌}
 use Rattle.load_model.specs.Layers.{words_of}
 use Rattle.load_model.specs.Facts.{facts_of}
 use Rattle.recipe_facts.specs.Recipe.{recipe_meant, facts_behind}
-use Rattle.recipe_facts.proofs.Binding.{exit, fault_on, fault_later, fault_same}
+use Rattle.datastore.proofs.Freezing.{fault_on, fault_same}
+use Rattle.recipe_facts.proofs.Binding.{exit, fault_later}
 use Rattle.meta_model.proofs.Passing.{goes_on}
 use Rattle.recipe_facts.proofs.Chains.{facts1, facts_apart}
 use Rattle.recipe_facts.proofs.of_recipe.facts_of.Goals as goal

@@ -1,5 +1,6 @@
 use Rattle.std.proofs.Common.{◌∙◌, ap, sym, Ok, codes}
-use Rattle.recipe_facts.proofs.Binding.{exit, fault_on, fault_later, want}
+use Rattle.datastore.proofs.Freezing.{fault_on}
+use Rattle.recipe_facts.proofs.Binding.{exit, fault_later, want}
 use Rattle.meta_model.proofs.Passing.{goes_on}
 use Rattle.load_model.specs.Layers.{words_of}
 use Rattle.load_model.specs.Facts.{form, needed_words, package_facts}

@@ -4,7 +4,8 @@ use Rattle.datastore.specs.Faults.{IsDataFault}
 use Rattle.load_model.specs.Layers.{words_of}
 use Rattle.load_model.specs.Facts.{needed_words, all_packages}
 use Rattle.recipe_facts.specs.Recipe.{packages_of}
-use Rattle.recipe_facts.proofs.Binding.{exit, fault_on, fault_later, fault_same}
+use Rattle.datastore.proofs.Freezing.{fault_on, fault_same}
+use Rattle.recipe_facts.proofs.Binding.{exit, fault_later}
 use Rattle.meta_model.proofs.Passing.{goes_on}
 use Rattle.recipe_facts.proofs.Chains.{packages1, packages2, packages3}
 use Rattle.recipe_facts.proofs.packages.packages_of.Goals as goal

@@ -1,6 +1,7 @@
 use Rattle.std.proofs.Common.{◌∙◌, ap, sym, subst, Ok, codes}
 use Rattle.datastore.specs.Faults.{IsDataFault}
-use Rattle.recipe_facts.proofs.Binding.{exit, fault_on, fault_later, want}
+use Rattle.datastore.proofs.Freezing.{fault_on}
+use Rattle.recipe_facts.proofs.Binding.{exit, fault_later, want}
 use Rattle.meta_model.proofs.Passing.{goes_on}
 use Rattle.load_model.specs.Facts.{flag_words, task_facts}
 use Rattle.recipe_facts.proofs.Chains.{Asked, task1, task2, task3, task4}

@@ -3,7 +3,7 @@ use Rattle.std.proofs.lemmas.Result.{IfOk-weaker, IfErr-weaker}
 use Rattle.meta_model.specs.Text.{begins_with}
 use Rattle.datastore.specs.Faults.{IsDataFault}
 use Rattle.load_model.specs.Facts.{environment, values_behind}
-use Rattle.recipe_facts.proofs.Binding.{fault_same}
+use Rattle.datastore.proofs.Freezing.{fault_same}
 use Rattle.recipe_facts.proofs.Valued.{environment_is}
 use Rattle.recipe_facts.proofs.values.environment.Goals as goal
 

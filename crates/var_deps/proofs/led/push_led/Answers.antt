@@ -4,7 +4,8 @@ use Rattle.task_model.specs.Leads.{by_value, by_flags, flag_words}
 use Rattle.var_deps.specs.Reading.{view_by, all_led}
 use Rattle.meta_model.specs.Passing.{behind}
 use Rattle.var_deps.proofs.Behind.{behind_three, fault_then}
-use Rattle.var_deps.proofs.Passing.{fault_on, last_fault, last_ok, out}
+use Rattle.var_expand.proofs.Expanding.{fault_on}
+use Rattle.var_deps.proofs.Passing.{last_fault, last_ok, out}
 use Rattle.var_deps.proofs.led.push_led.Goals as goal
 
 pub returns-in_err-push_by_flags-clause-err : goal.returns-in_err-push_by_flags-clause-err

@@ -1,7 +1,7 @@
 use Rattle.std.proofs.Common.{[], false, unwrap_or, is_some}
 use Rattle.task_model.specs.Keys.{line_value}
 use Rattle.var_deps.specs.Reading.{view_by, line_behind}
-use Rattle.var_deps.proofs.Passing.{fault_on}
+use Rattle.var_expand.proofs.Expanding.{fault_on}
 use Rattle.var_deps.proofs.line.line_of.Goals as goal
 
 pub returns-in-Err : goal.returns-in-Err

@@ -10,7 +10,8 @@ use Rattle.var_deps.specs.Led.{led_of}
 use Rattle.var_deps.proofs.Tabling.{stays_view}
 use Rattle.var_deps.proofs.Starting.{start_whole, start_refuses}
 use Rattle.var_deps.proofs.Lines.{key_is_made, key_fault}
-use Rattle.var_deps.proofs.Passing.{last_fault, fault_same, out}
+use Rattle.var_expand.proofs.Expanding.{fault_same}
+use Rattle.var_deps.proofs.Passing.{last_fault, out}
 use Rattle.var_deps.proofs.table.Table.key.Goals as goal
 use Rattle.var_deps.proofs.table.Table.key.Goals.{then-start, else-start}
 

@@ -4,7 +4,8 @@ use Rattle.var_deps.specs.Known.{read_line}
 use Rattle.var_deps.specs.Kept.{key_behind, one_line, task_view}
 use Rattle.var_deps.specs.Leaders.{stays_itself}
 use Rattle.var_deps.proofs.Tabling.{own_line, other_line, ready_still}
-use Rattle.var_deps.proofs.Passing.{last_ok, last_fault, fault_same}
+use Rattle.var_expand.proofs.Expanding.{fault_same}
+use Rattle.var_deps.proofs.Passing.{last_ok, last_fault}
 use Rattle.var_deps.proofs.table.Table.push_name.Goals as goal
 
 pub returns-then-eq-clause-ok : goal.returns-then-eq-clause-ok
