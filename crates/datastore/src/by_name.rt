@@ -10,7 +10,7 @@ use std::collections::BTreeMap;
 use tree_model::{Mem, Text, Texts};
 
 /// Puts a value at a name. Where memory is wanting, all is found as before.
-pub(crate) fn put_value<V: Drop>(
+pub fn put_value<V: Drop>(
     map: &mut BTreeMap<String, V>,
     alloc: Global,
     name: &str,
@@ -43,7 +43,7 @@ pub(crate) fn push_name(list: &mut Texts, alloc: Global, name: &str, asked: bool
 }
 
 /// The names of a map, in byte order.
-pub(crate) fn names_of<V>(alloc: Global, map: &BTreeMap<String, V>) -> Result<Texts, Mem>
+pub fn names_of<V>(alloc: Global, map: &BTreeMap<String, V>) -> Result<Texts, Mem>
     ensures names { IfOk result (λ made. made ≡ picked (λ there. true) map.now.entries) }
     ensures ordered { OnOk result (IsOrdered string_cmp map.now) }
 {

@@ -27,5 +27,6 @@ mod special;
 mod store;
 mod tasks;
 
+pub use by_name::{names_of, put_value};
 pub use fault::DataFault;
 pub use store::{Datastore, SharedStore};

@@ -1,13 +1,11 @@
 // The names that may have a value.
-ghost use Rattle.std.specs.Prelude.{◌≡◌, ◌++◌, ◌∷◌, [], ◌≤◌, ◌||◌, ◌&&◌, List, ℕ, IfOk, OnOk, true, is_some, bytes_eq, take, drop, length, flat_map};
-ghost use Rattle.std.specs.BTreeMap.{get_by_text, IsOrdered};
-ghost use Rattle.std.specs.String.{string_cmp};
+ghost use Rattle.std.specs.Prelude.{◌≡◌, ◌≤◌, ◌||◌, ◌&&◌, List, ℕ, IfOk, OnOk, is_some, bytes_eq, take, drop, length, flat_map};
+ghost use Rattle.std.specs.BTreeMap.{get_by_text};
 ghost use Rattle.meta_model.specs.Text.{is_in};
-ghost use Rattle.datastore.specs.Picked.{picked};
 ghost use Rattle.load_model.specs.Facts as facts;
 ghost use Rattle.recipe_facts.specs.Fronts.{is_behind};
 
-use datastore::Datastore;
+use datastore::{Datastore, names_of};
 use std::alloc::Global;
 use std::collections::BTreeMap;
 use tree_model::{Mem, Text, Texts};
@@ -66,25 +64,6 @@ fn fronts_of_all(alloc: Global, names: &[Text]) -> Result<Names, Mem>
         put_fronts(&mut set, alloc, name.as_str())?;
     }
     Ok(set)
-}
-
-/// Puts a name at the end.
-fn push_name(made: &mut Texts, alloc: Global, name: &str) -> Result<(), Mem>
-    ensures { OnOk result (made.new ≡ made.old ++ name.now ∷ []) }
-{
-    made.push(Text::from_str(alloc, name)?)
-}
-
-/// The names of a set, in byte order.
-fn names_of(alloc: Global, set: &Names) -> Result<Texts, Mem>
-    ensures names { IfOk result (λ made. made ≡ picked (λ there. true) set.now.entries) }
-    ensures ordered { OnOk result (IsOrdered string_cmp set.now) }
-{
-    let mut made = Texts::new(alloc);
-    for (name, _) in set {
-        push_name(&mut made, alloc, name.as_str())?;
-    }
-    Ok(made)
 }
 
 /// The names that may have a value, in byte order and each once: those of the entries, and what stands before a colon of one,

@@ -1,7 +1,6 @@
 // What the names of a store lead to, and the walk along them.
-ghost use Rattle.std.specs.Prelude.{◌≡◌, ◌++◌, ◌∷◌, [], true, false, List, ℕ, Some, IfOk, IfErr, OnOk, OnErr, Ok, is_some, bytes_eq, Result};
+ghost use Rattle.std.specs.Prelude.{◌≡◌, ◌++◌, [], true, false, Some, IfOk, IfErr, OnOk, Ok, is_some, Result};
 ghost use Rattle.std.specs.BTreeMap.{get_by_text};
-ghost use Rattle.std.specs.Map.{update};
 ghost use Rattle.meta_model.specs.Refusal.{Refusal};
 ghost use Rattle.meta_model.specs.Active.{find_in};
 ghost use Rattle.meta_model.specs.declared.value.Resolved.{Resolved as Has};
@@ -20,6 +19,7 @@ use crate::exports::Exports;
 use crate::led::{Led, all_of, push_all, without, words_of_flag};
 use crate::line::{Known, Line, know};
 use crate::seen::Seen;
+use datastore::put_value;
 use meta_model::{Key, KeyLine, ListOf, Resolved};
 use name_walk::{Leading, holds, least_of, reach};
 use std::alloc::Global;
@@ -42,22 +42,6 @@ pub(crate) struct Table<'a> {
     pub(crate) task: Text,
     pub(crate) sstate: bool,
     pub(crate) own: Known,
-}
-
-/// Puts a value at a name. Where memory is wanting, all is found as before.
-fn put_value<V: Drop>(
-    map: &mut BTreeMap<String, V>,
-    alloc: Global,
-    name: &str,
-    value: V,
-) -> Result<(), Mem>
-    ensures ok { OnOk result ((q : List ℕ) → get_by_text map.new q
-        ≡ update bytes_eq (get_by_text map.old) name.now (Some value) q) }
-    ensures err { OnErr result ((q : List ℕ) → get_by_text map.new q ≡ get_by_text map.old q) }
-{
-    let key = String::from_str(alloc, name)?;
-    map.insert(key, value)?;
-    Ok(())
 }
 
 impl Shared<'_> {
