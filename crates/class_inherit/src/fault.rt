@@ -1,8 +1,8 @@
 // Why files can't be loaded.
-ghost use Rattle.std.specs.Prelude.{◌≡◌, not, is_some, true, false, Some};
+ghost use Rattle.std.specs.Prelude.{◌≡◌, is_some, true, false, Some};
 ghost use Rattle.std.specs.Option.{option_map};
 ghost use Rattle.load_model.specs.LoadRefusal.{no_value};
-ghost use Rattle.datastore.specs.Faults.{refusal_of, data_refusal};
+ghost use Rattle.datastore.specs.Faults.{data_refusal};
 ghost use Rattle.class_inherit.specs.Faults.{cause_of, where_is, is_memory, is_read, IsSaid, IsOutOfMemory, IsUntold};
 
 use datastore::DataFault;
@@ -10,7 +10,6 @@ use meta_model::SyntaxFault;
 use std::alloc::Global;
 use thiserror::Error;
 use tree_model::Text;
-use var_expand::ExpandFault;
 
 /// What is wrong where files can't be loaded. The causes are own rules.
 #[derive(Debug, Drop, Error)]
@@ -75,7 +74,7 @@ pub(crate) struct Place<'a> {
 }
 
 /// Memory ran out.
-pub(crate) fn out_of_memory(alloc: Global) -> LoadFault
+pub fn out_of_memory(alloc: Global) -> LoadFault
     ensures { IsOutOfMemory result }
 {
     LoadFault {
@@ -113,36 +112,12 @@ pub(crate) fn refused(alloc: Global, place: &Place, kind: LoadKind) -> LoadFault
     }
 }
 
-/// Whether a fault of expansion is want of memory.
-fn is_expand_memory(fault: &ExpandFault) -> bool
-    ensures { result ≡ not (is_some (refusal_of fault.now)) }
-{
-    match fault {
-        ExpandFault::ValueCycle { .. }
-        | ExpandFault::TooDeep { .. }
-        | ExpandFault::TooLong { .. }
-        | ExpandFault::Unstable { .. } => false,
-        ExpandFault::Memory => true,
-    }
-}
-
-/// Whether a fault of a store is want of memory.
-fn is_data_memory(fault: &DataFault) -> bool
-    ensures { result ≡ not (is_some (data_refusal fault.now)) }
-{
-    match fault {
-        DataFault::Unstable { .. } => false,
-        DataFault::Expand(fault) => is_expand_memory(fault),
-        DataFault::Memory => true,
-    }
-}
-
 /// A fault of a store at a place.
 pub(crate) fn refused_value(alloc: Global, place: &Place, fault: DataFault) -> LoadFault
     ensures said { IsSaid result (where_is place.now) (option_map no_value (data_refusal fault)) }
     ensures not_read { is_read result.kind ≡ false }
 {
-    if is_data_memory(&fault) {
+    if fault.is_memory() {
         out_of_memory(alloc)
     } else {
         refused(alloc, place, LoadKind::Data(fault))

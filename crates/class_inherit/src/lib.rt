@@ -23,5 +23,5 @@ mod paths;
 mod reading;
 mod search;
 
-pub use fault::{LoadFault, LoadKind};
+pub use fault::{LoadFault, LoadKind, out_of_memory};
 pub use reading::Reading;

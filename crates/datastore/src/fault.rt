@@ -1,7 +1,7 @@
 // Why a value can't be given.
-ghost use Rattle.std.specs.Prelude.{◌≡◌, IfOk};
+ghost use Rattle.std.specs.Prelude.{◌≡◌, IfOk, is_some, not};
 ghost use Rattle.var_expand.specs.Faults.{IsFaultOf};
-ghost use Rattle.datastore.specs.Faults.{refused_by};
+ghost use Rattle.datastore.specs.Faults.{data_refusal, refusal_of, refused_by};
 
 use std::alloc::AllocFailed;
 use tree_model::{Mem, Texts};
@@ -17,6 +17,32 @@ pub enum DataFault {
     Expand(ExpandFault),
     /// Memory ran out.
     Memory,
+}
+
+impl DataFault {
+    /// Whether it is want of memory, of the store's own or of an expansion's.
+    pub fn is_memory(&self) -> bool
+        ensures { result ≡ not (is_some (data_refusal self.now)) }
+    {
+        match self {
+            DataFault::Unstable { .. } => false,
+            DataFault::Expand(fault) => is_expand_memory(fault),
+            DataFault::Memory => true,
+        }
+    }
+}
+
+/// Whether a fault of expansion is want of memory.
+fn is_expand_memory(fault: &ExpandFault) -> bool
+    ensures { result ≡ not (is_some (refusal_of fault.now)) }
+{
+    match fault {
+        ExpandFault::ValueCycle { .. }
+        | ExpandFault::TooDeep { .. }
+        | ExpandFault::TooLong { .. }
+        | ExpandFault::Unstable { .. } => false,
+        ExpandFault::Memory => true,
+    }
 }
 
 impl From<Mem> for DataFault {

@@ -2,8 +2,6 @@
 use Rattle.std.specs.Prelude.{◌≡◌, ◌⊎◌, Bool, true, false, Option, Some, None, Result, Ok, Err}
 use Rattle.std.specs.Option.{option_map}
 use Rattle.load_model.specs.Recipes.{SetRefusal, bad_name, dangling_append, load, too_many, no_value}
-use Rattle.datastore.specs.declared.fault.DataFault.{DataFault as StoreFault}
-use Rattle.datastore.specs.declared.fault.DataFault.TheVariants as store
 use Rattle.class_inherit.specs.Faults.{is_read, load_refusal}
 use Rattle.meta_model.specs.Passing.{IsRefused}
 use Rattle.datastore.specs.Faults.{data_refusal}
@@ -44,9 +42,3 @@ is_failure Memory = false
 abbrev pub set_failed : {T : Type 0} → Result T SetFault → Bool
 set_failed (Ok x) = false
 set_failed (Err fault) = is_failure fault
-
--- whether a fault of a store is want of memory
-abbrev pub is_data_memory : StoreFault → Bool
-is_data_memory (store.Unstable before last) = false
-is_data_memory (store.Expand fault) = false
-is_data_memory store.Memory = true

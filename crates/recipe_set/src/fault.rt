@@ -2,11 +2,11 @@
 ghost use Rattle.std.specs.Prelude.{◌≡◌, false, Some};
 ghost use Rattle.std.specs.Option.{option_map};
 ghost use Rattle.load_model.specs.Recipes as meant;
-ghost use Rattle.class_inherit.specs.Faults.{is_read, load_refusal, IsOutOfMemory};
+ghost use Rattle.class_inherit.specs.Faults.{is_read, load_refusal};
 ghost use Rattle.datastore.specs.Faults.{data_refusal};
-ghost use Rattle.recipe_set.specs.Faults.{set_refusal, is_failure, is_data_memory, IsTold};
+ghost use Rattle.recipe_set.specs.Faults.{set_refusal, is_failure, IsTold};
 
-use class_inherit::{LoadFault, LoadKind};
+use class_inherit::LoadFault;
 use datastore::DataFault;
 use std::alloc::Global;
 use tree_model::{Mem, Text};
@@ -61,37 +61,16 @@ pub(crate) fn load_told(fault: LoadFault) -> SetFault
     }
 }
 
-/// Whether a fault of a store is want of memory.
-fn is_data_memory(fault: &DataFault) -> bool
-    ensures { result ≡ is_data_memory fault.now }
-{
-    match fault {
-        DataFault::Memory => true,
-        DataFault::Unstable { .. } | DataFault::Expand(_) => false,
-    }
-}
-
 /// A value of a file that can't be given.
 pub(crate) fn data_told(alloc: Global, file: &str, fault: DataFault) -> SetFault
     ensures told { IsTold result (option_map (meant.no_value file.now) (data_refusal fault)) }
     ensures no_failure { is_failure result ≡ false }
 {
-    if is_data_memory(&fault) {
+    if fault.is_memory() {
         return SetFault::Memory;
     }
     match Text::from_str(alloc, file) {
         Ok(file) => SetFault::Data { file, fault },
         Err(_) => SetFault::Memory,
-    }
-}
-
-/// Memory ran out while a file was loaded.
-pub(crate) fn out_of_memory(alloc: Global) -> LoadFault
-    ensures { IsOutOfMemory result }
-{
-    LoadFault {
-        file: Text::new(alloc),
-        line: 0,
-        kind: LoadKind::Memory,
     }
 }

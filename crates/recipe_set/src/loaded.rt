@@ -10,9 +10,8 @@ ghost use Rattle.recipe_set.specs.Names.{name_meant};
 ghost use Rattle.load_model.specs.Recipes.{classes_read, files_read, entries_with};
 
 use crate::entries::{at_file, start_of};
-use crate::fault::out_of_memory;
 use crate::names::FileName;
-use class_inherit::{LoadFault, Reading};
+use class_inherit::{LoadFault, Reading, out_of_memory};
 use datastore::SharedStore;
 use meta_model::Kind;
 use outside_traits::Layers;

@@ -1,8 +1,6 @@
 -- What a fault says of the plan that was meant.
 use Rattle.std.specs.Prelude.{◌≡◌, ◌⊎◌, Bool, true, false, Option, Some, None, Result, Ok, Err}
 use Rattle.std.specs.Option.{option_map}
-use Rattle.datastore.specs.declared.fault.DataFault.{DataFault}
-use Rattle.datastore.specs.declared.fault.DataFault.TheVariants as store
 use Rattle.meta_model.specs.Passing.{IsRefused}
 use Rattle.datastore.specs.Faults.{data_refusal}
 use Rattle.plan_model.specs.PlanRefusal.{PlanRefusal, bad_flag, no_value, missing_file, input_bytes, plan_bytes}
@@ -45,9 +43,3 @@ is_failure Memory = false
 abbrev pub plan_failed : {T : Type 0} → Result T PlanFault → Bool
 plan_failed (Ok x) = false
 plan_failed (Err fault) = is_failure fault
-
--- whether a fault of a store is want of memory
-abbrev pub is_data_memory : DataFault → Bool
-is_data_memory (store.Unstable before last) = false
-is_data_memory (store.Expand fault) = false
-is_data_memory store.Memory = true

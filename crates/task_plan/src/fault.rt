@@ -5,7 +5,7 @@ ghost use Rattle.datastore.specs.Faults.{data_refusal};
 ghost use Rattle.script_gen.specs.Faults.{refusal_of};
 ghost use Rattle.plan_model.specs.PlanRefusal as meant;
 ghost use Rattle.task_plan.specs.declared.fault.PlanFault.TheVariants.{MissingFile as NoFile};
-ghost use Rattle.task_plan.specs.Faults.{IsTold, is_failure, is_data_memory};
+ghost use Rattle.task_plan.specs.Faults.{IsTold, is_failure};
 
 use datastore::DataFault;
 use script_gen::ScriptFault;
@@ -80,22 +80,12 @@ pub(crate) fn too_large(alloc: Global, path: &str) -> PlanFault
     }
 }
 
-/// Whether a fault of a store is want of memory.
-fn is_data_memory(fault: &DataFault) -> bool
-    ensures { result ≡ is_data_memory fault.now }
-{
-    match fault {
-        DataFault::Memory => true,
-        DataFault::Unstable { .. } | DataFault::Expand(_) => false,
-    }
-}
-
 /// A text of a recipe that can't be expanded.
 pub(crate) fn data_told(alloc: Global, file: &str, fault: DataFault) -> PlanFault
     ensures told { IsTold result (option_map (meant.no_value file.now) (data_refusal fault)) }
     ensures no_failure { is_failure result ≡ false }
 {
-    if is_data_memory(&fault) {
+    if fault.is_memory() {
         return PlanFault::Memory;
     }
     match Text::from_str(alloc, file) {
