@@ -61,7 +61,9 @@ pub fn needed_words(alloc: Global, store: &Datastore, name: &str) -> Result<Text
 }
 
 /// The words of the expanded text of a flag, none where it isn't set.
-pub(crate) fn flag_words(
+///
+/// It is refused where the text is.
+pub fn flag_words(
     alloc: Global,
     store: &Datastore,
     name: &str,

@@ -16,7 +16,7 @@ mod packages;
 mod tasks;
 mod values;
 
-pub use asked::{needed_words, text_of, words_of};
+pub use asked::{flag_words, needed_words, text_of, words_of};
 pub use names::valued_names;
 pub use of_config::{Wishes, wishes_of};
 pub use of_recipe::{Recipe, facts_of};

@@ -22,7 +22,7 @@ pub(crate) struct Frame {
 }
 
 /// Whether a flag with this text counts: it is neither empty nor `0` (own rule).
-fn is_on(text: &str) -> bool
+pub fn is_on(text: &str) -> bool
     ensures { result ≡ is_on text.now }
 {
     !(text.is_empty() || text == "0")

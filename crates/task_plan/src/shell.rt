@@ -1,7 +1,7 @@
 // What is made of a task's store for its shell and its output.
 ghost use Rattle.std.specs.Prelude.{◌≡◌, false, is_some, codes, IfOk, IfErr, Ok};
 ghost use Rattle.task_model.specs.Keys.{key as key_meant};
-ghost use Rattle.task_model.specs.Scripts.{flag_at, value_at, is_on, is_sstate_of};
+ghost use Rattle.task_model.specs.Scripts.{flag_at, value_at, is_sstate_of};
 ghost use Rattle.datastore.specs.Faults.{IsDataFault};
 ghost use Rattle.script_gen.specs.Given.{IsKeyOf};
 ghost use Rattle.plan_model.specs.Plans.{counts as counts_meant};
@@ -12,7 +12,7 @@ use crate::fault::{PlanFault, data_told, script_fault};
 use crate::words::flag_text;
 use datastore::{DataFault, Datastore};
 use meta_model::{Key, KeyLine, ListOf};
-use script_gen::{places, script_with};
+use script_gen::{is_on, places, script_with};
 use std::alloc::Global;
 use tree_model::Text;
 use var_deps::{StoreKeys, flag_of};
@@ -77,13 +77,6 @@ fn places_of(
         Ok(pairs) => Ok(pairs),
         Err(fault) => Err(script_fault(alloc, file, fault)),
     }
-}
-
-/// Whether the text of a flag counts: it is neither empty nor `0` (own rule).
-fn is_on(text: &str) -> bool
-    ensures { result ≡ is_on text.now }
-{
-    !(text.is_empty() || text == "0")
 }
 
 /// Whether a flag of a name counts.

@@ -3,7 +3,6 @@ ghost use Rattle.std.specs.Prelude.{◌≡◌, [], false, unwrap_or, IfOk, IfErr
 ghost use Rattle.meta_model.specs.Active.{expand};
 ghost use Rattle.meta_model.specs.Base.{flag as flag_of};
 ghost use Rattle.datastore.specs.Faults.{IsDataFault};
-ghost use Rattle.load_model.specs.Facts as facts;
 ghost use Rattle.plan_model.specs.Inputs.{input_word as word_meant};
 ghost use Rattle.task_plan.specs.Faults.{IsPlanFault, plan_failed};
 ghost use Rattle.task_plan.specs.Steps.{checksum_words as words_meant};
@@ -11,9 +10,9 @@ ghost use Rattle.task_plan.specs.Steps.{checksum_words as words_meant};
 use crate::fault::{PlanFault, data_told};
 use datastore::{DataFault, Datastore};
 use path_words::{has_ending, without_ending};
+use recipe_facts::flag_words;
 use std::alloc::Global;
 use tree_model::{Text, Texts};
-use var_expand::words;
 
 /// The file that a word names: `:True` at its end is dropped, and one that ends with `:False` is passed over.
 pub(crate) fn input_word(word: &str) -> Option<&str>
@@ -42,15 +41,6 @@ pub(crate) fn flag_text(
         None => "",
     };
     store.expand(alloc, told)
-}
-
-/// The words of the expanded text of a flag.
-fn flag_words(alloc: Global, store: &Datastore, name: &str, flag: &str) -> Result<Texts, DataFault>
-    ensures ok { IfOk result (λ made. facts.flag_words store.now name.now flag.now ≡ Ok made) }
-    ensures err { IfErr result (λ fault. IsDataFault fault (facts.flag_words store.now name.now flag.now)) }
-{
-    let text = flag_text(alloc, store, name, flag)?;
-    Ok(words(alloc, text.as_str())?)
 }
 
 /// The words of a task's flag.
