@@ -11,6 +11,7 @@ use crate::records::{Found, found_records, record_path};
 use crate::stamps::is_stamp;
 use outside_traits::{Disk, DiskFault};
 use record_belief::{Candidate, ascend, believed};
+use sstate_objects::is_held;
 use std::alloc::Global;
 use tree_model::{Entry, Mem, Text};
 
@@ -101,15 +102,6 @@ pub(crate) fn survey_temporary<D: Disk>(
 {
     let paths = disk.list(alloc, "tmp/")?;
     Ok(doom_all(alloc, paths.as_slice(), doomed)?)
-}
-
-/// Whether something is held at the path.
-fn is_held<D: Disk>(alloc: Global, disk: &mut D, path: &str) -> Result<bool, DiskFault>
-    ensures found { D.tells → IfOk result (λ held. held ≡ is_some ((D.story disk.old).held path.now)) }
-    ensures others { D.tells → Passes (D.story disk.old) (D.story disk.new) Same }
-    ensures cause { Counts (D.faults disk.old) (D.faults disk.new) (disk_failed result) }
-{
-    Ok(disk.read(alloc, path)?.is_some())
 }
 
 /// Puts a path to what goes.

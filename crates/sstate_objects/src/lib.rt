@@ -16,3 +16,4 @@ mod sizes;
 
 pub use matching::read_matching;
 pub use objects::{put_object, read_verified};
+pub use open::is_held;

@@ -7,8 +7,8 @@ ghost use Rattle.outside_traits.specs.Fault.{Counts, disk_failed};
 use outside_traits::{Disk, DiskFault};
 use std::alloc::Global;
 
-/// Whether something is held at the path.
-fn is_held<D: Disk>(alloc: Global, disk: &mut D, path: &str) -> Result<bool, DiskFault>
+/// Whether something is held at the path. Refused only where the disk fails or memory runs out.
+pub fn is_held<D: Disk>(alloc: Global, disk: &mut D, path: &str) -> Result<bool, DiskFault>
     ensures found { D.tells → IfOk result (λ held. held ≡ is_some ((D.story disk.old).held path.now)) }
     ensures others { D.tells → Passes (D.story disk.old) (D.story disk.new) Same }
     ensures cause { Counts (D.faults disk.old) (D.faults disk.new) (disk_failed result) }
