@@ -13,7 +13,7 @@ use std::alloc::Global;
 use tree_model::{Mem, Text};
 
 /// How many events of a tale are that a task was found.
-fn count_found(tale: &[Logged]) -> usize
+pub fn count_found(tale: &[Logged]) -> usize
     ensures { result ≡ count_events is_found tale.now }
 {
     tale.iter()
@@ -31,7 +31,7 @@ fn count_restored(tale: &[Logged]) -> usize
 }
 
 /// How many events of a tale are that a task was started.
-fn count_started(tale: &[Logged]) -> usize
+pub fn count_started(tale: &[Logged]) -> usize
     ensures { result ≡ count_events is_started tale.now }
 {
     tale.iter()
@@ -40,7 +40,7 @@ fn count_started(tale: &[Logged]) -> usize
 }
 
 /// Whether a task failed in a tale.
-fn some_failed(tale: &[Logged]) -> bool
+pub fn some_failed(tale: &[Logged]) -> bool
     ensures { result ≡ has_failure tale.now }
 {
     tale.iter()
@@ -48,7 +48,7 @@ fn some_failed(tale: &[Logged]) -> bool
 }
 
 /// Puts a number at the end, and what it counts.
-fn push_count(made: &mut Text, count: usize, what: &str) -> Result<(), Mem>
+pub fn push_count(made: &mut Text, count: usize, what: &str) -> Result<(), Mem>
     ensures { OnOk result (made.new ≡ made.old ++ (decimal count ++ what.now)) }
 {
     made.push_str(Buffer::new().format(count))?;

@@ -13,7 +13,7 @@ mod values;
 mod versions;
 mod written;
 
-pub use ends::end_text;
+pub use ends::{count_found, count_started, end_text, push_count, some_failed};
 pub use events::write_event;
 pub use fault::fault_text;
 pub use plans::{dry_text, plan_text};

@@ -12,7 +12,7 @@ ghost use Rattle.run_workers.specs.declared.worker.Halt.TheVariants as halts;
 ghost use Rattle.build_resume.specs.Benches.{SomeBreak};
 ghost use Rattle.build_resume.specs.Ends.{EndsBy, bench_broke, halt_by, is_plain, memory_broke, status_at, status_by, status_of};
 
-use bb_report::{end_text, fault_text, write_all};
+use bb_report::{end_text, fault_text, some_failed, write_all};
 use build_store::StoreFault;
 use meta_model::{Cut, Event, Logged, Plan, Status};
 use outside_traits::Sink;
@@ -41,14 +41,6 @@ pub(crate) fn status_of_store(fault: StoreFault) -> Status
         },
         StoreFault::Memory => Status::OutOfMemory,
     }
-}
-
-/// Whether a task failed in a tale.
-fn some_failed(tale: &[Logged]) -> bool
-    ensures { result ≡ has_failure tale.now }
-{
-    tale.iter()
-        .any(|logged| matches!(logged.event, Event::Failed { .. }))
 }
 
 /// Whether a task broke off in a tale since its bench failed.

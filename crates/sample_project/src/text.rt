@@ -1,39 +1,11 @@
 // What is printed of the sample.
 ghost use Rattle.std.specs.Prelude.{◌≡◌, ◌++◌, IfOk, OnOk};
-ghost use Rattle.std.specs.Fmt.{decimal};
-ghost use Rattle.bb_report.specs.Runs.{count_events, is_found, is_started};
 ghost use Rattle.sample_project.specs.Sample as sample;
 
-use itoa::Buffer;
-use meta_model::{Event, Logged};
+use bb_report::{count_found, count_started, push_count};
+use meta_model::Logged;
 use std::alloc::Global;
 use tree_model::{Mem, Text};
-
-/// How many events of a tale are that a task was found.
-fn count_found(tale: &[Logged]) -> usize
-    ensures { result ≡ count_events is_found tale.now }
-{
-    tale.iter()
-        .filter(|logged| matches!(logged.event, Event::Found { .. }))
-        .count()
-}
-
-/// How many events of a tale are that a task was started.
-fn count_started(tale: &[Logged]) -> usize
-    ensures { result ≡ count_events is_started tale.now }
-{
-    tale.iter()
-        .filter(|logged| matches!(logged.event, Event::Started { .. }))
-        .count()
-}
-
-/// Puts a number at the end, and what it counts.
-fn push_count(made: &mut Text, count: usize, what: &str) -> Result<(), Mem>
-    ensures { OnOk result (made.new ≡ made.old ++ (decimal count ++ what.now)) }
-{
-    made.push_str(Buffer::new().format(count))?;
-    made.push_str(what)
-}
 
 /// How many recipes and tasks the sample has.
 fn size_text(alloc: Global, size: u32) -> Result<Text, Mem>
