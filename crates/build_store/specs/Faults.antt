@@ -30,10 +30,6 @@ abbrev pub of_disk : DiskFault → StoreFault
 of_disk disk.Failed = fault.Disk
 of_disk disk.Memory = fault.Memory
 
--- No row of the name has other bytes as its signature.
-abbrev pub IsClear : List EquivRow → Hash → List ℕ → Type 0
-IsClear rows name bytes = (row : EquivRow) → row_at rows name ≡ Some row → row.sig ≡ bytes
-
 -- The row of the name has another signature: two signatures that differ have the digest that is the name.
 pub record IsCollision (rows : List EquivRow) (at : Hash) (bytes : List ℕ) (name : Hash) (held given : List ℕ) : Type 0 where
   pub row : EquivRow

@@ -9,13 +9,13 @@ use Rattle.meta_model.specs.declared.plan.PlanTask.{PlanTask}
 use Rattle.meta_model.specs.CleanBuild.{Entries, is_beyond}
 use Rattle.store_model.specs.declared.signature.EquivRow.{EquivRow}
 use Rattle.store_model.specs.Available.{Matches, object_folder, stamp_path, work_folder}
-use Rattle.store_model.specs.Rows.{row_at}
+use Rattle.store_model.specs.Rows.{row_at, IsClear}
 use Rattle.store_model.specs.Signatures.{Signed}
 use Rattle.store_model.specs.Spelling.{name_of, signature_bytes}
 use Rattle.tree_model.specs.declared.hash.Hash.{Hash}
 use Rattle.build_store.specs.declared.fault.StoreFault.{StoreFault}
 use Rattle.build_store.specs.declared.fault.StoreFault.TheVariants as fault
-use Rattle.build_store.specs.Faults.{IsClear, IsOtherSignature}
+use Rattle.build_store.specs.Faults.{IsOtherSignature}
 use Rattle.build_store.specs.Publication.{stamp_at, stamp_file}
 
 -- What is held under a folder, where that is within the limits of an output; nothing exactly where it is beyond them.

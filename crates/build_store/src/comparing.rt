@@ -2,8 +2,8 @@
 ghost use Rattle.std.specs.Prelude.{◌≡◌, IfErr, OnOk, false};
 ghost use Rattle.std.specs.List.{AllByRecursion};
 ghost use Rattle.sha2.specs.Sha256.{sha256};
-ghost use Rattle.store_model.specs.Rows.{row_at};
-ghost use Rattle.build_store.specs.Faults.{IsClash, IsClear, IsOtherSignature, store_failed};
+ghost use Rattle.store_model.specs.Rows.{row_at, IsClear};
+ghost use Rattle.build_store.specs.Faults.{IsClash, IsOtherSignature, store_failed};
 ghost use Rattle.build_store.specs.Sound.{IsRow};
 
 use crate::fault::StoreFault;

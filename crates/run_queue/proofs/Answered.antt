@@ -18,13 +18,12 @@ use Rattle.store_model.specs.declared.signature.SigRecord.{SigRecord}
 use Rattle.store_model.specs.Available.{IsAvailable, IsInObject, IsInWork, Matches, object_folder, stamp_path, work_folder}
 use Rattle.store_model.specs.Origins.{Book, Line, rows_of}
 use Rattle.store_model.specs.Premises.{HasNoCollision, HasOneSignature}
-use Rattle.store_model.specs.Rows.{row_at}
+use Rattle.store_model.specs.Rows.{row_at, IsClear}
 use Rattle.store_model.specs.Signatures.{Signed, signatures}
 use Rattle.store_model.specs.Spelling.{name_of, signature_bytes}
 use Rattle.store_model.specs.OneSpelling.{SignatureFits}
 use Rattle.store_model.specs.Valid.{IsValidBook, StandsIn}
 use Rattle.store_model.proofs.Standing.{row_found, stands_behind}
-use Rattle.build_store.specs.Faults.{IsClear}
 use Rattle.build_store.specs.Laws.{HasLine}
 use Rattle.build_store.specs.Named.{IsName}
 use Rattle.build_store.specs.Paths.{HasPlace}

@@ -14,7 +14,7 @@ use Rattle.store_model.specs.OneSpelling.{DepFits, FileFits, Fits, FlagFits, Lin
 use Rattle.sig_gen.specs.Sound.{IsDep, IsFile, IsFlag, IsKeyLine, IsResolved, IsSignature, IsText, IsValue}
 use Rattle.store_model.specs.Origins.{Book, Line, Reading, row_of, rows_of}
 use Rattle.store_model.specs.Premises.{HasNoCollision, HasOneSignature}
-use Rattle.store_model.specs.Rows.{row_at}
+use Rattle.store_model.specs.Rows.{row_at, IsClear}
 use Rattle.store_model.specs.Signatures.{Signed, signatures}
 use Rattle.store_model.specs.Spelling.{name_of, signature_bytes}
 use Rattle.store_model.specs.Valid.{IsNamedAlike, IsValidBook, StandsIn}
@@ -22,7 +22,6 @@ use Rattle.store_model.proofs.Ordered.{each_middle, each_weaker, map_each}
 use Rattle.store_model.proofs.Reading.{signature_is_read}
 use Rattle.store_model.proofs.Standing.{AllNew, each_line, one_place, row_found, row_none}
 use Rattle.build_store.proofs.Clean.{name_is_name}
-use Rattle.build_store.specs.Faults.{IsClear}
 use Rattle.build_store.specs.Sound.{IsReadable}
 
 -- ---- what can be read again can be held

@@ -8,11 +8,10 @@ use Rattle.meta_model.specs.declared.plan.PlanTask.{PlanTask}
 use Rattle.meta_model.specs.declared.plan.Plan.{Plan}
 use Rattle.run_core.specs.Need.{AreOrdered, IsIn, deps_in}
 use Rattle.plan_model.specs.Sound.{IsSound}
-use Rattle.store_model.specs.Rows.{row_at}
+use Rattle.store_model.specs.Rows.{row_at, IsClear}
 use Rattle.store_model.specs.Signatures.{Signed, signatures}
 use Rattle.store_model.specs.Spelling.{name_of, signature_bytes}
 use Rattle.store_model.specs.declared.signature.SigRecord.{SigRecord}
-use Rattle.build_store.specs.Faults.{IsClear}
 use Rattle.sig_gen.specs.Signing.{signature_by}
 use Rattle.setscene_plan.specs.declared.replan.Replan.{Replan}
 use Rattle.setscene_plan.specs.Names.{AreNamed}

@@ -26,13 +26,12 @@ use Rattle.store_model.specs.declared.signature.EquivRow.{EquivRow}
 use Rattle.store_model.specs.Available.{object_folder}
 use Rattle.store_model.specs.Recording.{recorded}
 use Rattle.store_model.specs.Reuse.{MayReuse}
-use Rattle.store_model.specs.Rows.{row_at}
+use Rattle.store_model.specs.Rows.{row_at, IsClear}
 use Rattle.store_model.specs.Signatures.{Signed, signatures}
 use Rattle.store_model.specs.Spelling.{name_of, signature_bytes}
 use Rattle.store_model.specs.Valid.{IsValid, IsValidBook, IsValidLine}
 use Rattle.store_model.proofs.Ordered.{each_append}
 use Rattle.store_model.proofs.Standing.{split_last, stands_further}
-use Rattle.build_store.specs.Faults.{IsClear}
 use Rattle.build_store.specs.Laws.{HasLine}
 use Rattle.build_store.specs.Named.{IsName}
 use Rattle.build_store.specs.Paths.{record_path}

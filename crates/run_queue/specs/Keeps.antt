@@ -23,13 +23,12 @@ use Rattle.build_store.specs.Laws.{HasLine}
 use Rattle.meta_model.specs.declared.plan.PlanTask.{PlanTask}
 use Rattle.store_model.specs.Premises.{HasNoCollision}
 use Rattle.store_model.specs.Reuse.{MayReuse}
-use Rattle.store_model.specs.Rows.{row_at}
+use Rattle.store_model.specs.Rows.{row_at, IsClear}
 use Rattle.store_model.specs.Valid.{IsValid}
 use Rattle.meta_model.specs.declared.event.Avail.TheVariants.{Missing, Object}
 use Rattle.store_model.specs.Available.{IsAvailable}
 use Rattle.store_model.specs.Signatures.{Signed, signatures}
 use Rattle.store_model.specs.Spelling.{name_of, signature_bytes}
-use Rattle.build_store.specs.Faults.{IsClear}
 use Rattle.setscene_plan.specs.Names.{names_over}
 use Rattle.build_store.specs.View.{View}
 use Rattle.build_store.specs.declared.fault.StoreFault.{StoreFault}

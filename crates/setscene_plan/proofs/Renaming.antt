@@ -7,10 +7,10 @@ use Rattle.meta_model.specs.declared.plan.PlanTask.{PlanTask}
 use Rattle.run_core.specs.Need.{AreOrdered, deps_in, deps_of}
 use Rattle.store_model.specs.declared.signature.EquivRow.{EquivRow}
 use Rattle.store_model.specs.declared.signature.SigRecord.{SigRecord}
-use Rattle.store_model.specs.Rows.{uni}
+use Rattle.store_model.specs.Rows.{uni, IsClear}
 use Rattle.store_model.specs.Spelling.{name_of, signature_bytes}
 use Rattle.sig_gen.specs.Signing.{signature_by}
-use Rattle.setscene_plan.specs.View.{IsClear, IsNamedBy}
+use Rattle.setscene_plan.specs.View.{IsNamedBy}
 use Rattle.setscene_plan.specs.Names.{AreNamed, IsClearAt, IsHashed, IsNamed}
 use Rattle.setscene_plan.proofs.Learning.{else_where}
 use Rattle.setscene_plan.proofs.Naming.{signature_local}

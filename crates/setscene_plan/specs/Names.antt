@@ -5,11 +5,10 @@ use Rattle.tree_model.specs.declared.hash.Hash.{Hash}
 use Rattle.meta_model.specs.declared.plan.PlanTask.{PlanTask}
 use Rattle.run_core.specs.Need.{AreOrdered}
 use Rattle.store_model.specs.declared.signature.EquivRow.{EquivRow}
-use Rattle.store_model.specs.Rows.{uni}
+use Rattle.store_model.specs.Rows.{uni, IsClear}
 use Rattle.store_model.specs.Signatures.{signatures}
 use Rattle.store_model.specs.Spelling.{name_of, signature_bytes}
 use Rattle.sig_gen.specs.Signing.{signature_by}
-use Rattle.setscene_plan.specs.View.{IsClear}
 
 -- The names of a plan's tasks over the rows of an index, from scratch: each is that of the task's signature.
 abbrev pub names_over : List EquivRow → List PlanTask → List Hash

@@ -40,10 +40,6 @@ pub record IsNamedBy (name : Hash) (bytes : List ℕ) : Type 0 where
   pub spelled : bytes ≡ signature_bytes sig
   pub named : name ≡ name_of sig
 
--- no row of this name has other bytes as its signature
-abbrev pub IsClear : List EquivRow → Hash → List ℕ → Type 0
-IsClear rows name bytes = (row : EquivRow) → row_at rows name ≡ Some row → row.sig ≡ bytes
-
 -- the row of this name has other bytes as its signature
 pub record HasOther (rows : List EquivRow) (name : Hash) (bytes : List ℕ) : Type 0 where
   pub row : EquivRow

@@ -46,9 +46,9 @@ pub trait Probe {
     ghost use Rattle.std.specs.Prelude.{◌≡◌, ◌≢◌, ◌<◌, ◌≤◌, ◌+◌, ℕ, None, IfOk, IsErrOf, OnOk, length};
     ghost use Rattle.std.specs.Option.{option_map};
     ghost use Rattle.meta_model.specs.declared.event.Avail.TheVariants as avails;
-    ghost use Rattle.store_model.specs.Rows.{row_at};
+    ghost use Rattle.store_model.specs.Rows.{row_at, IsClear};
     ghost use Rattle.store_model.specs.Spelling.{name_of};
-    ghost use Rattle.setscene_plan.specs.View.{Counts, Follows, HasOther, IsClear, IsNamedBy, IsSignedBy, Says, View, probe_failed};
+    ghost use Rattle.setscene_plan.specs.View.{Counts, Follows, HasOther, IsNamedBy, IsSignedBy, Says, View, probe_failed};
 
     /// The plan and the rows that it stands for.
     ghost view: { Self → View };
