@@ -4,10 +4,9 @@ ghost use Rattle.outside_traits.specs.Fault.{Counts};
 ghost use Rattle.meta_model.specs.declared.event.Logged.{Logged as Entry};
 ghost use Rattle.run_core.specs.Fates.{NoneRuns};
 ghost use Rattle.task_worker.specs.Jobs.{ran_job};
-ghost use Rattle.bb_report.specs.Runs.{tale_text};
 ghost use Rattle.run_queue.specs.Opening.{Opening};
 ghost use Rattle.run_queue.specs.Seen.{seen};
-ghost use Rattle.run_queue.specs.Keeps.{IsFront, IsRun, IsSteady, Prints};
+ghost use Rattle.run_queue.specs.Keeps.{IsRun, IsSteady, KeepsCount, KeepsFront, PrintsOn};
 ghost use Rattle.run_queue.specs.Turns.{IsCleanJob, RunsUnder, SameRun, fates_of};
 ghost use Rattle.run_workers.specs.Runs.{Runs, by_bench};
 ghost use Rattle.build_resume.specs.Drive.{Closes, Drove, GoesOnBehind, Grows, IsHalted, RanSaid, left_over};
@@ -35,14 +34,9 @@ fn do_claimed<D: Disk, B: Bench, W: Sink>(
     ensures goes_on { GoesOnBehind job.task state.new result }
     ensures fault { IsSome state.old.fault → state.new.fault ≡ state.old.fault }
     ensures halted { IfSome result (IsHalted state.new) }
-    ensures sink { (before : ℕ) → Counts before (W.faults state.old.sink) state.old.sink_failed
-        → Counts before (W.faults state.new.sink) state.new.sink_failed }
-    ensures text { W.tells → (base : List ℕ) → Prints base (W.written state.old.sink)
-        (tale_text state.old.plan.tasks state.old.tale) state.old.sink_failed
-        → Prints base (W.written state.new.sink) (tale_text state.old.plan.tasks state.new.tale)
-        state.new.sink_failed }
-    ensures stays { W.tells → (front : List ℕ) → IsFront front (W.written state.old.sink)
-        → IsFront front (W.written state.new.sink) }
+    ensures sink { KeepsCount W.faults state.old state.new }
+    ensures text { W.tells → PrintsOn W.written state.old state.new }
+    ensures stays { W.tells → KeepsFront W.written state.old state.new }
     ensures gives { B.gives bench.new ≡ B.gives bench.old }
     ensures ran { B.tells → ((B.place bench.new).runs ≡ ran_job (B.place bench.old).runs job)
         ⊎ (((B.place bench.new).runs ≡ (B.place bench.old).runs) × IsSome result) }
@@ -88,12 +82,8 @@ fn turn<D: Disk, B: Bench, W: Sink>(
     ensures same { SameRun state.old state.new }
     ensures grows { Grows result state.old.tale state.new.tale }
     ensures goes_on { MatchOption result (left_over state.new < left_over state.old) (IsHalted state.new) }
-    ensures sink { (before : ℕ) → Counts before (W.faults state.old.sink) state.old.sink_failed
-        → Counts before (W.faults state.new.sink) state.new.sink_failed }
-    ensures text { W.tells → (base : List ℕ) → Prints base (W.written state.old.sink)
-        (tale_text state.old.plan.tasks state.old.tale) state.old.sink_failed
-        → Prints base (W.written state.new.sink) (tale_text state.old.plan.tasks state.new.tale)
-        state.new.sink_failed }
+    ensures sink { KeepsCount W.faults state.old state.new }
+    ensures text { W.tells → PrintsOn W.written state.old state.new }
     ensures printed { W.tells → B.tells → (from : List Entry) (base : List ℕ) (before : Runs)
         → RanSaid state.old.plan None state.old.fault from state.old.tale before (B.place bench.old).runs base
         (W.written state.old.sink) → RanSaid state.old.plan result state.new.fault from state.new.tale before
@@ -138,12 +128,8 @@ pub(crate) fn drive<D: Disk, B: Bench, W: Sink>(
     ensures grows { Grows (Some result) state.old.tale state.new.tale }
     ensures halted { IsHalted state.new result }
     ensures none { NoneRuns (fates_of state.new) }
-    ensures sink { (before : ℕ) → Counts before (W.faults state.old.sink) state.old.sink_failed
-        → Counts before (W.faults state.new.sink) state.new.sink_failed }
-    ensures text { W.tells → (base : List ℕ) → Prints base (W.written state.old.sink)
-        (tale_text state.old.plan.tasks state.old.tale) state.old.sink_failed
-        → Prints base (W.written state.new.sink) (tale_text state.old.plan.tasks state.new.tale)
-        state.new.sink_failed }
+    ensures sink { KeepsCount W.faults state.old state.new }
+    ensures text { W.tells → PrintsOn W.written state.old state.new }
     ensures printed { W.tells → B.tells → (from : List Entry) (base : List ℕ) (before : Runs)
         → RanSaid state.old.plan None state.old.fault from state.old.tale before (B.place bench.old).runs base
         (W.written state.old.sink) → RanSaid state.old.plan (Some result) state.new.fault from state.new.tale before

@@ -1,10 +1,8 @@
 // The workers of a run.
-ghost use Rattle.std.specs.Prelude.{◌≡◌, ◌≤◌, ◌<◌, ◌++◌, ◌∷◌, ℕ, List, [], All, None, false, length, vec_capacity, vec_len};
+ghost use Rattle.std.specs.Prelude.{◌≡◌, ◌≤◌, ◌<◌, ◌++◌, ◌∷◌, [], All, None, false, length, vec_capacity, vec_len};
 ghost use Rattle.outside_traits.specs.Bench.{Gives};
-ghost use Rattle.outside_traits.specs.Fault.{Counts};
-ghost use Rattle.bb_report.specs.Runs.{tale_text};
 ghost use Rattle.run_core.specs.Fates.{NoneRuns};
-ghost use Rattle.run_queue.specs.Keeps.{IsFront, IsRun, IsSteady, Prints};
+ghost use Rattle.run_queue.specs.Keeps.{IsRun, IsSteady, KeepsCount, KeepsFront, PrintsOn};
 ghost use Rattle.run_queue.specs.Opening.{Opening};
 ghost use Rattle.run_queue.specs.Seen.{seen};
 ghost use Rattle.run_queue.specs.Turns.{SameRun, fates_of};
@@ -52,13 +50,9 @@ where
     ensures same { SameRun state result.0 }
     ensures none { NoneRuns (fates_of result.0) }
     ensures seats { HasSeats (length benches.items) result.0.tale }
-    ensures sink { (before : ℕ) → Counts before (W.faults state.sink) state.sink_failed
-        → Counts before (W.faults result.0.sink) result.0.sink_failed }
-    ensures text { W.tells → (base : List ℕ) → Prints base (W.written state.sink)
-        (tale_text state.plan.tasks state.tale) state.sink_failed
-        → Prints base (W.written result.0.sink) (tale_text state.plan.tasks result.0.tale) result.0.sink_failed }
-    ensures stays { W.tells → (front : List ℕ) → IsFront front (W.written state.sink)
-        → IsFront front (W.written result.0.sink) }
+    ensures sink { KeepsCount W.faults state result.0 }
+    ensures text { W.tells → PrintsOn W.written state result.0 }
+    ensures stays { W.tells → KeepsFront W.written state result.0 }
     ensures room { vec_capacity result.1 ≡ vec_capacity benches }
     ensures broke { AtWorkers (λ seat old new. BreaksByFault result.0.tale seat (B.faults old) (B.faults new))
         benches.items result.1.items }
@@ -106,13 +100,9 @@ where
     ensures seats { started_by 0 result.0.tale ≡ [] }
     ensures wide { HasSeats (length benches.items) result.0.tale }
     ensures calm { BreaksBench 0 result.0.tale → ⊥ }
-    ensures sink { (before : ℕ) → Counts before (W.faults state.sink) state.sink_failed
-        → Counts before (W.faults result.0.sink) result.0.sink_failed }
-    ensures text { W.tells → (base : List ℕ) → Prints base (W.written state.sink)
-        (tale_text state.plan.tasks state.tale) state.sink_failed
-        → Prints base (W.written result.0.sink) (tale_text state.plan.tasks result.0.tale) result.0.sink_failed }
-    ensures stays { W.tells → (front : List ℕ) → IsFront front (W.written state.sink)
-        → IsFront front (W.written result.0.sink) }
+    ensures sink { KeepsCount W.faults state result.0 }
+    ensures text { W.tells → PrintsOn W.written state result.0 }
+    ensures stays { W.tells → KeepsFront W.written state result.0 }
     ensures room { vec_capacity result.1 ≡ vec_capacity benches }
     ensures broke { AtWorkers (λ seat old new. BreaksByFault result.0.tale seat (B.faults old) (B.faults new))
         benches.items result.1.items }

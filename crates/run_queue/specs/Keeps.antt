@@ -4,6 +4,7 @@ use Rattle.std.specs.Bool.{OnTrue, OnFalse}
 use Rattle.std.specs.List.{AllByRecursion, slice_get}
 use Rattle.sha2.specs.Sha256.{sha256}
 use Rattle.tree_model.specs.declared.hash.Hash.{Hash}
+use Rattle.outside_traits.specs.Fault.{Counts}
 use Rattle.outside_traits.specs.Story.{IsImageSince, Story, moment}
 use Rattle.outside_traits.specs.Passes.{EachNow}
 use Rattle.outside_traits.specs.Store.{Store}
@@ -33,6 +34,7 @@ use Rattle.setscene_plan.specs.Names.{names_over}
 use Rattle.build_store.specs.View.{View}
 use Rattle.build_store.specs.declared.fault.StoreFault.{StoreFault}
 use Rattle.build_store.specs.declared.fault.StoreFault.TheVariants as fault_of
+use Rattle.bb_report.specs.Runs.{tale_text}
 use Rattle.bb_report.specs.Written.{WritesFront}
 use Rattle.run_queue.specs.declared.fault.RunFault.{RunFault}
 use Rattle.run_queue.specs.declared.fault.RunFault.TheVariants as ends
@@ -111,6 +113,21 @@ pub record Prints (base now text : List ℕ) (failed : Bool) : Type 0 where
 pub record IsFront (front text : List ℕ) : Type 0 where
   pub rest : List ℕ
   pub is : text ≡ front ++ rest
+
+-- where the sink's count of faults told just whether the sink had failed, it does so still
+abbrev pub KeepsCount : {D W : Type 0} → (W → ℕ) → RunView D W → RunView D W → Type 0
+KeepsCount faults old new =
+    (before : ℕ) → Counts before (faults old.sink) old.sink_failed → Counts before (faults new.sink) new.sink_failed
+
+-- where the tale was written, the tale that it became is
+abbrev pub PrintsOn : {D W : Type 0} → (W → List ℕ) → RunView D W → RunView D W → Type 0
+PrintsOn written old new =
+    (base : List ℕ) → Prints base (written old.sink) (tale_text old.plan.tasks old.tale) old.sink_failed
+    → Prints base (written new.sink) (tale_text old.plan.tasks new.tale) new.sink_failed
+
+-- what was written stays in front of what is
+abbrev pub KeepsFront : {D W : Type 0} → (W → List ℕ) → RunView D W → RunView D W → Type 0
+KeepsFront written old new = (front : List ℕ) → IsFront front (written old.sink) → IsFront front (written new.sink)
 
 -- What a run keeps besides over an opening whose premises hold. Tasks that `but` tells of may have been begun without being told of yet.
 pub record IsRunBut (o : Opening) (s : Seen) (but : ℕ → Type 0) : Type 0 where

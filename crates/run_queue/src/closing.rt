@@ -1,7 +1,6 @@
 // A job that was done comes to an end: its output is published, or it is marked how it failed.
-ghost use Rattle.std.specs.Prelude.{◌≡◌, ◌<◌, ◌≤◌, ◌⊎◌, ℕ, Bool, List, IfErr, IfOk, IfSome, IsSome, None, OnErr, OnOk, Some, length};
+ghost use Rattle.std.specs.Prelude.{◌≡◌, ◌<◌, ◌≤◌, ◌⊎◌, Bool, IfErr, IfOk, IfSome, IsSome, None, OnErr, OnOk, Some, length};
 ghost use Rattle.std.specs.List.{slice_get};
-ghost use Rattle.outside_traits.specs.Fault.{Counts};
 ghost use Rattle.outside_traits.specs.Passes.{Passes, Same};
 ghost use Rattle.meta_model.specs.declared.plan.PlanTask.{PlanTask as Task};
 ghost use Rattle.tree_model.specs.Manifest.{manifest_lines};
@@ -14,10 +13,9 @@ ghost use Rattle.build_store.specs.Publication.{AreShort, IsAgreed, line_for, pu
 ghost use Rattle.build_store.specs.Sound.{IsReadable};
 ghost use Rattle.build_store.specs.View.{SameBooks};
 ghost use Rattle.task_worker.specs.Jobs.{IsGiven};
-ghost use Rattle.bb_report.specs.Runs.{tale_text};
 ghost use Rattle.run_queue.specs.Opening.{Opening};
 ghost use Rattle.run_queue.specs.Asking.{earlier_in, kept_or_meant};
-ghost use Rattle.run_queue.specs.Keeps.{IsCause, IsFront, IsRun, IsSteady, IsSteadyAnswer, IsStoreCause, Prints};
+ghost use Rattle.run_queue.specs.Keeps.{IsCause, IsRun, IsSteady, IsSteadyAnswer, IsStoreCause, KeepsCount, KeepsFront, PrintsOn};
 ghost use Rattle.run_queue.specs.Puts.{HasPut, IsCleanOutput, IsSignedAt, Puts};
 ghost use Rattle.run_queue.specs.Seen.{no_meaning, seen};
 ghost use Rattle.run_queue.specs.Turns.{Ends, IsCleanJob, IsGivenBy, RestsAfterFault, RunsUnder, SameRun};
@@ -153,14 +151,9 @@ impl<D: Disk, W: Sink> RunState<D, W> {
         requires listed { manifest.now ≡ manifest_lines tree.now }
         ensures ends { Ends number task (givens.Tree tree.now manifest.now) self.old self.new result }
         ensures same { SameRun self.old self.new }
-        ensures sink { (before : ℕ) → Counts before (W.faults self.old.sink) self.old.sink_failed
-            → Counts before (W.faults self.new.sink) self.new.sink_failed }
-        ensures text { W.tells → (base : List ℕ) → Prints base (W.written self.old.sink)
-            (tale_text self.old.plan.tasks self.old.tale) self.old.sink_failed
-            → Prints base (W.written self.new.sink) (tale_text self.old.plan.tasks self.new.tale)
-            self.new.sink_failed }
-        ensures stays { W.tells → (front : List ℕ) → IsFront front (W.written self.old.sink)
-            → IsFront front (W.written self.new.sink) }
+        ensures sink { KeepsCount W.faults self.old self.new }
+        ensures text { W.tells → PrintsOn W.written self.old self.new }
+        ensures stays { W.tells → KeepsFront W.written self.old self.new }
 
         // Where the disk tells.
         ensures run { D.tells → (o : Opening) → IsRun o (seen D.story W.written self.old)
@@ -216,14 +209,9 @@ impl<D: Disk, W: Sink> RunState<D, W> {
         ensures ends { Ends number job.task given self.old self.new result }
         ensures same { SameRun self.old self.new }
         ensures rests { RestsAfterFault self.old self.new }
-        ensures sink { (before : ℕ) → Counts before (W.faults self.old.sink) self.old.sink_failed
-            → Counts before (W.faults self.new.sink) self.new.sink_failed }
-        ensures text { W.tells → (base : List ℕ) → Prints base (W.written self.old.sink)
-            (tale_text self.old.plan.tasks self.old.tale) self.old.sink_failed
-            → Prints base (W.written self.new.sink) (tale_text self.old.plan.tasks self.new.tale)
-            self.new.sink_failed }
-        ensures stays { W.tells → (front : List ℕ) → IsFront front (W.written self.old.sink)
-            → IsFront front (W.written self.new.sink) }
+        ensures sink { KeepsCount W.faults self.old self.new }
+        ensures text { W.tells → PrintsOn W.written self.old self.new }
+        ensures stays { W.tells → KeepsFront W.written self.old self.new }
 
         // Where the disk tells.
         ensures run { D.tells → (o : Opening) → IsRun o (seen D.story W.written self.old)

@@ -1,7 +1,6 @@
 // Tasks whose outputs are there as shared state objects.
-ghost use Rattle.std.specs.Prelude.{◌≡◌, ◌<◌, ◌≤◌, ℕ, List, IfErr, IfOk, IfSome, None, OnOk, Some, length};
+ghost use Rattle.std.specs.Prelude.{◌≡◌, ◌<◌, ◌≤◌, IfErr, IfOk, IfSome, None, OnOk, Some, length};
 ghost use Rattle.std.specs.List.{slice_get};
-ghost use Rattle.outside_traits.specs.Fault.{Counts};
 ghost use Rattle.meta_model.specs.declared.event.Avail.TheVariants as avails;
 ghost use Rattle.plan_model.specs.Sound.{IsSound};
 ghost use Rattle.store_model.specs.Signatures.{Signed};
@@ -9,9 +8,8 @@ ghost use Rattle.setscene_plan.specs.Replans.{IsCurrent};
 ghost use Rattle.build_store.specs.View.{SameBooks};
 ghost use Rattle.run_core.specs.Fates.{IsFree};
 ghost use Rattle.run_core.specs.declared.fate.Next.TheVariants as next;
-ghost use Rattle.bb_report.specs.Runs.{tale_text};
 ghost use Rattle.run_queue.specs.Opening.{Opening};
-ghost use Rattle.run_queue.specs.Keeps.{IsFront, IsRun, IsSteady, IsSteadyAnswer, IsStoreCause, Prints};
+ghost use Rattle.run_queue.specs.Keeps.{IsRun, IsSteady, IsSteadyAnswer, IsStoreCause, KeepsCount, KeepsFront, PrintsOn};
 ghost use Rattle.run_queue.specs.Puts.{HasPutObject, IsSignedAt, PutsObject};
 ghost use Rattle.run_queue.specs.Seen.{no_meaning, seen};
 ghost use Rattle.run_queue.specs.Turns.{MayDo, RestoresTo, SameRun, fates_of};
@@ -77,14 +75,9 @@ impl<D: Disk, W: Sink> RunState<D, W> {
         requires there { IfSome self.old.known (λ k. slice_get k.avail task ≡ Some avails.Object) }
         ensures restores { RestoresTo number task self.old self.new result }
         ensures same { SameRun self.old self.new }
-        ensures sink { (before : ℕ) → Counts before (W.faults self.old.sink) self.old.sink_failed
-            → Counts before (W.faults self.new.sink) self.new.sink_failed }
-        ensures text { W.tells → (base : List ℕ) → Prints base (W.written self.old.sink)
-            (tale_text self.old.plan.tasks self.old.tale) self.old.sink_failed
-            → Prints base (W.written self.new.sink) (tale_text self.old.plan.tasks self.new.tale)
-            self.new.sink_failed }
-        ensures stays { W.tells → (front : List ℕ) → IsFront front (W.written self.old.sink)
-            → IsFront front (W.written self.new.sink) }
+        ensures sink { KeepsCount W.faults self.old self.new }
+        ensures text { W.tells → PrintsOn W.written self.old self.new }
+        ensures stays { W.tells → KeepsFront W.written self.old self.new }
         ensures steady { IsSteady self.old.fault → IsSteady self.new.fault }
 
         // Where the disk tells.

@@ -1,12 +1,10 @@
 // A ready task is started.
-ghost use Rattle.std.specs.Prelude.{◌≡◌, ℕ, List, None};
-ghost use Rattle.outside_traits.specs.Fault.{Counts};
+ghost use Rattle.std.specs.Prelude.{◌≡◌, None};
 ghost use Rattle.run_core.specs.Fates.{IsFree};
 ghost use Rattle.run_core.specs.declared.fate.Next.TheVariants as next;
 ghost use Rattle.run_queue.specs.Opening.{Opening};
 ghost use Rattle.run_queue.specs.Seen.{seen};
-ghost use Rattle.bb_report.specs.Runs.{tale_text};
-ghost use Rattle.run_queue.specs.Keeps.{IsFront, IsRun, IsSteady, Prints};
+ghost use Rattle.run_queue.specs.Keeps.{IsRun, IsSteady, KeepsCount, KeepsFront, PrintsOn};
 ghost use Rattle.run_queue.specs.Turns.{Claims, ClaimsClean, MayDo, SameRun, fates_of};
 
 use crate::fault::keep;
@@ -26,14 +24,9 @@ impl<D: Disk, W: Sink> RunState<D, W> {
         requires answer { MayDo self.old (next.Start task) }
         ensures claims { Claims number self.old self.new result }
         ensures same { SameRun self.old self.new }
-        ensures sink { (before : ℕ) → Counts before (W.faults self.old.sink) self.old.sink_failed
-            → Counts before (W.faults self.new.sink) self.new.sink_failed }
-        ensures text { W.tells → (base : List ℕ) → Prints base (W.written self.old.sink)
-            (tale_text self.old.plan.tasks self.old.tale) self.old.sink_failed
-            → Prints base (W.written self.new.sink) (tale_text self.old.plan.tasks self.new.tale)
-            self.new.sink_failed }
-        ensures stays { W.tells → (front : List ℕ) → IsFront front (W.written self.old.sink)
-            → IsFront front (W.written self.new.sink) }
+        ensures sink { KeepsCount W.faults self.old self.new }
+        ensures text { W.tells → PrintsOn W.written self.old self.new }
+        ensures stays { W.tells → KeepsFront W.written self.old self.new }
         ensures steady { IsSteady self.old.fault → IsSteady self.new.fault }
 
         // Where the disk tells.

@@ -7,8 +7,8 @@ ghost use Rattle.run_core.specs.declared.fate.Fate.TheVariants.{Waiting};
 ghost use Rattle.plan_model.specs.Sound.{IsSound};
 ghost use Rattle.run_queue.specs.Opening.{Opening, MayRun};
 ghost use Rattle.run_queue.specs.Seen.{seen};
-ghost use Rattle.run_queue.specs.Keeps.{Begun, IsFront, IsOpening, IsRun, IsState, IsSteady, Prints};
-ghost use Rattle.bb_report.specs.Runs.{event_line, tale_text};
+ghost use Rattle.run_queue.specs.Keeps.{Begun, IsFront, IsOpening, IsRun, IsState, IsSteady, KeepsCount, KeepsFront, Prints, PrintsOn};
+ghost use Rattle.bb_report.specs.Runs.{event_line};
 ghost use Rattle.run_queue.specs.Turns.{Marks, MarksAt, Notes, RunsUnder, SameButSink, SameRun, fates_of};
 ghost use Rattle.meta_model.specs.declared.event.Event.TheVariants as events;
 
@@ -196,14 +196,9 @@ impl<D: Disk, W: Sink> RunState<D, W> {
         ensures same { SameRun self.old self.new }
         ensures store { self.new.store ≡ self.old.store }
         ensures fault { IsSome self.old.fault → self.new.fault ≡ self.old.fault }
-        ensures sink { (before : ℕ) → Counts before (W.faults self.old.sink) self.old.sink_failed
-            → Counts before (W.faults self.new.sink) self.new.sink_failed }
-        ensures text { W.tells → (base : List ℕ) → Prints base (W.written self.old.sink)
-            (tale_text self.old.plan.tasks self.old.tale) self.old.sink_failed
-            → Prints base (W.written self.new.sink) (tale_text self.old.plan.tasks self.new.tale)
-            self.new.sink_failed }
-        ensures stays { W.tells → (front : List ℕ) → IsFront front (W.written self.old.sink)
-            → IsFront front (W.written self.new.sink) }
+        ensures sink { KeepsCount W.faults self.old self.new }
+        ensures text { W.tells → PrintsOn W.written self.old self.new }
+        ensures stays { W.tells → KeepsFront W.written self.old self.new }
         ensures steady { IsSteady self.old.fault → IsSteady self.new.fault }
 
         // Where the disk tells.
@@ -226,11 +221,9 @@ impl<D: Disk, W: Sink> RunState<D, W> {
         ensures text { W.tells → (base text : List ℕ) → Prints base (W.written self.old.sink) text
             self.old.sink_failed → Prints base (W.written self.new.sink)
             (text ++ event_line self.old.plan.tasks event) self.new.sink_failed }
-        ensures stays { W.tells → (front : List ℕ) → IsFront front (W.written self.old.sink)
-            → IsFront front (W.written self.new.sink) }
+        ensures stays { W.tells → KeepsFront W.written self.old self.new }
         ensures steady { IsSteady self.old.fault → IsSteady self.new.fault }
-        ensures sink { (before : ℕ) → Counts before (W.faults self.old.sink) self.old.sink_failed
-            → Counts before (W.faults self.new.sink) self.new.sink_failed }
+        ensures sink { KeepsCount W.faults self.old self.new }
     {
         self.board.mark(&event);
         self.tale.push_reserved(Logged {
@@ -254,11 +247,9 @@ impl<D: Disk, W: Sink> RunState<D, W> {
             → Prints base (W.written self.old.sink) text self.old.sink_failed
             → Prints base (W.written self.new.sink) (text ++ event_line self.old.plan.tasks event)
             self.new.sink_failed) }
-        ensures stays { W.tells → (front : List ℕ) → IsFront front (W.written self.old.sink)
-            → IsFront front (W.written self.new.sink) }
+        ensures stays { W.tells → KeepsFront W.written self.old self.new }
         ensures steady { IsSteady self.old.fault → IsSteady self.new.fault }
-        ensures sink { (before : ℕ) → Counts before (W.faults self.old.sink) self.old.sink_failed
-            → Counts before (W.faults self.new.sink) self.new.sink_failed }
+        ensures sink { KeepsCount W.faults self.old self.new }
     {
         let more = self.board.running() + 2;
         self.tale.reserve(more)?;
@@ -280,12 +271,10 @@ impl<D: Disk, W: Sink> RunState<D, W> {
         ensures text { W.tells → (base text : List ℕ) → Prints base (W.written self.old.sink) text
             self.old.sink_failed → Prints base (W.written self.new.sink)
             (text ++ event_line self.old.plan.tasks event.now) self.new.sink_failed }
-        ensures stays { W.tells → (front : List ℕ) → IsFront front (W.written self.old.sink)
-            → IsFront front (W.written self.new.sink) }
+        ensures stays { W.tells → KeepsFront W.written self.old self.new }
         ensures steady { IsSteady self.old.fault → IsSteady self.new.fault }
         ensures fault { IsSome self.old.fault → self.new.fault ≡ self.old.fault }
-        ensures sink { (before : ℕ) → Counts before (W.faults self.old.sink) self.old.sink_failed
-            → Counts before (W.faults self.new.sink) self.new.sink_failed }
+        ensures sink { KeepsCount W.faults self.old self.new }
     {
         self.sink_failed = write_unless(&mut self.sink, self.sink_failed, &self.plan, event);
         if self.sink_failed && self.fault.is_none() {

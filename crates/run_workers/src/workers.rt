@@ -2,11 +2,11 @@
 ghost use Rattle.std.specs.Prelude.{◌≡◌, ◌≤◌, ◌<◌, ◌+◌, ◌++◌, ℕ, [], All, List, None, Some, length, take, vec_len, vec_capacity};
 ghost use Rattle.std.specs.List.{slice_get};
 ghost use Rattle.std.specs.Thread.{IsSync};
-ghost use Rattle.outside_traits.specs.Fault.{Counts, Rose};
+ghost use Rattle.outside_traits.specs.Fault.{Rose};
 ghost use Rattle.bb_report.specs.Runs.{tale_text};
 ghost use Rattle.run_core.specs.Fates.{NoneRuns};
 ghost use Rattle.run_queue.specs.Opening.{Opening};
-ghost use Rattle.run_queue.specs.Keeps.{IsFront, IsRun, IsSteady, Prints};
+ghost use Rattle.run_queue.specs.Keeps.{IsFront, IsRun, IsSteady, KeepsCount, KeepsFront, Prints};
 ghost use Rattle.run_queue.specs.Seen.{seen};
 ghost use Rattle.run_queue.specs.Turns.{SameRun, fates_of};
 ghost use Rattle.turn_lock.specs.Seats.{view_of, IsFree, IsSeatOf};
@@ -154,13 +154,11 @@ where
         → IsRun o (seen D.story W.written state) → IsRun o (seen D.story W.written result.0) }
     ensures steady { D.tells → B.tells → (o : Opening) → All (λ b. B.gives b ≡ o.gives) benches.items
         → IsRun o (seen D.story W.written state) → IsSteady state.fault → IsSteady result.0.fault }
-    ensures sink { (before : ℕ) → Counts before (W.faults state.sink) state.sink_failed
-        → Counts before (W.faults result.0.sink) result.0.sink_failed }
+    ensures sink { KeepsCount W.faults state result.0 }
     ensures text { W.tells → (base : List ℕ) → Prints base (W.written state.sink)
         (tale_text state.plan.tasks state.tale) state.sink_failed
         → Prints base (W.written result.0.sink) (tale_text result.0.plan.tasks result.0.tale) result.0.sink_failed }
-    ensures stays { W.tells → (front : List ℕ) → IsFront front (W.written state.sink)
-        → IsFront front (W.written result.0.sink) }
+    ensures stays { W.tells → KeepsFront W.written state result.0 }
 
     // Each entry was marked by the seat of a bench.
     ensures seats { All (λ e. (0 < e.seat) × (e.seat ≤ length benches.items)) result.0.tale }
