@@ -1,10 +1,12 @@
 // Where a text is cut into physical lines, and what a line's ends say.
-ghost use Rattle.std.specs.Prelude.{◌≡◌, ℕ, ◌+◌, ◌-◌, ◌<◌, ◌≤◌, ◌&&◌, ◌||◌, ◌==◌, ◌∷◌, length, take, IsTrue, IfSome, is_some, position, slice_index};
+ghost use Rattle.std.specs.Prelude.{◌≡◌, ◌<◌, ◌||◌, ◌==◌, ◌∷◌, length, IfSome, is_some, position};
+ghost use Rattle.std.specs.Option.{option_copied};
 ghost use Rattle.std.specs.List.{list_any};
-ghost use Rattle.meta_model.specs.Text.{newline, carriage_return, equals, is_blank, is_quote, is_empty, is_one_of, skip_blanks, without_end, without_last};
+ghost use Rattle.meta_model.specs.Text.{newline, carriage_return, equals, is_blank, is_quote, is_empty, without_end, without_last};
 ghost use Rattle.meta_model.specs.Lines.{pieces, is_comment, is_joined, without_opening, opens_body};
 
 use byte_scan::first_of;
+use meta_model::{after_blanks, kept_len, unblanked};
 
 /// The place of the first newline.
 fn newline_at(bytes: &[u8]) -> Option<usize>
@@ -25,19 +27,6 @@ pub(crate) fn first_piece(text: &str) -> (&str, &str)
     }
 }
 
-/// How much of a line is left without the bytes of this set at its end.
-fn kept_len(line: &[u8], ends: &[u8]) -> usize
-    ensures within { result ≤ length line.now }
-    ensures kept { take result line.now ≡ without_end (is_one_of ends.now) line.now }
-    ensures stop { result < length line.now → IsTrue (is_one_of ends.now (slice_index line.now result)) }
-{
-    let mut end = line.len();
-    while end > 0 && ends.contains(&line[end - 1]) {
-        end -= 1;
-    }
-    end
-}
-
 /// The line without the blanks and carriage returns at its end.
 pub(crate) fn trimmed(line: &str) -> &str
     ensures { result.now ≡ without_end (λ c. is_blank c || c == carriage_return) line.now }
@@ -46,28 +35,11 @@ pub(crate) fn trimmed(line: &str) -> &str
     &line[..end]
 }
 
-fn is_a_blank(byte: u8) -> bool
-    ensures { result ≡ is_blank byte }
-{
-    byte == b' ' || byte == b'\t'
-}
-
-/// The line from its first byte that isn't a blank.
-fn skipped(line: &[u8]) -> &[u8]
-    ensures { result.now ≡ skip_blanks line.now }
-{
-    let mut rest = line;
-    while !rest.is_empty() && is_a_blank(rest[0]) {
-        rest = &rest[1..];
-    }
-    rest
-}
-
 /// Whether a `#` is the line's first byte that isn't a blank.
 pub(crate) fn begins_comment(line: &str) -> bool
     ensures { result ≡ is_comment line.now }
 {
-    skipped(line.as_bytes()).starts_with(b"#")
+    after_blanks(line.as_bytes()).starts_with(b"#")
 }
 
 /// Whether nothing or a comment stands on the line.
@@ -96,22 +68,23 @@ fn holds_sign(line: &[u8]) -> bool
     first_of(line, b"=\"'").is_some()
 }
 
-/// Whether the line ends with `()`, optional blanks and `{`.
-fn ends_in_opening(line: &[u8]) -> bool
-    ensures { result ≡ is_some (without_opening line.now) }
+/// What stands before `()`, optional blanks and `{`, where the line ends so.
+pub fn before_opening(line: &str) -> Option<&str>
+    ensures { option_copied result ≡ without_opening line.now }
 {
-    if !line.ends_with(b"{") {
-        return false;
+    if !line.as_bytes().ends_with(b"{") {
+        return None;
     }
-    let front = &line[..line.len() - 1];
-    let head = &front[..kept_len(front, b" \t")];
-    head.ends_with(b"()")
+    let head = unblanked(&line[..line.len() - 1]);
+    if !head.as_bytes().ends_with(b"()") {
+        return None;
+    }
+    Some(&head[..head.len() - 2])
 }
 
-/// Whether the line opens a function body.
-pub(crate) fn opens(line: &str) -> bool
+/// Whether the line opens a function body: it ends with `()`, optional blanks and `{`, and holds neither `=` nor a quote.
+pub fn opens(line: &str) -> bool
     ensures { result ≡ opens_body line.now }
 {
-    let bytes = line.as_bytes();
-    ends_in_opening(bytes) && !holds_sign(bytes)
+    before_opening(line).is_some() && !holds_sign(line.as_bytes())
 }

@@ -19,6 +19,7 @@ mod lexer;
 mod list;
 mod step;
 
+pub use cut::{before_opening, opens};
 pub use fault::{LexFault, LexKind};
 pub use lexer::lines;
 pub use list::Lines;

@@ -4,18 +4,12 @@ use Rattle.std.proofs.lemmas.Bool.{eqb-true, and_parts}
 use Rattle.std.specs.List.{list_all}
 use Rattle.std.specs.Char.{is_ascii_alphanumeric}
 use Rattle.std.proofs.lemmas.Bool.Decides.{nat_tests}
-use Rattle.meta_model.specs.Text.{is_blank, is_white, is_one_of, is_letter_digit_or}
+use Rattle.meta_model.specs.Text.{is_one_of, is_letter_digit_or}
 
 -- one of two tests holds
 pub one_of_two : {P : Type 0} (a b : Bool) → a || b ≡ true → (a ≡ true → P) → (b ≡ true → P) → P
 one_of_two true b e f g = f refl
 one_of_two false b e f g = g e
-
-pub blank-ascii : (c : ℕ) → is_blank c ≡ true → c < 128
-blank-ascii c e = grind (arith, nat_tests)
-
-pub white-ascii : (c : ℕ) → is_white c ≡ true → c < 128
-white-ascii c e = grind (arith, nat_tests)
 
 alphanumeric-ascii : (c : ℕ) → is_ascii_alphanumeric c ≡ true → c < 128
 alphanumeric-ascii c e = grind (arith, nat_tests)

@@ -18,7 +18,7 @@ use Rattle.meta_model.specs.Grammar.{Fit, Quoted, quoted, operator_here, â—Œ>>=â
 use Rattle.meta_model.specs.Statements.{AreStatements, statements, statements_of_lines, with_statement, of_lines, statement_of, body_of, ends_in_body, is_python_word, holds_python, statement_holds_python, statement_is_reserved, is_allowed, first_word, first_or_empty}
 use Rattle.bb_parser.specs.Written.{is_one_line, is_free_name, is_python_name, are_whole_lines, begins_unblank, can_follow, line_of_text, can_be_written, IsNowhere}
 use Rattle.bb_parser.proofs.Cuts.{starts-is, ends-is}
-use Rattle.bb_lexer.proofs.Ends.{without_end-stays}
+use Rattle.meta_model.proofs.Edges.{without_end-stays}
 use Rattle.bb_parser.proofs.FormFacts.{fit_of-opens, two_lists}
 use Rattle.bb_parser.proofs.NameSearch.{name_char}
 use Rattle.bb_parser.proofs.WrittenNames

@@ -1,5 +1,4 @@
 pub mod Tests
-pub mod Blanks
 pub mod Fronts
 pub mod NameSearch
 pub mod Bounds

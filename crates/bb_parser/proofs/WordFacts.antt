@@ -1,5 +1,5 @@
--- The words of a text, one after another.
-use Rattle.std.proofs.Common.{◌≡◌, ℕ, ◌+◌, ◌<◌, ◌≤◌, Bool, true, false, ◌==◌, List, [], ◌∷◌, length, drop, get_or, refl, sym, ap, ◌∙◌, ◌⊎◌, inl, inr, length-drop, arith, add-one, one-add, drop-cons}
+-- The first word of a text.
+use Rattle.std.proofs.Common.{◌≡◌, ℕ, ◌+◌, ◌<◌, Bool, true, false, List, [], ◌∷◌, length, drop, get_or, refl, sym, ap, ◌∙◌, ◌⊎◌, inl, inr, add-one, one-add, drop-cons}
 use Rattle.std.specs.List.{position_or_len, before_first, slice_split}
 use Rattle.meta_model.specs.Text.{is_white, words, non_empty}
 use Rattle.meta_model.specs.Statements.{first_word, first_or_empty}
@@ -8,11 +8,6 @@ use Rattle.bb_parser.specs.Words.{skip_white}
 -- the white space at the place n goes
 pub skip_white-more : (xs : List ℕ) (n : ℕ) → n < length xs → is_white (get_or xs n 0) ≡ true → skip_white (drop (n + 1) xs) ≡ skip_white (drop n xs)
 skip_white-more xs n h t = rw (add-one, drop-cons xs n 0 h, t) refl
-
--- a text that isn't empty has a character
-pub some_there : (xs : List ℕ) (b : Bool) → b ≡ (length xs == 0) → b ≡ false → 0 < length xs
-some_there [] b e t = cc
-some_there (x ∷ xs) b e t = omega arith
 
 -- white space in front begins no word
 pub words-white : (c : ℕ) (s : List ℕ) → is_white c ≡ true → words (c ∷ s) ≡ words s
@@ -60,40 +55,8 @@ skip_white-front (c ∷ s) = by_case (is_white c) refl (skip_white-front s)
     by_case true e h = rw e h
     by_case false e h = inr (c, s, rw e refl, e)
 
-pub skip_white-again : (s : List ℕ) → skip_white (skip_white s) ≡ skip_white s
-skip_white-again s = elim (skip_white-front s) [
-  | inl e ↦ rw e refl
-  | inr h ↦ rw (h.2, h.3) refl
-]
-
 pub first_word-is : (s : List ℕ) → first_word s ≡ before_first is_white (skip_white s)
 first_word-is s = ap first_or_empty (sym (words-skip s)) ∙ elim (skip_white-front s) [
   | inl e ↦ rw e refl
   | inr h ↦ rw h.2 (ap first_or_empty (words-step h.0 h.1 h.3))
 ]
-
-skip_white-short : (s : List ℕ) → length (skip_white s) ≤ length s
-skip_white-short [] = omega arith
-skip_white-short (c ∷ s) = by_case (is_white c) refl (skip_white-short s)
-  where
-    by_case : (b : Bool) → is_white c ≡ b → length (skip_white s) ≤ length s → length (skip_white (c ∷ s)) ≤ length (c ∷ s)
-    by_case true e h = rw e (omega arith)
-    by_case false e h = rw e (omega arith)
-
-no_white : (c : ℕ) (s : List ℕ) → skip_white (c ∷ s) ≡ c ∷ s → is_white c ≡ false
-no_white c s e = by_case (is_white c) refl
-  where
-    by_case : (b : Bool) → is_white c ≡ b → is_white c ≡ false
-    by_case true t = absurd (omega (arith, ap length (rw t at e), skip_white-short s))
-    by_case false t = t
-
--- a text that isn't empty and begins with no white space has a first word
-pub words-next : (r : List ℕ) → 0 < length r → skip_white r ≡ r → words r ≡ before_first is_white r ∷ words (skip_white (drop (position_or_len is_white r) r))
-words-next [] h e = absurd (omega arith)
-words-next (c ∷ s) h e = words-step c s (no_white c s e)
-
--- and less remains behind it
-pub words-shorter : (r : List ℕ) → 0 < length r → skip_white r ≡ r → length (skip_white (drop (position_or_len is_white r) r)) < length r
-words-shorter [] h e = absurd (omega arith)
-words-shorter (c ∷ s) h e = let t = no_white c s e in
-    rw (t, one-add) (let a = skip_white-short (drop (position_or_len is_white s) s) in let b = length-drop (position_or_len is_white s) s in omega arith)

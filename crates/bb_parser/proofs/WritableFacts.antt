@@ -12,7 +12,7 @@ use Rattle.meta_model.specs.Grammar.{assignment}
 use Rattle.bb_parser.specs.declared.fault.PrintFault.{PrintFault}
 use Rattle.bb_parser.proofs.WrittenLines.{pieces-line}
 use Rattle.bb_parser.specs.Written.{is_dropped, is_body_line, ends_line, are_whole_lines, words_text, part_words, task_words, exports_text, Writes}
-use Rattle.bb_lexer.proofs.Ends.{without_end-goes, without_end-stays}
+use Rattle.meta_model.proofs.Edges.{without_end-goes, without_end-stays}
 use Rattle.bb_parser.proofs.NameSearch.{with_char}
 use Rattle.bb_parser.proofs.QuoteFacts.{with_last}
 

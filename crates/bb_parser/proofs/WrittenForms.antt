@@ -16,7 +16,7 @@ use Rattle.meta_model.specs.Lines.{is_comment, is_joined, opens_body, lines_of_t
 use Rattle.meta_model.specs.Grammar.{Fit, ◌>>=◌, operator, operation, quoted, behind_word, assignment, flag_of_name, flag_assignment, fit_of, value_forms_of, directive_forms_of}
 use Rattle.meta_model.specs.Statements.{AreStatements, statement_of, is_fakeroot, is_python_word, holds_python, statement_holds_python, statement_is_reserved, is_reserved, is_allowed, first_word}
 use Rattle.bb_parser.specs.Written.{is_word, is_one_line, is_dropped, is_quotable, is_python_name, is_refused_name, times_of, is_free_name, can_follow, line_of_text, name_and_flag_text, operator_text, quote_of, operation_text, flag_text, needs_join, whole_line}
-use Rattle.bb_lexer.proofs.Ends.{without_end-stays}
+use Rattle.meta_model.proofs.Edges.{without_end-stays}
 use Rattle.std.proofs.lemmas.Slice.Eq.{bytes_eq-Decides}
 use Rattle.meta_model.specs.declared.line.Place.TheVariants.{Plain}
 use Rattle.bb_parser.proofs.QuoteFacts.{with_last}

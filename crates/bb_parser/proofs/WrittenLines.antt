@@ -17,7 +17,7 @@ use Rattle.bb_parser.proofs.ReadingFacts.{statements-lines}
 use Rattle.bb_lexer.proofs.WholeLines.{step-outside, step-joining}
 use Rattle.std.proofs.lemmas.List.Folds.{list_all-append}
 use Rattle.bb_parser.specs.Written.{is_one_line, is_dropped, is_body_line, ends_line}
-use Rattle.bb_lexer.proofs.Ends.{without_end-stays}
+use Rattle.meta_model.proofs.Edges.{without_end-stays}
 use Rattle.bb_parser.proofs.Tests.{not_false}
 
 -- a line before a newline

@@ -16,7 +16,7 @@ use Rattle.meta_model.specs.Lines.{pieces, is_joined, opens_body, without_openin
 use Rattle.meta_model.specs.Grammar.{fit_of, function_head}
 use Rattle.meta_model.specs.Statements.{AreStatements, is_reserved, is_allowed, is_weak, holds_python, first_word}
 use Rattle.bb_parser.specs.Written.{is_dropped, ends_line, is_body_line, is_body_text, is_free_name, is_python_name, is_refused_name, is_quotable, is_task, line_of_text, name_and_flag_text, flag_text, words_text, task_words, exports_text, assignment_text, operation_text, function_text, text_of, can_be_written}
-use Rattle.bb_lexer.proofs.Ends.{without_end-goes, without_end-stays}
+use Rattle.meta_model.proofs.Edges.{without_end-goes, without_end-stays}
 use Rattle.bb_parser.proofs.FormFacts.{fit_of-opens}
 use Rattle.bb_parser.proofs.NameSearch.{name_char}
 use Rattle.bb_parser.proofs.WrittenLines.{drop-push, without_last-push, joined-no, no_comment, function_lines, file_of_function}

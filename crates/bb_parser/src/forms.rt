@@ -6,10 +6,11 @@ ghost use Rattle.bb_parser.specs.Forms.{GivesFit, fit_of_found, name_and_flag, l
 
 use crate::names::{is_a_flag, is_a_name, name_end};
 use crate::quotes::operator_and_text;
-use crate::scan::{before_opening, has_nothing, opens, skipped, split_at, unblanked};
+use crate::scan::{has_nothing, split_at};
 use crate::tasks::{added_tasks, deleted_tasks};
-use crate::word_list::{behind, words_of};
-use meta_model::Statement;
+use crate::word_list::behind;
+use bb_lexer::{before_opening, opens};
+use meta_model::{Statement, skipped, unblanked, words};
 use std::alloc::Global;
 use tree_model::{Mem, Text, Texts};
 
@@ -209,7 +210,7 @@ fn words_behind(alloc: Global, word: &[u8], line: &str) -> Result<Option<Texts>,
     let Some(text) = behind(word, line) else {
         return Ok(None);
     };
-    let list = words_of(alloc, text)?;
+    let list = words(alloc, text)?;
     if list.as_slice().is_empty() {
         Ok(None)
     } else {

@@ -9,11 +9,11 @@ ghost use Rattle.bb_parser.specs.Written.{is_free_name, is_quotable, can_follow,
 
 use crate::fault::PrintFault;
 use crate::quotes::times;
-use crate::scan::opens;
 use crate::writable::{
     are_tasks, are_words, can_assign_flag, can_be_assigned, can_be_flagged, can_be_function,
     can_stand_behind, has_none, is_assignment, is_dropped_at_end, is_free, is_refused,
 };
+use bb_lexer::opens;
 use meta_model::{Op, Statement};
 use std::alloc::Global;
 use tree_model::{Mem, Text, Texts};

@@ -7,8 +7,8 @@ ghost use Rattle.meta_model.specs.Names.{is_name, is_flag, is_late, keyword};
 ghost use Rattle.meta_model.specs.Grammar.{operator, operator_here};
 ghost use Rattle.meta_model.specs.Statements.{is_reserved};
 
-use crate::scan::{after, after_blanks, has_nothing, skipped, up_to};
-use meta_model::Op;
+use crate::scan::{after, has_nothing, up_to};
+use meta_model::{Op, after_blanks, skipped};
 
 /// Whether a character can stand in a name.
 fn is_in_name(c: u8) -> bool
@@ -87,8 +87,6 @@ fn operator_at(text: &[u8]) -> Option<(Op, usize)>
     }
     None
 }
-
-/// Whether an operator stands at the front.
 
 /// Whether an operator stands at the front, behind blanks.
 fn has_operator(line: &[u8]) -> bool

@@ -5,8 +5,7 @@ ghost use Rattle.meta_model.specs.Text.{skip_blanks};
 ghost use Rattle.bb_parser.specs.Quotes.{quoted_of_found, operation_of_found};
 
 use crate::names::first_operator;
-use crate::scan::skipped;
-use meta_model::Op;
+use meta_model::{Op, skipped};
 
 /// A text in quotes.
 #[derive(Clone, Copy)]

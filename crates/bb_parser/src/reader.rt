@@ -8,8 +8,7 @@ ghost use Rattle.bb_parser.specs.Reading.{statement_at, kind_of_lines, is_body, 
 use crate::fault::{ParseFault, ParseKind};
 use crate::line_statement::statement_of_line;
 use crate::list::Statements;
-use crate::scan::opens;
-use bb_lexer::{LexFault, LexKind, Line, Place, lines};
+use bb_lexer::{LexFault, LexKind, Line, Place, lines, opens};
 use meta_model::{Kind, Statement};
 use std::alloc::Global;
 use tree_model::{Mem, Text};

@@ -9,11 +9,10 @@ ghost use Rattle.bb_parser.specs.Written.{is_one_line, is_quotable, is_free_name
 
 use crate::names::{has_keyword, is_a_flag, is_a_name, is_set_by_program, name_end};
 use crate::quotes::{operator_and_text, times};
-use crate::scan::{
-    has_nothing, holds_python_reference, is_a_blank, is_white_space, opens, place_of,
-};
+use crate::scan::{has_nothing, holds_python_reference, place_of};
 use crate::tasks::can_be_task;
-use meta_model::Op;
+use bb_lexer::opens;
+use meta_model::{Op, is_a_blank, is_white_space};
 use tree_model::Text;
 
 /// Whether no newline stands in a text.

@@ -1,6 +1,7 @@
 pub mod Bools
 pub mod Adding
 pub mod Building
+pub mod Edges
 pub mod Escaping
 pub mod Gathered
 pub mod Limits
@@ -14,4 +15,5 @@ pub mod Room
 mod RoundTrip
 pub mod Steps
 pub mod Unfound
+pub mod White
 pub mod Winner

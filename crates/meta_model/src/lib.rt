@@ -19,10 +19,14 @@
 //! which one provides a name, which task needs which, and what the graph of a run's targets is (`Providers`, `Needs`,
 //! `TaskGraph`).
 //!
+//! A few calls over texts stand here too, since crates that don't stand on one another make them: blanks at the ends of a
+//! text, its words, what is one of a list (`blanks`, `word_list`).
+//!
 //! Which definition is right no proof can say: each one's comment states its rule, and the examples compare it with
 //! answers that were derived from the rules by hand.
 #![tactic(auto)]
 
+mod blanks;
 mod build_examples;
 mod entry;
 mod event;
@@ -37,7 +41,11 @@ mod plan;
 mod statement;
 mod value;
 mod value_examples;
+mod word_list;
 
+pub use blanks::{
+    after_blanks, is_a_blank, is_white_space, kept_len, skipped, unblanked, white_at,
+};
 pub use entry::{EntryLine, Late, LateLine, Op};
 pub use event::{Avail, Cut, Event, Logged, Status, Why};
 pub use facts::{FactSet, Graph, Node, Package, RecipeFacts, Target, TaskFacts, TaskId};
@@ -50,3 +58,4 @@ pub use list::ListOf;
 pub use plan::{Options, Plan, PlanTask};
 pub use statement::Statement;
 pub use value::{Key, KeyLine, Resolved};
+pub use word_list::{as_texts, drop_words, is_among, push_piece, push_words, words};

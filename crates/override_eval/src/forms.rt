@@ -4,7 +4,7 @@ ghost use Rattle.meta_model.specs.Overrides.{place, beats};
 ghost use Rattle.override_eval.specs.Winner.{parts, is_counted, IsBestOf, IsWinner};
 
 use crate::cut::cut_at_colon;
-use crate::pieces::is_among;
+use meta_model::is_among;
 use tree_model::Text;
 
 /// Whether all parts of the form are active overrides, so that it counts ("Conditional Metadata"). A form is what stands

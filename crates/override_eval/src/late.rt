@@ -5,8 +5,7 @@ ghost use Rattle.meta_model.specs.declared.entry.Late.TheVariants.{Append, Prepe
 ghost use Rattle.meta_model.specs.Overrides.{is_kind, all_active, counts, texts_of};
 ghost use Rattle.override_eval.specs.LateValue.{late_value};
 
-use crate::pieces::is_among;
-use meta_model::{Late, LateLine, ListOf, Resolved};
+use meta_model::{Late, LateLine, ListOf, Resolved, is_among};
 use std::alloc::Global;
 use tree_model::{Mem, Text, Texts};
 

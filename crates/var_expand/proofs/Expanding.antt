@@ -20,7 +20,7 @@ use Rattle.var_expand.specs.Standing.{levels}
 use Rattle.var_expand.specs.Expanding.{onto_names, innermost_first, last_name, known, fitting, reference_text, part_text, grown, removed}
 use Rattle.var_expand.proofs.Openings.{or_left, or_right, braces_front, plain_levels}
 use Rattle.var_expand.proofs.Pieces.{in_row, row_of, text_depth, ref_part, before_depth}
-use Rattle.var_expand.proofs.White.{drop_none}
+use Rattle.meta_model.proofs.White.{drop_none}
 
 -- answers
 

@@ -6,5 +6,4 @@ pub mod Openings
 pub mod Pieces
 pub mod Steps
 pub mod Table
-pub mod White
 pub mod Wider

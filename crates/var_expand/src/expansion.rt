@@ -13,8 +13,7 @@ use crate::lookup::Lookup;
 use crate::parts::{Part, Parts};
 use crate::reading::read;
 use crate::scan::{are_name_bytes, holds_opening};
-use crate::word_list::{drop_words, push_words};
-use meta_model::Resolved;
+use meta_model::{Resolved, drop_words, push_words};
 use std::alloc::Global;
 use tree_model::{Mem, Text, Texts};
 

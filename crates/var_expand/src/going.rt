@@ -9,8 +9,7 @@ ghost use Rattle.var_expand.specs.Going.{IsAtHand, IsBeyond, IsFresh, IsGoing, I
 use crate::fault::ExpandFault;
 use crate::lookup::Lookup;
 use crate::scan::holds_opening;
-use crate::word_list::is_among;
-use meta_model::Resolved;
+use meta_model::{Resolved, is_among};
 use std::alloc::Global;
 use std::collections::BTreeMap;
 use tree_model::{Mem, Text};

@@ -18,13 +18,12 @@ mod parts;
 mod reading;
 mod scan;
 mod standing;
-mod word_list;
 
 pub use expansion::{expand, value};
 pub use fault::ExpandFault;
 pub use lookup::Lookup;
+pub use meta_model::{drop_words, words};
 pub use names::references;
 pub use parts::{Part, Parts};
 pub use reading::parse_refs;
 pub use scan::{are_name_bytes, holds_opening};
-pub use word_list::{drop_words, words};

@@ -12,9 +12,9 @@ use crate::lookup::Lookup;
 use crate::parts::{Part, Parts};
 use crate::reading::parse_refs;
 use crate::scan::are_name_bytes;
-use meta_model::put_in_order;
+use meta_model::{as_texts, put_in_order};
 use std::alloc::Global;
-use tree_model::{Mem, Text, Texts};
+use tree_model::{Text, Texts};
 
 /// Notes the names that a reference looks up: those of its name's parts, and its name.
 #[cycle(noting)]
@@ -73,17 +73,6 @@ fn note_parts<L: Lookup>(
         note_part(alloc, from, names, part)?;
     }
     Ok(())
-}
-
-/// The names as a list of texts.
-fn as_texts(alloc: Global, names: &[Text]) -> Result<Texts, Mem>
-    ensures { IfOk result (λ made. made ≡ names.now) }
-{
-    let mut made = Texts::new(alloc);
-    for name in names {
-        made.push(name.copy()?)?;
-    }
-    Ok(made)
 }
 
 /// The names that the references of a text look up, in byte order, each once. Names that stand in the names of references

@@ -1,5 +1,4 @@
 use Rattle.std.proofs.Common.{length, ◌-◌, ◌≡◌, ◌≤◌, drop}
-use Rattle.std.specs.Str.{IsUtf8, IsCharBoundary}
 use Rattle.bb_parser.specs.Words.{skip_white}
 use Rattle.bb_parser.proofs.word_list.white_end.Given as goal
 
@@ -8,7 +7,6 @@ abbrev pub invariant-loop-at : goal.invariant-loop-at
 invariant-loop-at l = record {
   within : l.at ≤ length l.line;
   skips : skip_white (drop l.at l.line) ≡ skip_white l.line;
-  cut : IsUtf8 l.line → IsCharBoundary l.line l.at;
 }
 
 abbrev pub decreases-loop-at : goal.decreases-loop-at

@@ -5,7 +5,7 @@ use Rattle.override_eval.proofs.pieces.active.Goals as goal
 pub loop-piece-preserved : goal.loop-piece-preserved
 loop-piece-preserved c = record {
   text = search rules;
-  pieces = pieces_step c.args.list.now c.loop-piece.rest.now c.in-Some.piece.now c.in-Some.after.now c.loop-piece.pieces c.push_piece.new.pieces c.in-Some.ensures.parts c.loop-piece.invariant.pieces c.in_ok-push_piece.ensures;
+  pieces = pieces_step c.args.list.now c.loop-piece.rest.now c.in-Some.piece.now c.in-Some.after.now c.loop-piece.pieces c.push_piece.new.list c.in-Some.ensures.parts c.loop-piece.invariant.pieces c.in_ok-push_piece.ensures;
 }
 
 pub returns : goal.returns

@@ -3,8 +3,8 @@ use Rattle.std.proofs.lemmas.Grind.{common_steps}
 use Rattle.std.proofs.lemmas.Str.{IsCharBoundary-after_ascii}
 use Rattle.std.specs.List.{slice_index}
 use Rattle.meta_model.specs.Text.{is_white, is_in}
-use Rattle.var_expand.proofs.White.{drop_step, drop_last}
-use Rattle.var_expand.proofs.word_list.drop_words.Goals as goal
+use Rattle.meta_model.proofs.White.{drop_step, drop_last}
+use Rattle.meta_model.proofs.word_list.drop_words.Goals as goal
 
 pub range-requires-in-Some-clause-end_boundary : goal.range-requires-in-Some-clause-end_boundary
 range-requires-in-Some-clause-end_boundary c =

@@ -1,7 +1,7 @@
 use Rattle.std.proofs.Common.{arith, sym, ◌∙◌}
 use Rattle.meta_model.specs.Text.{is_one_of}
-use Rattle.bb_lexer.proofs.Ends.{without_end-back, without_end-here}
-use Rattle.bb_lexer.proofs.cut.kept_len.Goals as goal
+use Rattle.meta_model.proofs.Edges.{without_end-back, without_end-here}
+use Rattle.meta_model.proofs.blanks.kept_len.Goals as goal
 
 pub loop-end-preserved : goal.loop-end-preserved
 loop-end-preserved c = record {

@@ -1,31 +1,27 @@
-// Words of texts, and texts without some of them.
-ghost use Rattle.std.specs.Prelude.{◌≡◌, ◌++◌, ◌<◌, ◌∷◌, IfOk, IfSome, OnOk, [], position, length, slice_index, if◌then◌else◌};
-ghost use Rattle.meta_model.specs.Text.{is_white, is_in, non_empty, words, drop_words};
+// Words of texts, texts without some of them, and lists of texts.
+ghost use Rattle.std.specs.Prelude.{◌≡◌, ◌++◌, ◌∷◌, IfOk, OnOk, [], if◌then◌else◌};
+ghost use Rattle.meta_model.specs.Text.{is_in, non_empty, words, drop_words};
 
+use crate::blanks::white_at;
 use std::alloc::Global;
 use tree_model::{Mem, Text, Texts};
 
-/// Whether a byte is a space, a tab, a newline or a carriage return.
-fn is_white_byte(byte: &u8) -> bool
-    ensures { result ≡ is_white byte.now }
-{
-    *byte == b' ' || *byte == b'\t' || *byte == b'\n' || *byte == b'\r'
-}
-
-/// The place of the first white space.
-fn white_at(bytes: &[u8]) -> Option<usize>
-    ensures first { result ≡ position is_white bytes.now }
-    ensures within { IfSome result (λ i. i < length bytes.now) }
-    ensures stands { IfSome result (λ i. slice_index bytes.now i < 128) }
-{
-    bytes.iter().position(is_white_byte)
-}
-
-/// Whether the text is one of the list.
-pub(crate) fn is_among(text: &str, list: &[Text]) -> bool
+/// Whether the text is one of the list. It takes no memory.
+pub fn is_among(text: &str, list: &[Text]) -> bool
     ensures { result ≡ is_in text.now list.now }
 {
     list.iter().any(|other| text == other.as_str())
+}
+
+/// Copies of the texts, as a list.
+pub fn as_texts(alloc: Global, texts: &[Text]) -> Result<Texts, Mem>
+    ensures { IfOk result (λ made. made ≡ texts.now) }
+{
+    let mut made = Texts::new(alloc);
+    for text in texts {
+        made.push(text.copy()?)?;
+    }
+    Ok(made)
 }
 
 /// The piece, or nothing where it is one of the words.
@@ -52,7 +48,7 @@ pub fn drop_words(alloc: Global, value: &str, words: &[Text]) -> Result<Text, Me
 }
 
 /// Puts the piece at the end, unless it is empty.
-fn push_piece(list: &mut Texts, alloc: Global, piece: &str) -> Result<(), Mem>
+pub fn push_piece(list: &mut Texts, alloc: Global, piece: &str) -> Result<(), Mem>
     ensures { OnOk result (list.new ≡ list.old ++ non_empty (piece.now ∷ [])) }
 {
     if piece.is_empty() {
@@ -62,7 +58,7 @@ fn push_piece(list: &mut Texts, alloc: Global, piece: &str) -> Result<(), Mem>
 }
 
 /// Puts the words of the text at the end.
-pub(crate) fn push_words(list: &mut Texts, alloc: Global, text: &str) -> Result<(), Mem>
+pub fn push_words(list: &mut Texts, alloc: Global, text: &str) -> Result<(), Mem>
     ensures { OnOk result (list.new ≡ list.old ++ words text.now) }
 {
     let mut rest = text;

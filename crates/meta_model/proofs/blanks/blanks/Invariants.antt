@@ -1,7 +1,7 @@
 use Rattle.std.proofs.Common.{length, ◌-◌, ◌≡◌, ◌≤◌, drop}
 use Rattle.std.specs.Str.{IsUtf8, IsCharBoundary}
 use Rattle.meta_model.specs.Text.{skip_blanks}
-use Rattle.bb_parser.proofs.scan.blanks.Given as goal
+use Rattle.meta_model.proofs.blanks.blanks.Given as goal
 
 -- so far all were blanks
 abbrev pub invariant-loop-at : goal.invariant-loop-at

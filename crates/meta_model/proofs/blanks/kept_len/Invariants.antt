@@ -1,6 +1,6 @@
 use Rattle.std.proofs.Common.{◌≡◌, ◌<◌, ◌≤◌, true, length, take, get_or}
 use Rattle.meta_model.specs.Text.{is_one_of, without_end}
-use Rattle.bb_lexer.proofs.cut.kept_len.Given as goal
+use Rattle.meta_model.proofs.blanks.kept_len.Given as goal
 
 -- the bytes that the line has behind the end are of the set
 abbrev pub invariant-loop-end : goal.invariant-loop-end

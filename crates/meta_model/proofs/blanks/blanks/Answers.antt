@@ -1,8 +1,7 @@
 use Rattle.std.proofs.Common.{refl, sym, ◌∙◌, arith, get_or}
 use Rattle.std.proofs.lemmas.Str.{IsCharBoundary-start, IsCharBoundary-after_ascii}
-use Rattle.bb_parser.proofs.Bounds.{blank-ascii}
-use Rattle.bb_parser.proofs.Blanks.{skip_blanks-more}
-use Rattle.bb_parser.proofs.scan.blanks.Goals as goal
+use Rattle.meta_model.proofs.Edges.{blank-ascii, skip_blanks-more}
+use Rattle.meta_model.proofs.blanks.blanks.Goals as goal
 
 pub loop-at-init : goal.loop-at-init
 loop-at-init c = record { within = omega arith; skips = refl; cut = λ u. IsCharBoundary-start c.args.line.now u }

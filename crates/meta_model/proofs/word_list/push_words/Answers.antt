@@ -4,8 +4,8 @@ use Rattle.std.proofs.lemmas.Result.{on_ok_weaker}
 use Rattle.std.proofs.lemmas.Str.{IsCharBoundary-after_ascii}
 use Rattle.std.specs.List.{slice_index}
 use Rattle.meta_model.specs.Text.{is_white}
-use Rattle.var_expand.proofs.White.{push_step, words_last}
-use Rattle.var_expand.proofs.word_list.push_words.Goals as goal
+use Rattle.meta_model.proofs.White.{push_step, words_last}
+use Rattle.meta_model.proofs.word_list.push_words.Goals as goal
 
 pub range_from-rest-requires : goal.range_from-rest-requires
 range_from-rest-requires c = λ _.

@@ -1,0 +1,5 @@
+use Rattle.std.proofs.lemmas.List.{take_all}
+use Rattle.meta_model.proofs.word_list.as_texts.Goals as goal
+
+pub returns : goal.returns
+returns c = rw (take_all _ _ c.loop-text-test.false) at c.loop-text.invariant
