@@ -9,7 +9,7 @@ pub mod Members
 pub mod Checking
 pub mod Edging
 pub mod Needing
-pub mod Trimming
+pub mod Digits
 pub mod Resolving
 pub mod Reaching
 pub mod Placed

@@ -3,13 +3,13 @@ ghost use Rattle.std.specs.Prelude.{◌≡◌, ◌<◌, ◌≤◌, ◌^◌, ◌+
 ghost use Rattle.std.specs.List.{list_any};
 ghost use Rattle.std.specs.Map.{lookup};
 ghost use Rattle.std.specs.Option.{option_map_or};
-ghost use Rattle.meta_model.specs.Text.{in_byte_order, is_in};
+ghost use Rattle.meta_model.specs.Text.{in_byte_order};
 ghost use Rattle.meta_model.specs.Providers.{provider as provider_of, runtime_provider as runtime_provider_of, only_one as the_only_one, narrowed, is_named, is_preferred, is_candidate as candidate_test, is_package_for, is_runtime_candidate as runtime_test};
 ghost use Rattle.task_graph.specs.Faults.{IsRefusalOf, IsUnprovided};
 ghost use Rattle.task_graph.specs.Candidates.{test_of};
 
 use crate::fault::GraphFault;
-use meta_model::{FactSet, Package, RecipeFacts, put_in_order};
+use meta_model::{FactSet, Package, RecipeFacts, as_texts, is_among, put_in_order};
 use std::alloc::Global;
 use tree_model::{Mem, Text, Texts};
 
@@ -26,23 +26,11 @@ enum Test {
     RuntimeCandidate,
 }
 
-/// Whether the text is one of these.
-fn is_among(texts: &Texts, text: &str) -> bool
-    ensures { result ≡ is_in text.now texts.now }
-{
-    for other in texts.as_slice() {
-        if text == other.as_str() {
-            return true;
-        }
-    }
-    false
-}
-
 /// Whether the recipe is a candidate for the name.
 fn is_candidate(name: &str, recipe: &RecipeFacts) -> bool
     ensures { result ≡ candidate_test name.now recipe.now }
 {
-    recipe.pn.as_str() == name || is_among(&recipe.provides, name)
+    recipe.pn.as_str() == name || is_among(name, recipe.provides.as_slice())
 }
 
 fn is_preferred_pn(facts: &FactSet, name: &str, pn: &str) -> bool
@@ -61,7 +49,7 @@ fn has_package_for(packages: &[Package], name: &str) -> bool
     ensures { result ≡ list_any (is_package_for name.now) packages.now }
 {
     for package in packages {
-        if package.name.as_str() == name || is_among(&package.rprovides, name) {
+        if package.name.as_str() == name || is_among(name, package.rprovides.as_slice()) {
             return true;
         }
     }
@@ -92,16 +80,6 @@ fn any_passes(test: Test, facts: &FactSet, name: &str) -> bool
         }
     }
     false
-}
-
-fn as_texts(alloc: Global, texts: &[Text]) -> Result<Texts, Mem>
-    ensures { IfOk result (λ made. made ≡ texts.now) }
-{
-    let mut made = Texts::new(alloc);
-    for text in texts {
-        made.push(text.copy()?)?;
-    }
-    Ok(made)
 }
 
 /// The PNs of the recipes that pass, in byte order and each once.

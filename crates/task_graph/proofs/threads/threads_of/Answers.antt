@@ -1,14 +1,14 @@
 use Rattle.std.proofs.Common.{◌≡◌, ◌∙◌, sym, ap, arith}
-use Rattle.meta_model.specs.Text.{is_blank, skip_blanks, without_end}
+use Rattle.meta_model.specs.Text.{is_blank, without_end}
 use Rattle.meta_model.specs.Threads.{trimmed}
-use Rattle.task_graph.proofs.Trimming.{digits_more}
+use Rattle.task_graph.proofs.Digits.{digits_more}
 use Rattle.task_graph.proofs.threads.threads_of.Goals as goal
 
 pub loop-threads-preserved : goal.loop-threads-preserved
 loop-threads-preserved c =
-    let same : c.drop_blanks-digits.result.now ≡ trimmed c.args.text.now = c.drop_blanks-digits.ensures ∙ ap (without_end is_blank) (c.skip_blanks.ensures ∙ ap skip_blanks c.as_bytes.ensures.value) in
-    digits_more (trimmed c.args.text.now) c.drop_blanks-digits.result.now c.as_bytes-in-loop-threads.result.now c.loop-threads.threads-counter
-    (c.as_bytes-in-loop-threads.ensures.value ∙ c.in_ok-to_string.ensures.ok) (sym c.if-eq.ensures) same c.loop-threads.invariant
+    let same : c.as_bytes-digits.result.now ≡ trimmed c.args.text.now = c.as_bytes-digits.ensures.value ∙ (c.unblanked.ensures ∙ ap (without_end is_blank) c.skipped.ensures) in
+    digits_more (trimmed c.args.text.now) c.as_bytes-digits.result.now c.as_bytes.result.now c.loop-threads.threads-counter
+    (c.as_bytes.ensures.value ∙ c.in_ok-to_string.ensures.ok) (sym c.if-eq.ensures) same c.loop-threads.invariant
 
 pub returns-clause-err : goal.returns-clause-err
 returns-clause-err c = (c.in_ok-from_str.ensures, λ threads is. c.loop-threads.invariant threads is.least (omega (arith, is.most)) is.digits)
