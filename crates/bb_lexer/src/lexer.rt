@@ -6,18 +6,18 @@ ghost use Rattle.bb_lexer.specs.Faults.{IsFaultOf};
 
 use crate::cut::{first_piece, trimmed};
 use crate::fault::{LexFault, LexKind};
-use crate::list::Lines;
 use crate::step::{Stand, step};
 use byte_scan::count_of;
+use meta_model::{Line, ListOf};
 use std::alloc::Global;
 
 /// The logical lines of a text, or its first fault.
-fn text_lines(alloc: Global, text: &str) -> Result<Lines, LexFault>
+fn text_lines(alloc: Global, text: &str) -> Result<ListOf<Line>, LexFault>
     requires { length text.now < 2 ^ 32 }
     ensures ok { IfOk result (λ made. lines_of_text text.now ≡ Ok made) }
     ensures err { IfErr result (λ fault. IsFaultOf fault (lines_of_text text.now)) }
 {
-    let mut out = Lines::new(alloc);
+    let mut out = ListOf::new(alloc);
     let mut stand = Stand::Outside;
     let mut number = 0;
     let mut rest = text;
@@ -52,7 +52,7 @@ fn text_lines(alloc: Global, text: &str) -> Result<Lines, LexFault>
 ///   lines are taken as they are up to a line that is `}` alone ("Syntax and Operators", "Shell Functions").
 ///
 /// A file that ends inside of a body is no fault here: its last line isn't a Close.
-pub fn lines(alloc: Global, bytes: &[u8]) -> Result<Lines, LexFault>
+pub fn lines(alloc: Global, bytes: &[u8]) -> Result<ListOf<Line>, LexFault>
     requires { length bytes.now < 2 ^ 32 }
     ensures ok { IfOk result (λ made. logical_lines bytes.now ≡ Ok made) }
     ensures err { IfErr result (λ fault. IsFaultOf fault (logical_lines bytes.now)) }

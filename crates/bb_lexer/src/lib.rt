@@ -16,11 +16,9 @@
 mod cut;
 mod fault;
 mod lexer;
-mod list;
 mod step;
 
 pub use cut::{before_opening, opens};
 pub use fault::{LexFault, LexKind};
 pub use lexer::lines;
-pub use list::Lines;
 pub use meta_model::{Line, Place};

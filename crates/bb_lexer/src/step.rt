@@ -4,8 +4,7 @@ ghost use Rattle.bb_lexer.specs.Steps.{standing_of, IsWhole, Steps};
 
 use crate::cut::{before_join, begins_comment, is_dropped, opens};
 use crate::fault::{LexFault, LexKind};
-use crate::list::Lines;
-use meta_model::{Line, Place};
+use meta_model::{Line, ListOf, Place};
 use std::alloc::Global;
 use tree_model::Text;
 
@@ -19,7 +18,7 @@ pub(crate) enum Stand {
 }
 
 /// Takes a whole logical line that begins at a number.
-fn whole(out: &mut Lines, number: u32, text: Text) -> Result<Stand, LexFault>
+fn whole(out: &mut ListOf<Line>, number: u32, text: Text) -> Result<Stand, LexFault>
     ensures { IsWhole number text out.old out.new result }
 {
     let next = if opens(text.as_str()) {
@@ -36,7 +35,12 @@ fn whole(out: &mut Lines, number: u32, text: Text) -> Result<Stand, LexFault>
 }
 
 /// Takes a line that stands outside.
-fn outside_step(alloc: Global, out: &mut Lines, number: u32, line: &str) -> Result<Stand, LexFault>
+fn outside_step(
+    alloc: Global,
+    out: &mut ListOf<Line>,
+    number: u32,
+    line: &str,
+) -> Result<Stand, LexFault>
     ensures { Steps outside number line.now out.old out.new result }
 {
     if is_dropped(line) {
@@ -50,7 +54,7 @@ fn outside_step(alloc: Global, out: &mut Lines, number: u32, line: &str) -> Resu
 
 /// Takes a line that goes on with the text of a logical line that began at a number.
 fn joining_step(
-    out: &mut Lines,
+    out: &mut ListOf<Line>,
     begun: u32,
     text: Text,
     number: u32,
@@ -78,7 +82,12 @@ fn joining_step(
 }
 
 /// Takes a line of a body.
-fn inside_step(alloc: Global, out: &mut Lines, number: u32, line: &str) -> Result<Stand, LexFault>
+fn inside_step(
+    alloc: Global,
+    out: &mut ListOf<Line>,
+    number: u32,
+    line: &str,
+) -> Result<Stand, LexFault>
     ensures { Steps inside number line.now out.old out.new result }
 {
     let (place, next) = if line == "}" {
@@ -97,7 +106,7 @@ fn inside_step(alloc: Global, out: &mut Lines, number: u32, line: &str) -> Resul
 /// Takes the physical line of a number, which stands so.
 pub(crate) fn step(
     alloc: Global,
-    out: &mut Lines,
+    out: &mut ListOf<Line>,
     stand: Stand,
     number: u32,
     line: &str,

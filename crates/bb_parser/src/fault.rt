@@ -4,7 +4,6 @@ ghost use Rattle.bb_parser.specs.declared.fault.ParseKind.TheVariants.{Memory};
 ghost use Rattle.bb_parser.specs.declared.fault.PrintFault.TheVariants as unwritten;
 ghost use Rattle.bb_parser.specs.Faults.{is_memory};
 
-use std::alloc::{AllocError, AllocFailed};
 use std::fmt;
 use std::fmt::Formatter;
 use thiserror::Error;
@@ -78,10 +77,10 @@ pub struct ParseFault {
     pub kind: ParseKind,
 }
 
-impl<T: Drop> From<AllocFailed<T>> for ParseFault {
+impl From<Mem> for ParseFault {
     ghost from_gives = { λ _ e. is_memory e };
 
-    fn from(_: AllocFailed<T>) -> ParseFault {
+    fn from(_: Mem) -> ParseFault {
         ParseFault {
             line: 0,
             kind: ParseKind::Memory,

@@ -9,7 +9,6 @@ mod fault;
 mod forms;
 mod line_statement;
 mod lines_written;
-mod list;
 mod names;
 mod quotes;
 mod reader;
@@ -20,6 +19,5 @@ mod writable;
 mod writer;
 
 pub use fault::{ParseFault, ParseKind, PrintFault};
-pub use list::Statements;
-pub use reader::parse;
+pub use reader::{Statements, parse};
 pub use writer::print;

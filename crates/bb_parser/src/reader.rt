@@ -7,11 +7,13 @@ ghost use Rattle.bb_parser.specs.Reading.{statement_at, kind_of_lines, is_body, 
 
 use crate::fault::{ParseFault, ParseKind};
 use crate::line_statement::statement_of_line;
-use crate::list::Statements;
 use bb_lexer::{LexFault, LexKind, Line, Place, lines, opens};
-use meta_model::{Kind, Statement};
+use meta_model::{Kind, ListOf, Statement};
 use std::alloc::Global;
 use tree_model::{Mem, Text};
+
+/// Statements, each with the number of the line at which it begins. Contracts see a list of pairs.
+pub type Statements = ListOf<(u32, Statement)>;
 
 /// The fault of the parser that a fault of the lines is.
 fn fault_of_lines(fault: LexFault) -> ParseFault
@@ -126,7 +128,7 @@ fn take_line(
         return Ok(());
     }
     match statement_before(alloc, kind, line, rest) {
-        Ok(statement) => list.push(line.number, statement),
+        Ok(statement) => Ok(list.push((line.number, statement))?),
         Err(fault) => Err(fault),
     }
 }
