@@ -1,53 +1,22 @@
 // The words of `addtask` and `deltask`.
-ghost use Rattle.std.specs.Prelude.{◌≡◌, ◌==◌, ◌&&◌, ◌||◌, codes, IfOk, length, nat_le, count_by, position, bytes_eq};
+ghost use Rattle.std.specs.Prelude.{◌≡◌, IfOk, count_by, position, bytes_eq};
 ghost use Rattle.std.specs.Option.{option_copied};
-ghost use Rattle.std.specs.List.{list_all, after_first};
-ghost use Rattle.std.specs.Char.{is_ascii_alphabetic, is_ascii_alphanumeric};
-ghost use Rattle.meta_model.specs.Text.{is_shell_name};
-ghost use Rattle.meta_model.specs.Grammar.{task_of, tasks, is_part, up_to_part, part, task_parts, task_names};
+ghost use Rattle.std.specs.List.{after_first};
+ghost use Rattle.meta_model.specs.Grammar.{tasks, is_part, up_to_part, part, task_parts, task_names};
 ghost use Rattle.bb_parser.specs.Tasks.{is_task_name, tasks_in_part, first_tasks};
 
-use meta_model::Statement;
+use meta_model::{Statement, is_shell_name, task_name};
 use std::alloc::Global;
 use tree_model::{Mem, Text, Texts};
 
 /// The most bytes that the name of a task has.
 const MOST_BYTES: usize = 255;
 
-/// Whether each character is a letter, a digit or `_`.
-fn are_in_shell_name(name: &[u8]) -> bool
-    ensures { result ≡ list_all (λ d. is_ascii_alphanumeric d || d == 95) name.now }
-{
-    name.iter().all(|c| c.is_ascii_alphanumeric() || *c == b'_')
-}
-
-/// Whether a text is a shell name.
-fn is_a_shell_name(name: &[u8]) -> bool
-    ensures { result ≡ is_shell_name name.now }
-{
-    if name.is_empty() {
-        return false;
-    }
-    (name[0].is_ascii_alphabetic() || name[0] == b'_') && are_in_shell_name(&name[1..])
-}
-
 /// Whether a text can be the name of a task.
 pub fn can_be_task(name: &[u8]) -> bool
     ensures { result ≡ is_task_name name.now }
 {
-    is_a_shell_name(name) && name.len() <= MOST_BYTES
-}
-
-/// The name of the task that a word means.
-fn task_name(alloc: Global, word: &str) -> Result<Text, Mem>
-    ensures { IfOk result (λ name. name ≡ task_of word.now) }
-{
-    if word.as_bytes().starts_with(b"do_") {
-        return Text::from_str(alloc, word);
-    }
-    let mut name = Text::from_str(alloc, "do_")?;
-    name.push_str(word)?;
-    Ok(name)
+    is_shell_name(name) && name.len() <= MOST_BYTES
 }
 
 /// The names of the tasks that the words mean, where each can be a task's.

@@ -20,7 +20,7 @@
 //! `TaskGraph`).
 //!
 //! A few calls over texts stand here too, since crates that don't stand on one another make them: blanks at the ends of a
-//! text, its words, what is one of a list (`blanks`, `word_list`).
+//! text, its words, what is one of a list, names of tasks (`blanks`, `word_list`, `task_words`).
 //!
 //! Which definition is right no proof can say: each one's comment states its rule, and the examples compare it with
 //! answers that were derived from the rules by hand.
@@ -39,6 +39,7 @@ mod line;
 mod list;
 mod plan;
 mod statement;
+mod task_words;
 mod value;
 mod value_examples;
 mod word_list;
@@ -57,5 +58,6 @@ pub use line::{Kind, Line, Place, SyntaxFault};
 pub use list::ListOf;
 pub use plan::{Options, Plan, PlanTask};
 pub use statement::Statement;
+pub use task_words::{is_shell_name, task_name};
 pub use value::{Key, KeyLine, Resolved};
 pub use word_list::{as_texts, drop_words, is_among, push_piece, push_words, words};
