@@ -1,8 +1,8 @@
 // The forms of a logical line.
 ghost use Rattle.std.specs.Prelude.{◌≡◌, codes, IfOk, Some, option_map};
-ghost use Rattle.meta_model.specs.Grammar.{assignment, flag_of_name, flag_assignment, with_name, flag_unset, with_text, with_words, task_parts, task_names, function_head, fit_of, plain_fit, exported_assignment, name_behind_word, text_behind_word, words_behind_word, value_forms_of, directive_forms_of};
+ghost use Rattle.meta_model.specs.Grammar.{assignment, flag_of_name, flag_assignment, with_name, flag_unset, with_text, with_words, task_parts, task_names, function_head, fit_of, plain_fit, exported_assignment, name_behind_word, text_behind_word, words_behind_word, value_forms_of, later_value_forms_of, directive_forms_of, word_forms_of};
 ghost use Rattle.meta_model.specs.declared.statement.Statement.TheVariants.{Export, Unset, Include, Require, Inherit, ExportFunctions};
-ghost use Rattle.bb_parser.specs.Forms.{GivesFit, fit_of_found, name_and_flag, later_value_forms_of, word_forms_of};
+ghost use Rattle.bb_parser.specs.Forms.{GivesFit, fit_of_found, name_and_flag};
 
 use crate::names::{is_a_flag, is_a_name, name_end};
 use crate::quotes::operator_and_text;

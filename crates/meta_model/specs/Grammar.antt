@@ -173,25 +173,29 @@ function_head body s = do
 abbrev pub exported_assignment : List ℕ → Option Fit
 exported_assignment s = behind_word (codes "export") s >>= assignment true
 
--- the first form that fits, of those that give something to a name
-abbrev pub value_forms_of : List ℕ → Option Fit
-value_forms_of s = first_there (assignment false s
-    ∷ exported_assignment s
-    ∷ flag_assignment s
+-- the first form that fits, of those that give something to a name or its flag, assignments of names aside
+abbrev pub later_value_forms_of : List ℕ → Option Fit
+later_value_forms_of s = first_there (flag_assignment s
     ∷ with_name (codes "export") Export s
     ∷ with_name (codes "unset") Unset s
     ∷ flag_unset s
     ∷ [])
 
--- the first form that fits, of those with a text or words behind a word of the language
-abbrev pub directive_forms_of : List ℕ → Option Fit
-directive_forms_of s = first_there (with_text (codes "include") Include s
-    ∷ with_text (codes "require") Require s
-    ∷ with_text (codes "inherit") Inherit s
-    ∷ with_words (codes "EXPORT_FUNCTIONS") (λ ws. Some (ExportFunctions ws)) s
+-- the first form that fits, of those that give something to a name
+abbrev pub value_forms_of : List ℕ → Option Fit
+value_forms_of s = first_of_two (assignment false s) (first_of_two (exported_assignment s) (later_value_forms_of s))
+
+-- the first form that fits, of those with words behind a word of the language
+abbrev pub word_forms_of : List ℕ → Option Fit
+word_forms_of s = first_there (with_words (codes "EXPORT_FUNCTIONS") (λ ws. Some (ExportFunctions ws)) s
     ∷ with_words (codes "addtask") task_parts s
     ∷ with_words (codes "deltask") task_names s
     ∷ [])
+
+-- the first form that fits, of those with a text or words behind a word of the language
+abbrev pub directive_forms_of : List ℕ → Option Fit
+directive_forms_of s = first_of_two (with_text (codes "include") Include s) (first_of_two (with_text (codes "require") Require s)
+    (first_of_two (with_text (codes "inherit") Inherit s) (word_forms_of s)))
 
 -- The statement of a line, whatever the file's kind: the first of these forms that the line fits, inner quotes aside.
 -- A line that opens a body can be a function's head alone. Blanks before a line are skipped (own rules).
