@@ -8,9 +8,10 @@
 //! list of numbers and the answer as a list of lines.
 //!
 //! It promises that `lines` answers exactly the logical lines of any bytes, or exactly the first fault against the
-//! line rules, with its line, unless memory ran out; and that its work and its memory are linear in the bytes, for
-//! every input: each physical line is looked at once from each end, and copied once, into the line that it is or is
-//! joined with.
+//! line rules, with its line, unless memory ran out.
+//!
+//! By design, not proved: its work and its memory are linear in the bytes, for every input, since each physical line is
+//! looked at once from each end, and copied once, into the line that it is or is joined with.
 #![tactic(auto)]
 
 mod cut;

@@ -5,7 +5,9 @@
 //! passes over OVERRIDES are taken over any text that depends on the active overrides, and a law ties them to entries.
 //!
 //! Promised: each call returns and equals its definition for every input, refusals included, unless memory ran out, where
-//! it takes memory at all. The work is linear in the bytes of the texts given, times the active overrides for each part
+//! it takes memory at all.
+//!
+//! By design, not proved: the work is linear in the bytes of the texts given, times the active overrides for each part
 //! that is looked for among them; `settle` evaluates its text five times at most.
 #![tactic(auto)]
 

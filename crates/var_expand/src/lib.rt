@@ -4,8 +4,10 @@
 //! see texts as lists of bytes, and the parts of a text as those of `meta_model`, whose definitions they name: `parts_of` for
 //! the reading, `expand_by` and `value_by` for the expansion; `looked_up`, for the names that a text looks up, stands here.
 //!
-//! Promised: each call returns, and equals its definition, refusals included, unless memory ran out. Reading takes time and
-//! memory linear in the bytes of the text. In one call a name is expanded once, however often it is met (`going`); no clause says so.
+//! Promised: each call returns, and equals its definition, refusals included, unless memory ran out.
+//!
+//! By design, not proved: reading takes time and memory linear in the bytes of the text, and in one call a name is expanded
+//! once, however often it is met (`going`).
 #![tactic(auto)]
 
 mod expansion;
