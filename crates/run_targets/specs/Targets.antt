@@ -1,20 +1,17 @@
 -- The targets that words name.
-use Rattle.std.specs.Prelude.{ℕ, Bool, List, ◌++◌, Option, Some, None, codes, if◌then◌else◌}
+use Rattle.std.specs.Prelude.{ℕ, Bool, List, Option, Some, None, codes}
 use Rattle.std.specs.Option.{option_map_or}
 use Rattle.meta_model.specs.declared.facts.Target.{Target}
 use Rattle.meta_model.specs.Text.{colon, begins_with, split_at_first}
-
--- A task's name. `do_` is put in front where it is missing (BitBake User Manual, "The BitBake Command", option `-c`; that it is
--- put before every task that a word names is an own rule).
-abbrev pub task_named : List ℕ → List ℕ
-task_named name = if begins_with (codes "do_") name then name else codes "do_" ++ name
+use Rattle.meta_model.specs.Grammar.{task_of}
 
 -- a word that is cut at a colon names a task, and else the default one is meant
 abbrev pub target_of_cut : List ℕ → List ℕ → Option (List ℕ × List ℕ) → Target
-target_of_cut default word None = record { name = word; task = task_named default }
-target_of_cut default word (Some cut) = record { name = cut.0; task = task_named cut.1 }
+target_of_cut default word None = record { name = word; task = task_of default }
+target_of_cut default word (Some cut) = record { name = cut.0; task = task_of cut.1 }
 
--- The target of a word NAME or NAME:TASK, which is cut at its first colon. With nothing behind the colon the task is `do_` (own
+-- The target of a word NAME or NAME:TASK (BitBake User Manual, "The BitBake Command", option `-c`; that `do_` is put before every
+-- task that a word names is an own rule), which is cut at its first colon. With nothing behind the colon the task is `do_` (own
 -- rule).
 abbrev pub target_of : List ℕ → List ℕ → Target
 target_of default word = target_of_cut default word (split_at_first colon word)

@@ -1,10 +1,11 @@
 // The targets that words name.
 ghost use Rattle.std.specs.Prelude.{◌≡◌, true, false, Ok, IfOk, IfErr};
+ghost use Rattle.meta_model.specs.Grammar.{task_of};
 ghost use Rattle.project_reading.specs.Answered.{IsRefusedAs, is_refusal, mode_failed};
 ghost use Rattle.run_targets.specs.Targets as targets;
 ghost use Rattle.run_targets.specs.Asked as asked;
 
-use meta_model::{ListOf, Status, Target};
+use meta_model::{ListOf, Status, Target, task_name};
 use project_reading::{nothing_provides, or_status};
 use std::alloc::Global;
 use tree_model::{Mem, Text};
@@ -26,22 +27,10 @@ pub fn target_name(word: &str) -> &str
     }
 }
 
-/// A task's name, with `do_` put in front where it is missing.
-fn task_named(alloc: Global, name: &str) -> Result<Text, Mem>
-    ensures { IfOk result (λ made. made ≡ targets.task_named name.now) }
-{
-    if name.as_bytes().starts_with(b"do_") {
-        return Text::from_str(alloc, name);
-    }
-    let mut made = Text::from_str(alloc, "do_")?;
-    made.push_str(name)?;
-    Ok(made)
-}
-
 /// The name and the task of a word, which is cut at its first colon.
 fn cut_word<'a>(default: &'a str, word: &'a str) -> (&'a str, &'a str)
     ensures name { result.0.now ≡ (targets.target_of default.now word.now).name }
-    ensures task { targets.task_named result.1.now ≡ (targets.target_of default.now word.now).task }
+    ensures task { task_of result.1.now ≡ (targets.target_of default.now word.now).task }
 {
     match word.split_once(':') {
         Some((name, task)) => (name, task),
@@ -56,7 +45,7 @@ fn target_of(alloc: Global, default: &str, word: &str) -> Result<Target, Mem>
     let (name, task) = cut_word(default, word);
     Ok(Target {
         name: Text::from_str(alloc, name)?,
-        task: task_named(alloc, task)?,
+        task: task_name(alloc, task)?,
     })
 }
 

@@ -10,12 +10,11 @@ ghost use Rattle.task_model.specs.Keys.{key};
 ghost use Rattle.var_deps.specs.Kept.{IsRight};
 
 use crate::exports::{Exports, exports_of};
-use crate::led::is_among;
 use crate::line::{Known, Line};
 use crate::seen::{Seen, found_in, is_bare};
 use crate::table::{Shared, Table};
 use datastore::{DataFault, Datastore};
-use meta_model::Key;
+use meta_model::{Key, is_among};
 use std::alloc::Global;
 use std::collections::BTreeMap;
 use std::marker::Model;

@@ -1,6 +1,5 @@
 // What a name leads to.
 ghost use Rattle.std.specs.Prelude.{◌≡◌, ◌++◌, ◌∷◌, [], ◌<◌, true, false, List, ℕ, Some, None, IfOk, IfErr, OnOk, Ok, length, codes, slice_index_or};
-ghost use Rattle.meta_model.specs.Text.{is_in};
 ghost use Rattle.meta_model.specs.Base.{flag};
 ghost use Rattle.var_expand.specs.Faults.{IsFaultOf};
 ghost use Rattle.var_expand.specs.References.{looked_up};
@@ -13,7 +12,7 @@ ghost use Rattle.var_deps.specs.Led.{led_of, kept_more};
 
 use crate::runs::runs;
 use crate::seen::{Seen, is_function};
-use meta_model::Resolved;
+use meta_model::{Resolved, is_among};
 use std::alloc::Global;
 use tree_model::{Mem, Text, Texts};
 use var_expand::{ExpandFault, Lookup, are_name_bytes, expand, references, value, words};
@@ -317,13 +316,6 @@ fn push_led(
     push_by_value(list, alloc, seen, name, found)?;
     push_by_flags(list, alloc, seen, own, name)?;
     push_words(list, alloc, seen, name, "vardeps")
-}
-
-/// Whether the text is one of the list.
-pub(crate) fn is_among(text: &str, list: &[Text]) -> bool
-    ensures { result ≡ is_in text.now list.now }
-{
-    list.iter().any(|other| text == other.as_str())
 }
 
 /// Takes a name up, unless it is left out on request. One that no reference can have isn't counted.
