@@ -1,11 +1,10 @@
 // Signatures with their bytes and their names.
 ghost use Rattle.std.specs.Prelude.{◌≡◌, ◌↔◌, IfOk, IsTrue};
-ghost use Rattle.store_model.specs.declared.signature.SigRecord.{SigRecord as Signature};
 ghost use Rattle.store_model.specs.Spelled.{IsSpelled};
 ghost use Rattle.store_model.specs.Spelling.{name_of, signature_bytes};
 ghost use Rattle.sig_gen.specs.Sound.{Spells};
 
-use sig_gen::encode;
+use sig_gen::{encode, name_by};
 use std::alloc::Global;
 use store_model::SigRecord;
 use tree_model::{Bytes, Hash, Mem};
@@ -15,14 +14,6 @@ use tree_model::{Bytes, Hash, Mem};
 pub(crate) struct Named {
     pub(crate) bytes: Bytes,
     pub(crate) name: Hash,
-}
-
-/// The name by a signature's bytes.
-#[tactic(auto, unfolding(store_model::specs::Spelling::name_of))]
-pub(crate) fn name_by(bytes: &[u8]) -> Hash
-    ensures { (sig : Signature) → bytes.now ≡ signature_bytes sig → result ≡ name_of sig }
-{
-    Hash::of(bytes)
 }
 
 /// A signature with its bytes and its name. What was written is read again, where the lists ascend.

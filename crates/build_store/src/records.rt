@@ -4,16 +4,16 @@ ghost use Rattle.std.specs.List.{AllByRecursion};
 ghost use Rattle.outside_traits.specs.Fault.{Counts, disk_failed};
 ghost use Rattle.outside_traits.specs.Passes.{Passes, Same};
 ghost use Rattle.record_belief.specs.declared.candidate.Candidate.{Candidate as ACandidate};
+ghost use Rattle.sig_gen.specs.Stored.{SpellsStored};
 ghost use Rattle.store_model.specs.Spelling.{name_of, record_bytes};
 ghost use Rattle.build_store.specs.Paths.{record_path, staged_record_path};
 ghost use Rattle.build_store.specs.Publication.{record_file};
 ghost use Rattle.build_store.specs.Sound.{HasShortPaths};
 ghost use Rattle.build_store.specs.Survey.{AreHeld, HasVisited, IsFoundIn, IsGood, IsSurveyed, Visits};
 
-use crate::naming::name_of_sig;
 use outside_traits::{Disk, DiskFault};
 use record_belief::Candidate;
-use sig_gen::{SigFault, decode_stored};
+use sig_gen::{SigFault, decode_stored, name_by, signature_in};
 use std::alloc::Global;
 use store_model::StoredSig;
 use tree_model::{Entry, Hash, ManifestLine, Mem, Text};
@@ -56,16 +56,33 @@ fn is_path_of(alloc: Global, path: &str, name: &Hash) -> Result<bool, Mem>
     Ok(path == own.as_str())
 }
 
-/// The candidate that a record is, which was read at a path.
-fn judged(alloc: Global, path: &str, stored: StoredSig) -> Result<Option<Candidate>, Mem>
+/// The name of a record, by the bytes that spell it.
+fn name_in(bytes: &[u8], stored: &StoredSig) -> Result<Hash, Mem>
+    requires { SpellsStored bytes.now stored.now }
+    ensures { IfOk result (λ name. name ≡ name_of stored.now.sig) }
+{
+    match signature_in(bytes) {
+        Ok(sig) => Ok(name_by(sig)),
+        Err(SigFault::Memory) => Err(Mem),
+        Err(SigFault::BadRecord) => unreachable!(),
+    }
+}
+
+/// The candidate that a record is, which was read at a path, as these bytes.
+fn judged(
+    alloc: Global,
+    path: &str,
+    bytes: &[u8],
+    stored: StoredSig,
+) -> Result<Option<Candidate>, Mem>
+    requires { SpellsStored bytes.now stored }
     ensures some { IfOk result (λ found. IfSome found (λ c. (c.stored ≡ stored) × (c.name ≡ name_of stored.sig)
         × HasShortPaths stored.manifest × (path.now ≡ record_path c.name))) }
     ensures none { IfOk result (λ found. IfNone found (HasShortPaths stored.manifest
         → path.now ≡ record_path (name_of stored.sig) → ⊥)) }
 {
-    let own = name_of_sig(alloc, &stored.sig)?;
-    if is_path_of(alloc, path, &own.name)? && are_short(stored.manifest.lines()) {
-        let name = own.name;
+    let name = name_in(bytes, &stored)?;
+    if is_path_of(alloc, path, &name)? && are_short(stored.manifest.lines()) {
         return Ok(Some(Candidate { name, stored }));
     }
     Ok(None)
@@ -79,7 +96,7 @@ fn candidate_in(alloc: Global, path: &str, bytes: &[u8]) -> Result<Option<Candid
         → bytes.now ≡ record_bytes c.stored → ⊥)) }
 {
     match decode_stored(alloc, bytes) {
-        Ok(stored) => judged(alloc, path, stored),
+        Ok(stored) => judged(alloc, path, bytes, stored),
         Err(SigFault::BadRecord) => Ok(None),
         Err(SigFault::Memory) => Err(Mem),
     }

@@ -10,6 +10,7 @@ ghost use Rattle.store_model.specs.Available.{IsAvailable, task_folder, work_fol
 ghost use Rattle.store_model.specs.Rows.{row_at, IsClear};
 ghost use Rattle.store_model.specs.Spelled.{IsSpelled};
 ghost use Rattle.store_model.specs.Spelling.{name_of, signature_bytes};
+ghost use Rattle.sig_gen.specs.Sound.{IsNameBy};
 ghost use Rattle.build_store.specs.Faults.{IsClash, IsOutside, IsRefusal, OnDifference, OnMemory, store_failed};
 ghost use Rattle.build_store.specs.Finding.{IsAnswered, IsOutput};
 ghost use Rattle.build_store.specs.Opening.{Clears, IsOpened};
@@ -240,6 +241,13 @@ impl<D: Disk> Store<D> {
             tree,
             manifest,
         )
+    }
+
+    /// The name of a signature, which has this PN, by its bytes, where one of the PN's first rows has them. No memory.
+    pub fn known_name(&self, pn: &str, sig: &[u8]) -> Option<Hash>
+        ensures { IfSome result (IsNameBy sig.now) }
+    {
+        self.index.name_of(pn, sig)
     }
 
     /// The unihash of the row of this name, if there is one. No memory.

@@ -1,10 +1,10 @@
 // The index.
-ghost use Rattle.std.specs.Prelude.{◌≡◌, ◌++◌, ◌∷◌, [], Some, None, OnOk, OnErr, IfErr, IsTrue, ◌↔◌, find, option_copied};
+ghost use Rattle.std.specs.Prelude.{◌≡◌, ◌++◌, ◌∷◌, [], Some, None, OnOk, OnErr, IfErr, IfSome, IsTrue, ◌↔◌, find, option_copied};
 ghost use Rattle.std.specs.Option.{option_map};
 ghost use Rattle.std.specs.Map.{values_of};
 ghost use Rattle.store_model.specs.declared.signature.EquivRow.{EquivRow};
 ghost use Rattle.store_model.specs.Rows.{row_at, first_for, is_row_for, manifest_eq};
-ghost use Rattle.hash_equiv.specs.Index.{rows_at};
+ghost use Rattle.hash_equiv.specs.Index.{IsNameIn, rows_at};
 ghost use Rattle.hash_equiv.specs.Added.{IsEquivFault, IsDifference};
 
 use crate::copies::row_again;
@@ -146,6 +146,32 @@ fn first_at(
     None
 }
 
+/// How many rows of a PN a signature is compared with, at most. That many comparisons cost less than a digest of its bytes.
+const COMPARED: usize = 64;
+
+/// The name of the row at a place, where it has this signature.
+fn name_at(rows: &IndexMap<[u8; 32], EquivRow>, place: usize, sig: &[u8]) -> Option<Hash>
+    ensures { IfSome result (IsNameIn (values_of rows.now.entries) sig.now) }
+{
+    match rows.get_index(place) {
+        Some((_, row)) if row.sig.as_slice() == sig => Some(row.name),
+        _ => None,
+    }
+}
+
+/// The name of the first row at these places that has this signature.
+fn first_name(rows: &IndexMap<[u8; 32], EquivRow>, places: &[usize], sig: &[u8]) -> Option<Hash>
+    ensures { IfSome result (IsNameIn (values_of rows.now.entries) sig.now) }
+{
+    for place in places {
+        match name_at(rows, *place, sig) {
+            Some(name) => return Some(name),
+            None => {}
+        }
+    }
+    None
+}
+
 impl Index {
     /// The index without rows. It takes no memory.
     pub fn new(alloc: Global) -> Index
@@ -172,6 +198,15 @@ impl Index {
             Some(row) => Some(row.unihash),
             None => None,
         }
+    }
+
+    /// The name of a row that has this signature, if it is one of the first rows of this PN: what it is known by is not digested
+    /// again. It looks at 64 rows at most, so `None` says nothing.
+    pub fn name_of(&self, pn: &str, sig: &[u8]) -> Option<Hash>
+        ensures { IfSome result (IsNameIn self.now sig.now) }
+    {
+        let places = places_for(&self.of_pn, pn);
+        first_name(&self.rows, &places[..places.len().min(COMPARED)], sig)
     }
 
     /// The unihash of the first row with this PN, task and manifest. It looks at the rows of the PN alone.

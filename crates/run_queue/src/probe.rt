@@ -12,7 +12,7 @@ use build_store::{Store, StoreFault};
 use meta_model::{Avail, Plan, PlanTask};
 use outside_traits::Disk;
 use setscene_plan::{Probe, ProbeFault, Replan};
-use sig_gen::encode;
+use sig_gen::{encode, name_by};
 use std::alloc::Global;
 use std::marker::{Brand, PhantomData};
 use store_model::SigRecord;
@@ -80,7 +80,6 @@ fn task_at(plan: &Plan, place: usize) -> &PlanTask
 }
 
 /// How a task is there that was begun, which had been answered so before.
-#[tactic(auto, unfolding(store_model::specs::Spelling::name_of))]
 fn as_begun<D: Disk>(
     alloc: Global,
     store: &Store<D>,
@@ -90,7 +89,7 @@ fn as_begun<D: Disk>(
     ensures { IfOk result (λ there. there ≡ begun_as store.now.rows sig.now before) }
 {
     let bytes = encode(alloc, sig)?;
-    let name = Hash::of(bytes.as_slice());
+    let name = name_by(bytes.as_slice());
     match store.unihash(&name) {
         Some(_) => Ok(before),
         None => Ok(Avail::Missing),
@@ -119,6 +118,10 @@ impl<D: Disk, E: Before> Probe for Asking<'_, D, E> {
 
     fn unihash(&self, name: &Hash) -> Option<Hash> {
         self.store.unihash(name)
+    }
+
+    fn known_name(&self, pn: &str, sig: &[u8]) -> Option<Hash> {
+        self.store.known_name(pn, sig)
     }
 
     fn compare(&mut self, name: &Hash, sig: &[u8]) -> Result<(), ProbeFault> {

@@ -5,7 +5,7 @@ ghost use Rattle.store_model.specs.Spelling.{name_of};
 
 use meta_model::{Avail, Plan};
 use setscene_plan::{Probe, ProbeFault};
-use sig_gen::encode;
+use sig_gen::{encode, name_by};
 use std::alloc::Global;
 use std::collections::HashMap;
 use store_model::SigRecord;
@@ -80,12 +80,11 @@ impl<'a> Index<'a> {
     }
 
     /// Whether there is a record of this signature's name.
-    #[tactic(auto, unfolding(store_model::specs::Spelling::name_of))]
     fn has(&self, sig: &SigRecord) -> Result<bool, Mem>
         ensures { IfOk result (λ found. found ≡ true → row_at (rows_of self.now.rows) (name_of sig.now) ≢ None) }
     {
         let bytes = encode(self.alloc, sig)?;
-        let name = Hash::of(bytes.as_slice());
+        let name = name_by(bytes.as_slice());
         Ok(self.unihash(&name).is_some())
     }
 }
@@ -117,6 +116,10 @@ impl Probe for Index<'_> {
             Some(row) => Some(row.unihash),
             None => None,
         }
+    }
+
+    fn known_name(&self, _pn: &str, _sig: &[u8]) -> Option<Hash> {
+        None
     }
 
     fn compare(&mut self, name: &Hash, sig: &[u8]) -> Result<(), ProbeFault> {

@@ -4,11 +4,12 @@ ghost use Rattle.run_core.specs.Need.{AreOrdered};
 ghost use Rattle.store_model.specs.Rows.{uni};
 ghost use Rattle.store_model.specs.Spelling.{name_of, signature_bytes};
 ghost use Rattle.sig_gen.specs.Signing.{signature_by};
+ghost use Rattle.sig_gen.specs.Sound.{IsNameBy};
 ghost use Rattle.setscene_plan.specs.Names.{names_over};
 
 use crate::probe::Probe;
 use meta_model::Plan;
-use sig_gen::{encode, sig_of};
+use sig_gen::{encode, name_by, sig_of};
 use std::alloc::Global;
 use tree_model::{Bytes, Hash, Mem};
 
@@ -29,9 +30,24 @@ pub(crate) fn unihash_of<P: Probe>(probe: &P, name: &Hash) -> Hash
     }
 }
 
+/// The name of a signature, which has this PN, by its bytes: as the probe knows it, else their digest.
+fn known_name<P: Probe>(probe: &P, pn: &str, bytes: &[u8]) -> Hash
+    ensures { IsNameBy bytes.now result }
+{
+    match probe.known_name(pn, bytes) {
+        Some(name) => name,
+        None => name_by(bytes),
+    }
+}
+
 /// The name of a task's signature, by these unihashes, and its bytes.
-#[tactic(auto, unfolding(store_model::specs::Spelling::name_of))]
-pub(crate) fn sign(alloc: Global, plan: &Plan, task: u32, unihashes: &[Hash]) -> Result<Signed, Mem>
+pub(crate) fn sign<P: Probe>(
+    alloc: Global,
+    plan: &Plan,
+    probe: &P,
+    task: u32,
+    unihashes: &[Hash],
+) -> Result<Signed, Mem>
     requires task { task < length plan.now.tasks }
     requires unihashes { length unihashes.now ≡ length plan.now.tasks }
     ensures name { IfOk result (λ made. IfSome (slice_get plan.now.tasks task)
@@ -42,7 +58,7 @@ pub(crate) fn sign(alloc: Global, plan: &Plan, task: u32, unihashes: &[Hash]) ->
     let sig = sig_of(alloc, plan, task, unihashes)?;
     let bytes = encode(alloc, &sig)?;
     Ok(Signed {
-        name: Hash::of(bytes.as_slice()),
+        name: known_name(probe, sig.pn.as_str(), bytes.as_slice()),
         bytes,
     })
 }
@@ -69,7 +85,7 @@ pub fn hashes<P: Probe>(alloc: Global, plan: &Plan, probe: &P) -> Result<Vec<Has
     let mut names = no_hashes(alloc, count)?;
     let mut unihashes = no_hashes(alloc, count)?;
     for place in 0..count {
-        let made = sign(alloc, plan, place as u32, unihashes.as_slice())?;
+        let made = sign(alloc, plan, probe, place as u32, unihashes.as_slice())?;
         names[place] = made.name;
         unihashes[place] = unihash_of(probe, &made.name);
     }

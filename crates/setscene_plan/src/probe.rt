@@ -43,11 +43,12 @@ impl<T: Drop> From<AllocFailed<T>> for ProbeFault {
 /// Answers what an index of records and a store have of the tasks of one plan. It tells which plan it stands for, which rows the
 /// index has, and what its answers of outputs mean. No question changes any of that.
 pub trait Probe {
-    ghost use Rattle.std.specs.Prelude.{◌≡◌, ◌≢◌, ◌<◌, ◌≤◌, ◌+◌, ℕ, None, IfOk, IsErrOf, OnOk, length};
+    ghost use Rattle.std.specs.Prelude.{◌≡◌, ◌≢◌, ◌<◌, ◌≤◌, ◌+◌, ℕ, None, IfOk, IfSome, IsErrOf, OnOk, length};
     ghost use Rattle.std.specs.Option.{option_map};
     ghost use Rattle.meta_model.specs.declared.event.Avail.TheVariants as avails;
     ghost use Rattle.store_model.specs.Rows.{row_at, IsClear};
     ghost use Rattle.store_model.specs.Spelling.{name_of};
+    ghost use Rattle.sig_gen.specs.Sound.{IsNameBy};
     ghost use Rattle.setscene_plan.specs.View.{Counts, Follows, HasOther, IsNamedBy, IsSignedBy, Says, View, probe_failed};
 
     /// The plan and the rows that it stands for.
@@ -68,6 +69,10 @@ pub trait Probe {
     /// The unihash of the row of this name, if there is one.
     fn unihash(&self, name: &Hash) -> Option<Hash>
         ensures { result ≡ option_map (λ row. row.unihash) (row_at (view self.now).rows name.now) };
+
+    /// The name of a signature, which has this PN, by its bytes, where that is known without a digest of them.
+    fn known_name(&self, pn: &str, sig: &[u8]) -> Option<Hash>
+        ensures { IfSome result (IsNameBy sig.now) };
 
     /// Compares the bytes of a signature with those of the row of its name, if there is one. It looks at the rows alone.
     ///

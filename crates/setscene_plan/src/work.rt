@@ -140,7 +140,7 @@ impl Names {
         ensures asked { P.asked probe.new ≡ P.asked probe.old }
         ensures cause { Counts (P.faults probe.old) (P.faults probe.new) (probe_failed result) }
     {
-        let made = sign(alloc, plan, place, self.unihashes.as_slice())?;
+        let made = sign(alloc, plan, probe, place, self.unihashes.as_slice())?;
         probe.compare(&made.name, made.bytes.as_slice())?;
         self.put(place, made.name)?;
         Ok(self.put_unihash(place, unihash_of(probe, &made.name)))

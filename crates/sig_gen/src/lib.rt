@@ -12,6 +12,8 @@
 //!   lists ascend; that texts are UTF-8 and lengths fit is so for every value that a program holds.
 //! - The manifest of a tree is in order, and what is in order has the paths of a tree (`trees_are_in_order`).
 //!
+//! - `name_by` gives the name of a signature by its bytes, and `signature_in` finds these among the bytes of a stored record.
+//!
 //! Want of memory is the one free answer. That reading and writing take linear time is measured (`record_bench`), not proved.
 #![tactic(auto)]
 
@@ -21,6 +23,7 @@ mod laws;
 mod laying;
 mod list;
 mod manifest;
+mod naming;
 mod netstring;
 mod parts;
 mod record;
@@ -29,6 +32,7 @@ mod writing;
 
 pub use fault::SigFault;
 pub use laws::trees_are_in_order;
+pub use naming::{name_by, signature_in};
 pub use record::{decode, decode_stored};
 pub use signing::sig_of;
 pub use writing::{encode, encode_manifest, encode_stored};
