@@ -20,7 +20,7 @@ use Rattle.store_model.proofs.Lasting.{empty_is_valid}
 use Rattle.build_store.specs.Sound.{IsReadable}
 use Rattle.run_workers.specs.Runs.{Runs}
 use Rattle.build_resume.specs.Benches.{AtSeats, BreaksByFault}
-use Rattle.build_resume.specs.Build.{FailsClean, HasRun, IsCrash, IsEntry, Leaves, LeavesOthers, failed_in, is_unsteady}
+use Rattle.build_resume.specs.Build.{FailsClean, HasRun, IsCrash, IsEachFailureTold, IsEntry, Leaves, LeavesOthers, failed_in, is_unsteady}
 use Rattle.bitbake_top.specs.Headline.{BeginsAgain, BeginsFirst, Keeps, MayBegin}
 
 pub begins_first : BeginsFirst
@@ -72,6 +72,7 @@ unbegun_keeps gives reading book plan options tales s old story before now fresh
           subst (IsCrash gives reading book) (sym still) (held_crash gives reading book old.held plan may);
       legal = All-nil _;
       real = All-nil _;
+      all_told = λ wanted is going. All-nil _;
       others = All-nil _;
       steady = steady;
       ran = same_runs;
@@ -84,7 +85,8 @@ begun_keeps gives reading book held plan options tales tale s story before now o
     subst (λ (l : List (List Logged)). Keeps gives reading book held plan options l s story before now) (sym one) (record {
       exact = kept.exact;
       crashes = kept.crashes;
-      legal = All-cons (λ x. (x ≡ []) ⊎ HasRun gives reading book held plan options x story) tale [] kept.legal (All-nil _);
+      legal = All-cons (λ x. (x ≡ []) ⊎ HasRun gives reading book held plan options x s story) tale [] kept.legal (All-nil _);
+      all_told = λ wanted is going. All-cons (IsEachFailureTold gives plan) tale [] (kept.all_told wanted is going) (All-nil _);
       real = All-cons (λ x. (t : ℕ) → Contains (failed_in x) t → FailsClean gives plan t) tale [] kept.real (All-nil _);
       others = All-cons (λ x. LeavesOthers gives book held plan options x s story) tale [] kept.others (All-nil _);
       steady = kept.steady;

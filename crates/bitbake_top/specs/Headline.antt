@@ -1,5 +1,5 @@
 -- What is promised of a run whose devices tell what they hold.
-use Rattle.std.specs.Prelude.{◌≡◌, ◌⊎◌, ℕ, false, List, [], ◌∷◌, ◌++◌, Contains, All, Ok}
+use Rattle.std.specs.Prelude.{true, ◌≡◌, ◌⊎◌, ℕ, false, List, [], ◌∷◌, ◌++◌, Contains, All, Ok}
 use Rattle.std.specs.List.{AllByRecursion}
 use Rattle.tree_model.specs.Tree.{IsTree}
 use Rattle.outside_traits.specs.Passes.{EachNow}
@@ -17,8 +17,9 @@ use Rattle.store_model.specs.Valid.{IsValid}
 use Rattle.build_store.specs.Sound.{IsReadable}
 use Rattle.run_queue.specs.Opening.{HasFolders}
 use Rattle.run_workers.specs.Runs.{Runs}
+use Rattle.plan_model.specs.Sound.{AreWanted}
 use Rattle.build_resume.specs.Benches.{AtSeats}
-use Rattle.build_resume.specs.Build.{FailsClean, HasRun, HasTargets, IsCrash, LeavesOthers, RanStarted, failed_in, is_unsteady}
+use Rattle.build_resume.specs.Build.{FailsClean, HasRun, HasTargets, IsCrash, IsEachFailureTold, LeavesOthers, RanStarted, failed_in, is_unsteady}
 use Rattle.build_resume.specs.Laws.{nothing}
 
 -- what scripts give are trees
@@ -45,10 +46,12 @@ pub record Keeps (gives : Gives) (reading : Reading) (book : Book) (held : Store
   pub exact : s ≡ status.Ok → EachNow story (HasTargets gives plan)
   -- whatever the status is, each crash since the call began leaves a valid store, in which the next run may begin
   pub crashes : (image : Store) → IsImageSince story 0 image → IsCrash gives reading book image
-  -- the tale is legal over the store as it was opened, and what it settled stands to the end
-  pub legal : All (λ tale. (tale ≡ []) ⊎ HasRun gives reading book held plan options tale story) tales
+  -- the tale is legal over the store as it was opened; what ended is recorded, no stamp lies, and settled tasks stand from their events on
+  pub legal : All (λ tale. (tale ≡ []) ⊎ HasRun gives reading book held plan options tale s story) tales
   -- each task that failed fails by itself in the clean build
   pub real : All (λ tale. (t : ℕ) → Contains (failed_in tale) t → FailsClean gives plan t) tales
+  -- and with `-k` each task that fails by itself in the clean build is told
+  pub all_told : AreWanted plan → s ≡ status.TaskFailed → options.keep_going ≡ true → All (IsEachFailureTold gives plan) tales
   -- each crash since the call began leaves alone what isn't the own of tasks that the tale starts or restores, but for `tmp/` and, where one
   -- is started, for folders of `obj/` that are no line's object; under the status of a fault one task more may have been touched
   pub others : All (λ tale. LeavesOthers gives book held plan options tale s story) tales

@@ -58,6 +58,15 @@ ok_by None halt.Stopped false e = (refl, refl, inr refl)
 ok_by None halt.Memory failed e = absurd (let n : status.OutOfMemory ≡ status.Ok = e in cc)
 ok_by None halt.Bench failed e = absurd (let n : status.BenchFault ≡ status.Ok = e in cc)
 
+-- a run ends since a task failed where it met no fault, and nothing was left, or nothing may begin
+failed_cause : (f : Option RunFault) (h : Halt) (failed : Bool) → status_by f h failed ≡ status.TaskFailed → (f ≡ None) × ((h ≡ halt.Finished) ⊎ (h ≡ halt.Stopped))
+failed_cause (Some (kept.Store f)) h failed e = absurd (store_not_failed f e)
+failed_cause (Some kept.Write) h failed e = absurd (let n : status.WriteFault ≡ status.TaskFailed = e in cc)
+failed_cause None halt.Finished failed e = (refl, inl refl)
+failed_cause None halt.Stopped failed e = (refl, inr refl)
+failed_cause None halt.Memory failed e = absurd (let n : status.OutOfMemory ≡ status.TaskFailed = e in cc)
+failed_cause None halt.Bench failed e = absurd (let n : status.BenchFault ≡ status.TaskFailed = e in cc)
+
 failed_by_status : (f : Option RunFault) (h : Halt) (failed : Bool) → status_by f h failed ≡ status.TaskFailed → failed ≡ true
 failed_by_status (Some (kept.Store f)) h failed e = absurd (store_not_failed f e)
 failed_by_status (Some kept.Write) h failed e = absurd (let n : status.WriteFault ≡ status.TaskFailed = e in cc)
@@ -109,6 +118,9 @@ ends_as sink old last h tale s same tale_is halted unbroken told = record {
       let by = ok_by last.fault h (has_failure last.tale) (told_ok sink last.fault h (has_failure last.tale) s told e) in
       (subst (λ (l : List Logged). IsAtEnd old.plan old.options l) (sym tale_is) (finished by.0 by.1 by.2), ap has_failure tale_is ∙ by.1);
   failed = λ e. ap has_failure tale_is ∙ failed_by_status last.fault h (has_failure last.tale) (told_failed sink last.fault h (has_failure last.tale) s told e);
+  went_on = λ e going.
+      let by = failed_cause last.fault h (has_failure last.tale) (told_failed sink last.fault h (has_failure last.tale) s told e) in
+      subst (λ (l : List Logged). IsAtEnd old.plan old.options l) (sym tale_is) (went_on by.0 by.1 (ap (λ (x : Options). x.keep_going) same.options ∙ going));
   unbroken = λ e. unbroken (plain_by last.fault h (has_failure last.tale) (told_plain sink last.fault h (has_failure last.tale) s told e));
 }
   where
@@ -118,6 +130,13 @@ ends_as sink old last h tale s same tale_is halted unbroken told = record {
     some_none : (f : Option RunFault) → f ≡ None → IsSome f → ⊥
     some_none None e is = false≢true is
     some_none (Some f) e is = let n : Some f ≡ None = e in cc
+
+    went_on : last.fault ≡ None → (h ≡ halt.Finished) ⊎ (h ≡ halt.Stopped) → last.options.keep_going ≡ true → IsAtEnd old.plan old.options last.tale
+    went_on none (inl is) going = at_end (subst (IsHalted last) is halted)
+    went_on none (inr is) going = elim (subst (IsHalted last) is halted) [
+      | inl failed ↦ absurd (false≢true (sym failed.1 ∙ going))
+      | inr fault ↦ absurd (some_none last.fault none fault)
+    ]
 
     finished : last.fault ≡ None → has_failure last.tale ≡ false → (h ≡ halt.Finished) ⊎ (h ≡ halt.Stopped) → IsAtEnd old.plan old.options last.tale
     finished none calm (inl is) = at_end (subst (IsHalted last) is halted)

@@ -1,6 +1,6 @@
 -- What a run leaves of a disk on which it began, over a book.
-use Rattle.std.proofs.Common.{◌≡◌, sym, subst, refl, ℕ, false, List, [], arith, inl, inr}
-use Rattle.std.specs.Prelude.{◌≢◌, Contains}
+use Rattle.std.proofs.Common.{◌≡◌, sym, subst, refl, ℕ, ◌+◌, ◌-◌, ◌^◌, ◌<◌, false, List, [], ◌++◌, take, slice_get, Some, arith, inl, inr}
+use Rattle.std.specs.Prelude.{◌≢◌, ◌⊎◌, Contains}
 use Rattle.outside_traits.specs.Passes.{EachNow, Passes}
 use Rattle.outside_traits.specs.Store.{Store}
 use Rattle.outside_traits.specs.Story.{IsFresh, IsImageSince, IsSound as IsStorySound, Story}
@@ -12,18 +12,22 @@ use Rattle.meta_model.specs.declared.plan.Plan.{Plan}
 use Rattle.meta_model.specs.CleanBuild.{Gives}
 use Rattle.plan_model.specs.Sound.{AreWanted}
 use Rattle.store_model.specs.Origins.{Book, Reading}
+use Rattle.store_model.specs.Valid.{IsValid}
 use Rattle.store_model.specs.declared.signature.EquivRow.{EquivRow}
 use Rattle.build_store.specs.Opening.{Clears, IsOpened}
 use Rattle.build_store.specs.Reopened.{IsBookAgain}
 use Rattle.build_store.proofs.Reopened.{opened_is_valid}
+use Rattle.run_queue.specs.Books.{book_after}
+use Rattle.run_queue.specs.Courses.{IsLegalTale}
 use Rattle.run_queue.specs.Keeps.{IsOpening}
 use Rattle.run_queue.specs.Opening.{MayRun, Opening}
 use Rattle.run_queue.specs.Stands.{AllStand}
 use Rattle.run_workers.specs.Runs.{Runs}
 use Rattle.build_resume.specs.Benches.{AtSeats}
-use Rattle.build_resume.specs.Build.{AllClean, FailsClean, HasRun, HasTargets, IsCrash, IsEntry, Leaves, LeavesOthers, RanStarted, failed_in, is_unsteady}
+use Rattle.build_resume.specs.Build.{AllClean, FailsClean, HasRun, HasTargets, IsCrash, IsEntry, IsLeftByRun, Leaves, LeavesOthers, RanStarted, failed_in, is_unsteady}
 use Rattle.build_resume.specs.Outcome.{EndsAs, KeptTo}
 use Rattle.build_resume.proofs.Alone.{kept_others, opened_alone, opening_clears}
+use Rattle.build_resume.proofs.Told.{all_told}
 use Rattle.build_resume.proofs.Outcomes.{kept_all, kept_clean, kept_crash, kept_exact, kept_real, opened_crash, opened_may_run, opening_of}
 
 -- A store was opened on a disk that was fresh: what is held is what opening leaves, and durable; and at each moment nothing went that it
@@ -60,17 +64,35 @@ module _ (gives : Gives) (reading : Reading) (book : Book) (plan : Plan) (option
       λ clean failed. kept_clean opening plan options tale s story k clean (ends.failed failed),
     )
 
-    pub built_legal : HasRun gives reading book before.held plan options tale story
+    -- what the last state kept is kept of the plan, the options, the tale and the story
+    as_kept : (P : Plan → Options → List Logged → Story → Type 0) → P k.last.plan k.last.options k.last.tale k.last.story → P plan options tale story
+    as_kept P is =
+        subst (P plan options tale) k.story_is (subst (λ (l : List Logged). P plan options l k.last.story) k.tale_is (subst (λ (x : Options). P plan x k.last.tale k.last.story) k.options_are (subst (λ (p : Plan). P p k.last.options k.last.tale k.last.story) k.plan_is is)))
+
+    -- a crash since the run began left what the opening did, or what the run leaves
+    left_by_run : (image : Store) → IsImageSince k.last.story 0 image → IsImageSince opening.story 0 image ⊎ IsLeftByRun opening k.last.plan (k.run.lines ++ k.run.last) image
+    left_by_run image since = elim (k.run.images 0 image (omega arith) since) [
+      | inl early ↦ inl early
+      | inr left ↦ inr (record { count = left.count; valid = left.valid; honest = left.honest })
+    ]
+
+    pub built_legal : HasRun gives reading book before.held plan options tale s story
     built_legal = record {
       opening = opening;
       same_gives = refl;
       same_reading = refl;
       same_lines = again.same;
       opened = subst (λ (r : List EquivRow). IsOpened before.held after.held r) again.rows_are was.opened;
-      legal = subst (λ (l : List Logged). Rattle.run_queue.specs.Courses.IsLegalTale opening plan options l) k.tale_is
-          (subst (λ (x : Options). Rattle.run_queue.specs.Courses.IsLegalTale opening plan x k.last.tale) k.options_are (subst (λ (p : Plan). Rattle.run_queue.specs.Courses.IsLegalTale opening p k.last.options k.last.tale) k.plan_is k.run.legal));
-      stands = subst (λ (x : Story). EachNow x (AllStand opening plan tale)) k.story_is
-          (subst (λ (l : List Logged). EachNow k.last.story (AllStand opening plan l)) k.tale_is (subst (λ (p : Plan). EachNow k.last.story (AllStand opening p k.last.tale)) k.plan_is k.run.stands));
+      legal = as_kept (λ p x l st. IsLegalTale opening p x l) k.run.legal;
+      lines = k.run.lines;
+      grown = as_kept (λ p x l st. book_after gives p opening.book l ≡ opening.book ++ k.run.lines) k.run.grown;
+      last = k.run.last;
+      none_last = λ is. k.run.none_last (k.faultless is);
+      recorded = λ is. as_kept (λ p x l st. EachNow st (λ image. IsValid gives reading image (opening.book ++ k.run.lines))) (k.run.durable (k.faultless is));
+      images = as_kept (λ p x l st. (image : Store) → IsImageSince st 0 image → IsImageSince opening.story 0 image ⊎ IsLeftByRun opening p (k.run.lines ++ k.run.last) image) left_by_run;
+      stands = as_kept (λ p x l st. EachNow st (AllStand opening p l)) k.run.stands;
+      since = as_kept
+          (λ p x l st. (n : ℕ) (entry : Logged) → slice_get l n ≡ Some entry → entry.moment < 2 ^ 64 - 1 → (image : Store) → IsImageSince st entry.moment image → AllStand opening p (take (n + 1) l) image) k.run.settled;
     }
 
     pub built_others : LeavesOthers gives book before.held plan options tale s story
@@ -89,6 +111,7 @@ module _ (gives : Gives) (reading : Reading) (book : Book) (plan : Plan) (option
       steady = steady;
       legal = inr built_legal;
       real = built_real;
+      all_told = λ wanted failed going. all_told opening plan options tale s story k lawful entry.sound wanted (ends.went_on failed going);
       ran = ran;
     }
 
@@ -109,6 +132,7 @@ unbegun_leaves gives reading book plan options before after story tale s runs no
   complete = λ wanted. (λ e. absurd (ok e), λ clean e. absurd (failed e));
   steady = steady;
   legal = inl none;
+  all_told = λ wanted e going. absurd (failed e);
   real = λ t has. absurd (none_fails t (subst (λ (l : List Logged). Contains (failed_in l) t) none has));
   ran = ran;
 }

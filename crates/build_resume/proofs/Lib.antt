@@ -14,3 +14,4 @@ pub mod Working
 pub mod Entered
 pub mod Printing
 pub mod Statuses
+pub mod Told

@@ -83,7 +83,7 @@ folded_failed (x ∷ tale) fates t e = elim (folded_failed tale (Rattle.run_core
   | inr later ↦ inr (or_right (is_failure x.event) (has_failure tale) later)
 ]
 
-none_failed : (count t : ℕ) → fate_at (replicate count fate.Waiting) t ≡ fate.Failed → ⊥
+pub none_failed : (count t : ℕ) → fate_at (replicate count fate.Waiting) t ≡ fate.Failed → ⊥
 none_failed zero t e = let n : fate.Waiting ≡ fate.Failed = e in absurd (cc)
 none_failed (suc count) zero e = let n : fate.Waiting ≡ fate.Failed = e in absurd (cc)
 none_failed (suc count) (suc t) e = none_failed count t e
@@ -109,7 +109,7 @@ some_failed (e ∷ tale) is = by e.event is (some_failed tale)
     by (events.Broke u c) h rest = rest h
 
 -- each task has what is built of it
-built_at : (gives : Gives) (tasks : List PlanTask) (k : ℕ) → k < length tasks → (built : Built) × (slice_get (clean_build gives tasks) k ≡ Some built)
+pub built_at : (gives : Gives) (tasks : List PlanTask) (k : ℕ) → k < length tasks → (built : Built) × (slice_get (clean_build gives tasks) k ≡ Some built)
 built_at gives tasks k lt =
     let long : length (clean_build gives tasks) ≡ length tasks = sym (length-map (clean_build gives tasks) (λ (b : Built). b.task)) ∙ ap length (all_tasks gives tasks) in
     task_at (clean_build gives tasks) k (omega (arith, lt, long))
@@ -132,7 +132,7 @@ module _ (o : Opening) (plan : Plan) (options : Options) (tale : List Logged) (s
       (e.2, failed_is_real o k.last k.run e.0 e.1 t e.2 (subst (λ (l : List Logged). slice_get l e.0 ≡ Some e.1) (sym k.tale_is) e.3) e.4 built (subst (λ (p : Plan). slice_get (clean_build o.gives p.tasks) t ≡ Some built) (sym k.plan_is) is))
 
   -- a task that failed is one of the plan
-  failed_within : (t : ℕ) → Contains (failed_in tale) t → (task : PlanTask) × (slice_get plan.tasks t ≡ Some task)
+  pub failed_within : (t : ℕ) → Contains (failed_in tale) t → (task : PlanTask) × (slice_get plan.tasks t ≡ Some task)
   failed_within t has =
       let e = failed_entry tale t has in
       let real = subst (IsReal o.gives k.last.plan.tasks) e.4 (k.run.real e.0 e.1 (subst (λ (l : List Logged). slice_get l e.0 ≡ Some e.1) (sym k.tale_is) e.3)) in

@@ -1,5 +1,5 @@
 -- What a run of a plan leaves.
-use Rattle.std.specs.Prelude.{◌≡◌, ◌≢◌, ◌⊎◌, ◌<◌, ℕ, Bool, true, false, List, [], ◌∷◌, ◌++◌, Contains, Some, Ok, Err}
+use Rattle.std.specs.Prelude.{◌≡◌, ◌≢◌, ◌⊎◌, ◌<◌, ◌+◌, ◌-◌, ◌^◌, ℕ, Bool, true, false, List, [], ◌∷◌, ◌++◌, take, Contains, Some, Ok, Err}
 use Rattle.std.specs.List.{slice_get, AllByRecursion}
 use Rattle.sha2.specs.Sha256.{sha256}
 use Rattle.tree_model.specs.Path.{IsAtOrBelow}
@@ -34,7 +34,7 @@ use Rattle.run_queue.specs.Books.{book_after}
 use Rattle.run_queue.specs.Courses.{IsLegalTale}
 use Rattle.run_queue.specs.Opening.{HasFolders, Opening}
 use Rattle.run_queue.specs.Own.{IsAside, IsOfNone}
-use Rattle.run_queue.specs.Stands.{AllStand, HasStarted, IsTakenUp}
+use Rattle.run_queue.specs.Stands.{AllStand, HasStarted, IsHonest, IsTakenUp}
 use Rattle.run_workers.specs.Runs.{RanScripts, Runs}
 use Rattle.run_workers.specs.Told.{own}
 use Rattle.run_workers.specs.Worked as worked
@@ -61,8 +61,8 @@ HasTargets gives plan image = (t : ℕ) (task : PlanTask) (built : Built) → Co
 abbrev pub AllClean : Gives → Plan → Type 0
 AllClean gives plan = (t : ℕ) (built : Built) → slice_get (clean_build gives plan.tasks) t ≡ Some built → (tree : Entries) × (built.outcome ≡ Ok tree)
 
--- *Every crash leaves a valid store*: its book has the lines of the entry's, and behind them lines that this run recorded; all of them
--- can be read again, and folders stand where the store keeps them.
+-- *Every crash leaves a valid store*: its book has the lines of the entry's, and behind them others (those that the run recorded: `HasRun`);
+-- all of them can be read again, and folders stand where the store keeps them.
 pub record IsCrash (gives : Gives) (reading : Reading) (book : Book) (image : Store) : Type 0 where
   pub again : Book
   pub same : HaveSameLines book again
@@ -71,16 +71,30 @@ pub record IsCrash (gives : Gives) (reading : Reading) (book : Book) (image : St
   pub readable : AllByRecursion IsReadable (again ++ lines)
   pub folders : HasFolders image
 
--- A tale that is legal over the store as it was opened, with the lines of the entry's book in its own order, after which each settled
--- task stands.
-pub record HasRun (gives : Gives) (reading : Reading) (book : Book) (held : Store) (plan : Plan) (options : Options) (tale : List Logged) (now : Story) : Type 0 where
+-- A crash behind the opening left the store valid with the first of these lines behind the opening's, and no stamp of a task of the plan lies:
+-- its stamp and its work folder are as they were opened, or it has no stamp, or what its stamp tells of is there.
+pub record IsLeftByRun (opening : Opening) (plan : Plan) (lines : Book) (image : Store) : Type 0 where
+  pub count : ℕ
+  pub valid : IsValid opening.gives opening.reading image (opening.book ++ take count lines)
+  pub honest : (t : ℕ) (task : PlanTask) → slice_get plan.tasks t ≡ Some task → IsHonest opening.story.held image task
+
+-- A tale that is legal over the store as it was opened, with the lines of the entry's book in its own order. Behind these the run recorded
+-- the lines of what ended, and where it met a fault maybe one more. Each settled task stands to the end, and since the moment of its event.
+pub record HasRun (gives : Gives) (reading : Reading) (book : Book) (held : Store) (plan : Plan) (options : Options) (tale : List Logged) (s : Status) (now : Story) : Type 0 where
   pub opening : Opening
   pub same_gives : opening.gives ≡ gives
   pub same_reading : opening.reading ≡ reading
   pub same_lines : HaveSameLines book opening.book
   pub opened : IsOpened held opening.story.held (rows_of opening.book)
   pub legal : IsLegalTale opening plan options tale
+  pub lines : Book
+  pub grown : book_after gives plan opening.book tale ≡ opening.book ++ lines
+  pub last : Book
+  pub none_last : is_faultless s ≡ true → last ≡ []
+  pub recorded : is_faultless s ≡ true → EachNow now (λ image. IsValid gives reading image (opening.book ++ lines))
+  pub images : (image : Store) → IsImageSince now 0 image → IsImageSince opening.story 0 image ⊎ IsLeftByRun opening plan (lines ++ last) image
   pub stands : EachNow now (AllStand opening plan tale)
+  pub since : (k : ℕ) (entry : Logged) → slice_get tale k ≡ Some entry → entry.moment < 2 ^ 64 - 1 → (image : Store) → IsImageSince now entry.moment image → AllStand opening plan (take (k + 1) tale) image
 
 -- ---- the bench runs
 
@@ -153,6 +167,10 @@ failed_in (entry ∷ tale) = failed_by entry.event (failed_in tale)
 abbrev pub FailsClean : Gives → Plan → ℕ → Type 0
 FailsClean gives plan t = (built : Built) → slice_get (clean_build gives plan.tasks) t ≡ Some built → (cause : Rattle.meta_model.specs.declared.event.Why.Why) × (built.outcome ≡ Err (fails cause))
 
+-- each task that fails by itself in the clean build failed in the tale
+abbrev pub IsEachFailureTold : Gives → Plan → List Logged → Type 0
+IsEachFailureTold gives plan tale = (t : ℕ) (built : Built) → slice_get (clean_build gives plan.tasks) t ≡ Some built → (cause : Rattle.meta_model.specs.declared.event.Why.Why) → built.outcome ≡ Err (fails cause) → Contains (failed_in tale) t
+
 -- ---- kinds of statuses
 
 -- whether the status is that two signatures have one digest
@@ -181,10 +199,12 @@ pub record Leaves (gives : Gives) (reading : Reading) (book : Book) (held : Stor
   pub complete : AreWanted plan → (s ≡ status.Ok → AllClean gives plan) × (AllClean gives plan → s ≢ status.TaskFailed)
   -- no output is found to differ from one run to another
   pub steady : is_unsteady s ≡ false
-  -- the tale is legal over the store as it was opened, and settled tasks stand to the end
-  pub legal : (tale ≡ []) ⊎ HasRun gives reading book held plan options tale story
+  -- the tale is legal over the store as it was opened; what ended is recorded, no stamp lies, and settled tasks stand from their events on
+  pub legal : (tale ≡ []) ⊎ HasRun gives reading book held plan options tale s story
   -- each task that failed fails by itself in the clean build
   pub real : (t : ℕ) → Contains (failed_in tale) t → FailsClean gives plan t
+  -- and with `-k` each task that fails by itself in the clean build is told
+  pub all_told : AreWanted plan → s ≡ status.TaskFailed → options.keep_going ≡ true → IsEachFailureTold gives plan tale
   -- each bench ran the tasks that its seat started, each over the clean outputs of what it needs
   pub ran : AtSeats (RanStarted gives plan tale) before now
 

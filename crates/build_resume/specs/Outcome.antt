@@ -24,9 +24,10 @@ pub record KeptTo (o : Opening) (plan : Plan) (options : Options) (tale : List L
   pub story_is : last.story ≡ story
   pub faultless : is_faultless s ≡ true → last.fault ≡ None
 
--- Under Ok nothing is left to do, and no task failed; where a task failed it stands in the tale. Neither of the two comes where a task broke
--- off since a bench failed or memory was wanting, though another bench did it after all.
+-- Under Ok nothing is left to do, and no task failed; where a task failed it stands in the tale, and with `-k` nothing else is left to do.
+-- Neither of the two comes where a task broke off since a bench failed or memory was wanting, though another bench did it after all.
 pub record EndsAs (plan : Plan) (options : Options) (tale : List Logged) (s : Status) : Type 0 where
   pub ok : s ≡ status.Ok → IsAtEnd plan options tale × (has_failure tale ≡ false)
   pub failed : s ≡ status.TaskFailed → has_failure tale ≡ true
+  pub went_on : s ≡ status.TaskFailed → options.keep_going ≡ true → IsAtEnd plan options tale
   pub unbroken : is_plain s ≡ true → (bench_broke tale ≡ false) × (memory_broke tale ≡ false)

@@ -45,7 +45,7 @@ dep_by whole x deps d built is again needed e has = by has.0 has.1 has.2 (slice_
         again rest.0 rest.1 (k, omega (arith, lt), same)
 
 -- each of the needed tasks that was built has an output
-dep_ok : (whole : List Built) (deps : List ℕ) (d : ℕ) (built : Built) → slice_get whole d ≡ Some built → DepOk whole deps d built
+pub dep_ok : (whole : List Built) (deps : List ℕ) (d : ℕ) (built : Built) → slice_get whole d ≡ Some built → DepOk whole deps d built
 dep_ok whole [] d built is needed e has = absurd (let lt = has.1 in omega (arith, lt))
 dep_ok whole (x ∷ deps) d built is needed e has = dep_by whole x deps d built is (dep_ok whole deps d built is) needed e has
 
@@ -54,11 +54,11 @@ over_ok : (gives : Gives) (task : PlanTask) (needed : Result (List Needed) Lack)
 over_ok gives task (Ok all) tree e = (all, refl)
 over_ok gives task (Err lack) tree e = absurd (cc)
 
-built_long : (gives : Gives) (tasks : List PlanTask) → length (clean_build gives tasks) ≡ length tasks
+pub built_long : (gives : Gives) (tasks : List PlanTask) → length (clean_build gives tasks) ≡ length tasks
 built_long gives tasks = sym (length-map (clean_build gives tasks) (λ b. b.task)) ∙ ap (length {A = PlanTask}) (all_tasks gives tasks)
 
 -- what a task needs that has an output has one
-under_ok : (gives : Gives) (plan : Plan) → IsSound plan → (u t : ℕ) → HasOutput gives plan u → Contains (deps_of plan.tasks u) t → HasOutput gives plan t
+pub under_ok : (gives : Gives) (plan : Plan) → IsSound plan → (u t : ℕ) → HasOutput gives plan u → Contains (deps_of plan.tasks u) t → HasOutput gives plan t
 under_ok gives plan sound u t above has built is = by (slice_get plan.tasks u) refl
   where
     whole : List Built
@@ -79,7 +79,7 @@ under_ok gives plan sound u t above has built is = by (slice_get plan.tasks u) r
     by None at = absurd (let none : deps_of plan.tasks u ≡ [] = ap deps_in at in let h : Contains {X = ℕ} [] t = subst (λ (l : List ℕ). Contains l t) none has in let lt = h.1 in omega (arith, lt))
 
 -- what is needed by a task stands below it
-is_below : (plan : Plan) → IsSound plan → (u t : ℕ) → Contains (deps_of plan.tasks u) t → t < u
+pub is_below : (plan : Plan) → IsSound plan → (u t : ℕ) → Contains (deps_of plan.tasks u) t → t < u
 is_below plan sound u t has = by (slice_get plan.tasks u) refl
   where
     by : (x : Option PlanTask) → slice_get plan.tasks u ≡ x → t < u

@@ -87,7 +87,7 @@ returns-in-Err-begin-clause-leaves g c tells told gives all reading book entry =
 pub returns-in-Err-begin-clause-told : goal.returns-in-Err-begin-clause-told
 returns-in-Err-begin-clause-told g c =
     let ends = (memory_ends c.unbegun.result.status (c.unbegun.ensures.status ∙ c.end_wanting-status.ensures.ends)) in
-    record { ok = λ e. absurd (ends.0 e); failed = λ e. absurd (ends.1 e); unbroken = λ e. (ap bench_broke c.unbegun.ensures.tale, ap memory_broke c.unbegun.ensures.tale) }
+    record { ok = λ e. absurd (ends.0 e); failed = λ e. absurd (ends.1 e); went_on = λ e. absurd (ends.1 e); unbroken = λ e. (ap bench_broke c.unbegun.ensures.tale, ap memory_broke c.unbegun.ensures.tale) }
 
 pub returns-in-Err-begin-clause-broke : goal.returns-in-Err-begin-clause-broke
 returns-in-Err-begin-clause-broke g c =
@@ -122,7 +122,7 @@ pub returns-in-Err-clause-told : goal.returns-in-Err-clause-told
 returns-in-Err-clause-told g c =
     let sink : Type 0 = Rose (g.W.Sink.faults c.args.sink) (g.W.Sink.faults c.tell_end-status.new.sink) in
     let ends = refused_ends sink c.in-Err.field-0.fault c.tell_end-status.result (subst (λ x. EndsBy sink x c.tell_end-status.result) c.status_of_store.ensures c.tell_end-status.ensures.ends) c.in-Err.ensures.fault in
-    record { ok = λ e. absurd (ends.0 (sym c.unbegun-in-Err.ensures.status ∙ e)); failed = λ e. absurd (ends.1 (sym c.unbegun-in-Err.ensures.status ∙ e)); unbroken = λ e. (ap bench_broke c.unbegun-in-Err.ensures.tale, ap memory_broke c.unbegun-in-Err.ensures.tale) }
+    record { ok = λ e. absurd (ends.0 (sym c.unbegun-in-Err.ensures.status ∙ e)); failed = λ e. absurd (ends.1 (sym c.unbegun-in-Err.ensures.status ∙ e)); went_on = λ e. absurd (ends.1 (sym c.unbegun-in-Err.ensures.status ∙ e)); unbroken = λ e. (ap bench_broke c.unbegun-in-Err.ensures.tale, ap memory_broke c.unbegun-in-Err.ensures.tale) }
 
 pub returns-in-Err-clause-broke : goal.returns-in-Err-clause-broke
 returns-in-Err-clause-broke g c =
