@@ -1,12 +1,14 @@
-//! Tests of calls that no case shows: calls that the program doesn't make yet (`print`, `references`, lists), scans over bytes, and graphs
-//! of tasks, which it doesn't print yet. Each call answers at a concrete type and with ample memory; the expected values come from the
-//! rules, by hand.
+//! Tests of calls that no case shows: calls that the program doesn't make (`print`), `references` and lists by themselves, scans over
+//! bytes, and graphs with their depths, and the texts of faults that nothing prints. Each call answers at a concrete type and with ample
+//! memory; the expected values come from the rules, by hand.
 #![tactic(auto)]
 
 #[cfg(test)]
 mod chains;
 #[cfg(test)]
 mod facts;
+#[cfg(test)]
+mod faults;
 #[cfg(test)]
 mod graphs;
 #[cfg(test)]
