@@ -1116,7 +1116,7 @@ done
 
 # The table of faults is the one in the documents and in the program, and has each kind that a case shows. A case shows each of its
 # sentences, but those of two limits, which are shown above.
-holds "the tables of faults" python3 "$top/bench/fault_tables.py" --check
+holds "the tables of faults and statuses" python3 "$top/bench/fault_tables.py" --check
 grep -rhoE '^\|fault (3|10) ([^ ]*:[0-9]+: |[^ ]+: )?[A-Z][A-Za-z0-9]*' "$top/crates/cases/data" | sed 's/.* //' | sort -u >"$room/kinds-shown"
 cut -f1 "$top/docs/faults.tsv" | sed 's/, .*//' | sort -u >"$room/kinds-told"
 holds "each kind of fault in the table" test -z "$(comm -23 "$room/kinds-shown" "$room/kinds-told")"
@@ -1124,6 +1124,9 @@ holds "kinds of faults in cases" test "$(comm -12 "$room/kinds-shown" "$room/kin
 cut -f1 "$top/docs/faults.tsv" | LC_ALL=C sort >"$room/told"
 cut -f1 "$top/tests/sentences.tsv" | LC_ALL=C sort >"$room/shown"
 holds "a case for each sentence" test "$(LC_ALL=C comm -3 "$room/told" "$room/shown" | tr '\n' ' ')" = 'Recipes Tasks '
+
+# The pages say what is there: which files have to be believed, with their lines.
+holds "the files that have to be believed" python3 "$top/bench/reading_lines.py" --check
 
 echo "$passed passed, $failed failed"
 test "$failed" -eq 0
