@@ -1,12 +1,15 @@
 #!/usr/bin/env python3
-"""Makes what is said of faults, from the one table docs/faults.tsv: the tables of docs/READING.md and docs/bitbake.1, between their
-marks, and the program's own table, crates/bitbake_cli/src/sentences.rt. So the three can't differ.
+"""Makes what is said of faults and of exit statuses, each from one table, so that the pages and the program can't differ.
 
-Each line of the table has a fault's kind, its texts, what is wrong, and what to do, with tabs between them. Where a fault's text goes
-into a sentence stands its name in angle brackets; a name that ends with .. stands for all texts from there on. A kind with `, no file`
-behind it counts where no file is at fault, and one with `, no text` where the first text is empty; the first line that fits counts.
+docs/faults.tsv makes the tables of docs/READING.md and docs/bitbake.1, between their marks, and the program's own table,
+crates/bitbake_cli/src/sentences.rt. Each line has a fault's kind, its texts, what is wrong, and what to do, with tabs between them. Where a
+fault's text goes into a sentence stands its name in angle brackets; a name that ends with .. stands for all texts from there on. A kind with
+`, no file` behind it counts where no file is at fault, and one with `, no text` where the first text is empty; the first line that fits counts.
 
-With --check nothing is written, and the status is 1 where one of the three isn't up to date.
+docs/statuses.tsv makes the tables of docs/READING.md, README.md and docs/bitbake.1. Each line has a status, the line that is printed, what is
+wrong, and what to do; words as they stand are in backticks, and names of texts in angle brackets.
+
+With --check nothing is written, and the status is 1 where one of them isn't up to date.
 """
 import os
 import re
@@ -14,6 +17,7 @@ import sys
 
 os.chdir(os.path.dirname(os.path.dirname(os.path.realpath(__file__))))
 FROM, TO = "made by bench/fault_tables.py", "until here"
+STATUSES = "statuses, made by bench/fault_tables.py"
 MARK = re.compile(r"<([^<>]+)>")
 
 PROGRAM_HEAD = """\
@@ -48,6 +52,48 @@ def table():
                     sys.exit(f"docs/faults.tsv:{number}: {kind} has no text {name}")
             rows.append((kind, texts.split(), wrong, mend))
     return rows
+
+
+def statuses():
+    """The rows of the table of statuses: the status, the line, what is wrong, what to do."""
+    with open("docs/statuses.tsv", encoding="utf-8") as lines:
+        return [line.split("\t") for line in lines.read().splitlines()]
+
+
+def without_marks(text):
+    return MARK.sub(r"\1", text)
+
+
+def status_page(rows):
+    yield "| Status | Printed | What is wrong | What to do |"
+    yield "|---|---|---|---|"
+    for row in rows:
+        yield f"| {' | '.join(without_marks(it) for it in row)} |"
+
+
+def status_short(rows):
+    yield "| Exit status | Meaning |"
+    yield "|---|---|"
+    for number, _, wrong, _ in rows:
+        yield f"| {number} | {without_marks(wrong)} |"
+
+
+def status_manual(rows):
+    for number, line, wrong, mend in rows:
+        yield ".TP"
+        yield f"\\fB{number}\\fR"
+        yield f"{bold(line)}:"
+        yield bold(wrong) + ("." if mend == "–" else f"; {bold(mend)}.")
+
+
+def bold(text):
+    """A text of the manual page, with what stands in backticks in bold, and names of texts in italics."""
+    parts = text.split("`")
+    for at, part in enumerate(parts):
+        back = "B" if at % 2 else "R"
+        shown = MARK.sub(lambda found: f"\\fI{found[1]}\\f{back}", part.replace("\\", "\\e").replace("-", "\\-"))
+        parts[at] = f"\\fB{shown}\\fR" if at % 2 else shown
+    return "".join(parts)
 
 
 def page(rows):
@@ -90,10 +136,9 @@ def program(rows):
     return "".join(parts) + "];\n"
 
 
-def put(file, begin, end, lines):
+def put(file, text, begin, end, lines):
     """Gives the text of a file with these lines between the marks."""
-    with open(file, encoding="utf-8") as it:
-        before, _, rest = it.read().partition(begin + "\n")
+    before, _, rest = text.partition(begin + "\n")
     _, mark, after = rest.partition(end + "\n")
     if not mark:
         sys.exit(f"{file} lacks the marks")
@@ -109,16 +154,22 @@ def held(file):
 
 
 def main():
-    rows = table()
-    made = {
-        "docs/READING.md": put("docs/READING.md", f"<!-- {FROM} -->", f"<!-- {TO} -->", page(rows)),
-        "docs/bitbake.1": put("docs/bitbake.1", f'.\\" {FROM}', f'.\\" {TO}', manual(rows)),
-        "crates/bitbake_cli/src/sentences.rt": program(rows),
-    }
+    rows, ends = table(), statuses()
+    reading, manual_page, readme = "docs/READING.md", "docs/bitbake.1", "README.md"
+    made = {file: held(file) for file in (reading, manual_page, readme)}
+    for file, mark, lines in (
+        (reading, f"<!-- {FROM} -->", page(rows)),
+        (manual_page, f'.\\" {FROM}', manual(rows)),
+        (reading, f"<!-- {STATUSES} -->", status_page(ends)),
+        (manual_page, f'.\\" {STATUSES}', status_manual(ends)),
+        (readme, f"<!-- {STATUSES} -->", status_short(ends)),
+    ):
+        made[file] = put(file, made[file], mark, f'.\\" {TO}' if file == manual_page else f"<!-- {TO} -->", lines)
+    made["crates/bitbake_cli/src/sentences.rt"] = program(rows)
     old = [file for file, text in made.items() if text != held(file)]
     if "--check" in sys.argv:
         for file in old:
-            print(f"{file} isn't what docs/faults.tsv says: run bench/fault_tables.py")
+            print(f"{file} isn't what docs/faults.tsv and docs/statuses.tsv say: run bench/fault_tables.py")
         return 1 if old else 0
     for file in old:
         with open(file, "w", encoding="utf-8") as out:
