@@ -1125,8 +1125,11 @@ cut -f1 "$top/docs/faults.tsv" | LC_ALL=C sort >"$room/told"
 cut -f1 "$top/tests/sentences.tsv" | LC_ALL=C sort >"$room/shown"
 holds "a case for each sentence" test "$(LC_ALL=C comm -3 "$room/told" "$room/shown" | tr '\n' ' ')" = 'Recipes Tasks '
 
-# The pages say what is there: which files have to be believed, with their lines.
+# The pages say what is there: the files that have to be believed, with their lines; numbers, crates, files and edits. And the library and
+# application of the cases and of worked rows is the one of the examples.
 holds "the files that have to be believed" python3 "$top/bench/reading_lines.py" --check
+holds "the pages and the tree" python3 "$top/tests/pages.py" --check
+holds "one library and application" python3 "$top/tests/copies.py"
 
 echo "$passed passed, $failed failed"
 test "$failed" -eq 0
