@@ -78,6 +78,9 @@ def crates():
     for row, below in table:
         for it in re.findall(r"`(\w+)`", below):
             wrong.extend(f"docs/ARCHITECTURE.md: {crate} doesn't stand on {it}" for crate in re.findall(r"`(\w+)`", row) if it not in CRATES.get(crate, ()))
+    in_table = re.findall(r"(?m)^\| \*\*(.*)\*\* \| \| \|\n\| `(\w+)`", read("docs/ARCHITECTURE.md"))
+    if in_table != re.findall(r"(?m)^# (.*)\n(\w+)", read("crates.txt").partition("\n\n")[2]):
+        wrong.append("docs/ARCHITECTURE.md and crates.txt have other groups of crates")
     listed = list(CRATES)
     for at, crate in enumerate(listed):
         wrong.extend(f"crates.txt: {crate} stands before {it}, on which it stands" for it in CRATES[crate] if it in listed[at:])
