@@ -4,7 +4,7 @@
 Usage: tests/pages.py [--check]
 Each number of NUMBERS stands once in its page, where its text says, and is written there; with --check nothing is written. The status is 1 where
 a number isn't right, a crate or an edit is in no page, a page names a file that isn't there, a table has the crates in another
-order than crates.txt, or the line that an edit changes doesn't stand once in its file.
+order than crates.txt, a crate doesn't name a library that is listed for it, or the line that an edit changes doesn't stand once in its file.
 """
 import glob
 import os
@@ -81,6 +81,10 @@ def crates():
     in_table = re.findall(r"(?m)^\| \*\*(.*)\*\* \| \| \|\n\| `(\w+)`", read("docs/ARCHITECTURE.md"))
     if in_table != re.findall(r"(?m)^# (.*)\n(\w+)", read("crates.txt").partition("\n\n")[2]):
         wrong.append("docs/ARCHITECTURE.md and crates.txt have other groups of crates")
+    for crate, below in CRATES.items():
+        own = [it for kind in ("rt", "antt") for it in glob.glob(f"crates/{crate}/**/*.{kind}", recursive=True) if "/out/" not in it]
+        text = re.sub(r"//.*|--.*", "", "".join(map(read, own)))
+        wrong.extend(f"crates.txt: {crate} doesn't name {it}" for it in below if not re.search(rf"\b{it}\b", text))
     listed = list(CRATES)
     for at, crate in enumerate(listed):
         wrong.extend(f"crates.txt: {crate} stands before {it}, on which it stands" for it in CRATES[crate] if it in listed[at:])
