@@ -82,7 +82,7 @@ def crates():
     if in_table != re.findall(r"(?m)^# (.*)\n(\w+)", read("crates.txt").partition("\n\n")[2]):
         wrong.append("docs/ARCHITECTURE.md and crates.txt have other groups of crates")
     for crate, below in CRATES.items():
-        own = [it for kind in ("rt", "antt") for it in glob.glob(f"crates/{crate}/**/*.{kind}", recursive=True) if "/out/" not in it]
+        own = [it for kind in ("src/**/*.rt", "specs/**/*.antt", "proofs/**/*.antt") for it in glob.glob(f"crates/{crate}/{kind}", recursive=True)]
         text = re.sub(r"//.*|--.*", "", "".join(map(read, own)))
         wrong.extend(f"crates.txt: {crate} doesn't name {it}" for it in below if not re.search(rf"\b{it}\b", text))
     listed = list(CRATES)
