@@ -90,6 +90,12 @@ class Case:
             out.write(data)
         os.chmod(self.at(path), 0o755 if is_exec else 0o644)
 
+    def link(self, path, target):
+        os.makedirs(os.path.dirname(self.at(path)), exist_ok=True)
+        if os.path.lexists(self.at(path)):
+            os.remove(self.at(path))
+        os.symlink(target, self.at(path))
+
     def run(self, words):
         self.runs += 1
         self.wishes = {"status": None, "text": None, "lines": [], "counts": [], "not": [], "work": None}
@@ -174,6 +180,12 @@ class Case:
             self.write(os.path.join(b"build", path), content, is_exec)
             if path.startswith(b"work/"):
                 self.work[path[5:]] = content, is_exec
+        elif word == "disklink":
+            name, _, target = rest.partition(b" ")
+            path = unescaped(name)
+            self.link(os.path.join(b"build", path), unescaped(target))
+            if path.startswith(b"work/"):
+                self.work[path[5:]] = unescaped(target)
         elif word in ("script", "puts", "links", "exit", "benches"):
             pass
         elif word in ("fail", "gate", "crash"):

@@ -163,7 +163,7 @@ impl Case {
                 let path = unescaped_text(alloc, it.rest.as_str())?;
                 self.project.remove_file(path.as_str())
             }
-            Word::Disk => self.hold(alloc, it),
+            Word::Disk | Word::Disklink => self.hold(alloc, it),
             Word::Fail => self.fail(it.rest.as_str()),
             Word::Crash => self.crash(it.rest.as_str()),
             Word::Memory => Ok(()),
@@ -199,9 +199,12 @@ impl Case {
         }
     }
 
-    /// A file that the disk holds. What stands below `work/` has to stand there after the next run too.
+    /// A file or a link that the disk holds. What stands below `work/` has to stand there after the next run too.
     fn hold(&mut self, alloc: Global, it: Directive) -> Result<(), Wrong> {
-        let (path, entry) = file_of(alloc, it)?;
+        let (path, entry) = match it.word {
+            Word::Disklink => link_of(alloc, it.rest.as_str())?,
+            _ => file_of(alloc, it)?,
+        };
         self.project.hold(alloc, path.as_str(), entry)?;
         self.work = self.project.work(alloc)?;
         Ok(())
