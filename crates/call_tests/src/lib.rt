@@ -1,6 +1,6 @@
-//! Tests of calls that no case shows: calls that the program doesn't make (`print`), `references` and lists by themselves, scans over
-//! bytes, and graphs with their depths, and the texts of faults that nothing prints. Each call answers at a concrete type and with ample
-//! memory; the expected values come from the rules, by hand.
+//! Tests of calls that no case shows: calls that the program doesn't make (`print`, scripts by a key alone), `references` and lists by
+//! themselves, scans over bytes, graphs with their depths, and the texts of faults that nothing prints. Each call answers at a concrete
+//! type and with ample memory; the expected values come from the rules, by hand.
 #![tactic(auto)]
 
 #[cfg(test)]
@@ -21,5 +21,7 @@ mod printing;
 mod references;
 #[cfg(test)]
 mod scans;
+#[cfg(test)]
+mod scripts;
 #[cfg(test)]
 mod shown;

@@ -4,9 +4,9 @@ ghost use Rattle.run_tests.specs.Playing.{IsSound, Stands};
 use crate::index::Index;
 use crate::plans::{Shape, is_sound, plan_of};
 use crate::playing::{Outcome, Play, begin, play_out, step};
-use meta_model::{Options, Plan};
+use meta_model::{ListOf, Options, Plan};
 use run_core::Next;
-use setscene_plan::ProbeFault;
+use setscene_plan::{ProbeFault, hashes, needed};
 use std::alloc::Global;
 use std::test::Fail;
 use tree_model::{Hash, Mem};
@@ -194,5 +194,31 @@ fn one_task_ends(rt: HostRuntime) -> Result<(), Fail> {
     let (next, asked, stay) = one_step(rt.alloc(), &plan)?;
     assert_eq!(rt; next, Next::Start(0));
     assert!(rt; asked <= 1 && stay);
+    Ok(())
+}
+
+/// Which tasks are needed where nothing is there, worked out from scratch; and whether a run begins with that, and with the names that are.
+fn from_scratch(alloc: Global, plan: &Plan) -> Result<(Vec<bool>, bool), Fail>
+    requires { IsSound plan.now }
+{
+    let mut index = Index::new(alloc, plan);
+    let play = begin(alloc, &mut index)?;
+    let names = hashes(alloc, index.plan, &index)?;
+    let need = needed(alloc, index.plan, play.replan.avail())?;
+    let agrees = names.as_slice() == play.replan.names() && need.as_slice() == play.replan.need();
+    Ok((need, agrees))
+}
+
+/// Of two recipes one task is the target: it is needed, and the one below it.
+#[test]
+fn names_and_needs_from_scratch(rt: HostRuntime) -> Result<(), Fail> {
+    let mut plan = recipes(rt.alloc(), 4, 2, 0, "")?;
+    let mut targets = ListOf::new(rt.alloc());
+    targets.push(1)?;
+    plan.targets = targets;
+    assert!(rt; is_sound(&plan));
+    let (need, agrees) = from_scratch(rt.alloc(), &plan)?;
+    assert_eq!(rt; need.as_slice(), [true, true, false, false].as_slice());
+    assert!(rt; agrees);
     Ok(())
 }

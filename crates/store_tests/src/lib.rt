@@ -3,8 +3,8 @@
 //! many as it should.
 //!
 //! What the contracts say is proved. The tests show that the calls succeed with ample memory, and what no case shows: the bytes of
-//! records, which files opening takes away, and two signatures of one name. What runs make of a store, found, restored, damaged or broken off,
-//! is shown by cases.
+//! records, which files opening takes away, two signatures of one name, and a row that is added again. What runs make of a store, found,
+//! restored, damaged or broken off, is shown by cases.
 #![tactic(auto)]
 
 #[cfg(test)]
@@ -15,5 +15,7 @@ mod odd;
 mod records;
 #[cfg(test)]
 mod refusals;
+#[cfg(test)]
+mod rows;
 #[cfg(test)]
 mod samples;
