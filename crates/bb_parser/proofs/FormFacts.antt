@@ -1,5 +1,5 @@
 -- The first form that a line fits, part by part.
-use Rattle.std.proofs.Common.{◌≡◌, ℕ, true, false, List, [], ◌∷◌, refl, sym, ap, ◌∙◌, Option, Some, None, option_map}
+use Rattle.std.proofs.Common.{◌≡◌, ℕ, true, false, List, refl, sym, ap, ◌∙◌, Option, Some, None, option_map}
 use Rattle.meta_model.specs.declared.statement.Statement.{Statement}
 use Rattle.meta_model.specs.Text.{skip_blanks}
 use Rattle.meta_model.specs.Lines.{opens_body}

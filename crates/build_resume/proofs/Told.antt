@@ -17,7 +17,7 @@ use Rattle.meta_model.specs.declared.plan.Plan.{Plan}
 use Rattle.meta_model.specs.declared.plan.PlanTask.{PlanTask}
 use Rattle.meta_model.specs.CleanBuild.{Built, Entries, Gives, Lack, built_over, clean_build, fails, outputs_of, waits}
 use Rattle.meta_model.specs.Layout.{Needed}
-use Rattle.meta_model.specs.Walks.{LeadsTo, Walk}
+use Rattle.meta_model.specs.Walks.{Walk}
 use Rattle.plan_model.specs.Sound.{AreWanted, IsSound}
 use Rattle.run_core.specs.declared.fate.Fate.{Fate}
 use Rattle.run_core.specs.declared.fate.Fate.TheVariants as fate

@@ -122,7 +122,7 @@ pub starts_not : (prefix q : List ℕ) → (BeginsWith prefix q → ⊥) → sta
 starts_not prefix q unlike = elim (bool_cases (starts_with nat_eq q prefix)) [
   | inl yes' ↦ absurd (unlike (begins_with prefix q yes'))
   | inr fails ↦ fails
-  ]
+]
 
 -- one more that begins with the prefix is picked behind the others
 pub picked_more : (prefix : List ℕ) (qs : List (List ℕ)) (q : List ℕ) → BeginsWith prefix q → picked prefix (qs ++ q ∷ []) ≡ picked prefix qs ++ q ∷ []

@@ -1,5 +1,5 @@
 -- What a fault says of the recipes that were meant.
-use Rattle.std.specs.Prelude.{◌≡◌, ◌⊎◌, Bool, true, false, Option, Some, None, Result, Ok, Err}
+use Rattle.std.specs.Prelude.{◌≡◌, ◌⊎◌, Bool, false, Option, Some, None, Result, Ok, Err}
 use Rattle.std.specs.Option.{option_map}
 use Rattle.load_model.specs.Recipes.{SetRefusal, bad_name, dangling_append, load, too_many, no_value}
 use Rattle.class_inherit.specs.Faults.{is_read, load_refusal}

@@ -1,5 +1,5 @@
 -- Whatever held of a run as it began holds on, turn by turn.
-use Rattle.std.proofs.Common.{◌≡◌, ℕ, ◌+◌, ◌∙◌, refl, List, [], ◌∷◌, ◌++◌, length, map, take, sym, subst, ap, Bool, true, false, None, arith, append-nil, inl, inr}
+use Rattle.std.proofs.Common.{◌≡◌, ℕ, ◌+◌, ◌∙◌, refl, List, [], ◌++◌, length, map, take, sym, subst, ap, Bool, true, false, None, arith, append-nil, inl, inr}
 use Rattle.std.specs.Prelude.{IsSome}
 use Rattle.outside_traits.specs.Fault.{Counts}
 use Rattle.outside_traits.specs.Story.{Story}

@@ -1,5 +1,5 @@
 -- What stands while texts are expanded, and the values that are known by then.
-use Rattle.std.specs.Prelude.{◌≡◌, ◌+◌, ◌≤◌, ◌<◌, ◌&&◌, ℕ, Bool, true, false, not, nat_le, max, List, [], ◌∷◌, length, Option, Some, None, Result, Ok, Err, String, codes, bytes_eq, if◌then◌else◌, ⊤}
+use Rattle.std.specs.Prelude.{◌≡◌, ◌+◌, ◌≤◌, ◌<◌, ◌&&◌, ℕ, Bool, true, false, not, nat_le, max, List, length, Option, Some, None, Result, Ok, Err, String, codes, bytes_eq, if◌then◌else◌, ⊤}
 use Rattle.std.specs.Global.{Global}
 use Rattle.std.specs.Option.{option_map, option_or}
 use Rattle.std.specs.BTreeMap.{BTreeMap, get_by_text}
