@@ -6,6 +6,7 @@ Usage: bench/gate_minutes.py [--log FILE] [--into FILE] [--anew] [CRATE ..]
   --into FILE    puts the table between the two marks of this file, as docs/GATE.md has them, in place of printing it
   --anew         proves everything, also what an earlier run on this machine proved; kit 13b keeps nothing, so there it changes nothing
   CRATE ..       these crates and those below them alone; with kit 13f, since `rt ci` of kit 13b takes no names
+  --before COMMIT adds a column with the minutes that docs/GATE.md had at that commit
   --join FILE .. runs nothing: makes one table of those that earlier runs over other crates printed, each into a file
 
 The gate prints no times, so this looks ten times a second at the processor time of each process that `rt ci` has started, and
@@ -157,6 +158,22 @@ def joined(files):
     yield "Edits over 40 s: " + (", ".join(f"{name} {cost} s" for name, cost in sorted(slow.items(), key=lambda it: -it[1]) if cost > 40) or "none") + "."
 
 
+def with_before(lines, commit):
+    """The lines of a table, with a column of the minutes that a crate had in the page of an earlier commit."""
+    page = subprocess.run(["git", "show", f"{commit}:docs/GATE.md"], stdout=subprocess.PIPE, text=True, check=True).stdout
+    page = page.partition(MARKS[0])[2].partition(MARKS[1])[0]
+    cells = [[it.strip() for it in line.strip().strip("|").split("|")] for line in page.splitlines() if line.startswith("| ")]
+    before = {row[0]: row[8] for row in cells if len(row) > 8}
+    for line in lines:
+        first = line.strip("|").split("|")[0].strip()
+        if line.startswith("|---"):
+            yield line + "---|"
+        elif line.startswith("| "):
+            yield f"{line} {'Before' if first == 'Crate' else before.get(first, '–')} |"
+        else:
+            yield line
+
+
 def put(text, file):
     """Puts the text between the marks of a file."""
     before, _, rest = open(file).read().partition(MARKS[0])
@@ -172,11 +189,13 @@ def main():
     given.add_argument("--log", default=os.path.join(tempfile.gettempdir(), "gate.log"))
     given.add_argument("--into")
     given.add_argument("--anew", action="store_true")
+    given.add_argument("--before")
     given.add_argument("--join", nargs="+")
     given.add_argument("crates", nargs="*")
     given = given.parse_args()
     if given.join:
-        text = "\n".join(joined(given.join)) + "\n"
+        lines = joined(given.join)
+        text = "\n".join(with_before(lines, given.before) if given.before else lines) + "\n"
         put(text, given.into) if given.into else print(text, end="")
         return 0
     began = time.time()
@@ -188,7 +207,8 @@ def main():
     status, sums, whole = watch(["rt", "ci", *["--anew"] * (given.anew and keeps), *given.crates], given.log)
     last = open(given.log, errors="replace").read().rstrip("\n").rpartition("\n")[2]
     head = f"Commit {commit}, {os.cpu_count()} processors, {(time.time() - began) / 60:.0f} minutes by the clock: `{last}`."
-    text = "\n".join([head, "", *table(sums, whole)]) + "\n"
+    lines = [head, "", *table(sums, whole)]
+    text = "\n".join(with_before(lines, given.before) if given.before else lines) + "\n"
     if given.into:
         put(text, given.into)
     else:
