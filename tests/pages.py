@@ -98,7 +98,9 @@ def files():
             top = "" if head in ("crates", "docs", "tests", "bench", "bin", "examples", ".ci") else "crates/" if head in CRATES else None
             if top is not None and "NAME" not in path and not glob.glob(top + path):
                 # (what a build makes, folders of a project, and edits by their crate)
-                if not re.search(r"/out/|/build\b", path) and not glob.glob(f"crates/{head}/must-fail/{path[len(head) + 1:]}.edit"):
+                edit = f"{path[len(head) + 1:]}.edit"
+                stands = glob.glob(f"crates/{head}/must-fail/{edit}") or glob.glob(f"tests/bugs/{head}/{edit}")
+                if not re.search(r"/out/|/build\b", path) and not stands:
                     wrong.append(f"{page} names {path}, which isn't there")
 
 
