@@ -146,7 +146,8 @@ fn first_at(
     None
 }
 
-/// How many rows of a PN a signature is compared with, at most. That many comparisons cost less than a digest of its bytes.
+/// How many rows of a PN a signature is compared with, at most. Most differ in their lengths, so that many should cost less than a
+/// digest of its bytes.
 const COMPARED: usize = 64;
 
 /// The name of the row at a place, where it has this signature.
