@@ -8,8 +8,9 @@ use crate::cut::{first_piece, trimmed};
 use crate::fault::{LexFault, LexKind};
 use crate::step::{Stand, step};
 use byte_scan::count_of;
-use meta_model::{Line, ListOf};
+use meta_model::Line;
 use std::alloc::Global;
+use tree_model::ListOf;
 
 /// The logical lines of a text, or its first fault.
 fn text_lines(alloc: Global, text: &str) -> Result<ListOf<Line>, LexFault>

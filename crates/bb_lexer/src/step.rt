@@ -4,9 +4,9 @@ ghost use Rattle.bb_lexer.specs.Steps.{standing_of, IsWhole, Steps};
 
 use crate::cut::{before_join, begins_comment, is_dropped, opens};
 use crate::fault::{LexFault, LexKind};
-use meta_model::{Line, ListOf, Place};
+use meta_model::{Line, Place};
 use std::alloc::Global;
-use tree_model::Text;
+use tree_model::{ListOf, Text};
 
 /// Where the next physical line stands: outside of bodies and joins; behind a backslash, with the number at which
 /// the logical line begins and its text so far; inside a body.

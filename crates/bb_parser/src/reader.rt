@@ -8,9 +8,9 @@ ghost use Rattle.bb_parser.specs.Reading.{statement_at, kind_of_lines, is_body, 
 use crate::fault::{ParseFault, ParseKind};
 use crate::line_statement::statement_of_line;
 use bb_lexer::{LexFault, LexKind, Line, Place, lines, opens};
-use meta_model::{Kind, ListOf, Statement};
+use meta_model::{Kind, Statement};
 use std::alloc::Global;
-use tree_model::{Mem, Text};
+use tree_model::{ListOf, Mem, Text};
 
 /// Statements, each with the number of the line at which it begins. Contracts see a list of pairs.
 pub type Statements = ListOf<(u32, Statement)>;

@@ -1,5 +1,5 @@
 -- The texts that the program prints.
-use Rattle.std.specs.Prelude.{ℕ, zero, suc, ◌==◌, ◌||◌, Bool, List, [], ◌∷◌, ◌++◌, codes, flat_map, length, slice_get, if◌then◌else◌}
+use Rattle.std.specs.Prelude.{ℕ, zero, suc, List, [], ◌∷◌, ◌++◌, codes, flat_map, length, slice_get, if◌then◌else◌}
 use Rattle.std.specs.Option.{option_map_or}
 use Rattle.std.specs.Fmt.{decimal}
 use Rattle.tree_model.specs.Hash.{hash_text}
@@ -10,21 +10,12 @@ use Rattle.meta_model.specs.declared.facts.RecipeFacts.{RecipeFacts}
 use Rattle.meta_model.specs.declared.facts.TaskId.{TaskId}
 use Rattle.meta_model.specs.declared.plan.Plan.{Plan}
 use Rattle.meta_model.specs.declared.plan.PlanTask.{PlanTask}
-
--- A byte of a value as it is printed: a backslash, a quote and a newline are written with a backslash in front (own rule).
-abbrev pub escape : ℕ → List ℕ
-escape c = if c == 92 then codes "\\\\" else (if c == 34 then codes "\\\"" else (if c == 10 then codes "\\n" else c ∷ []))
-
--- a byte that isn't printed as it stands
-abbrev pub is_special : ℕ → Bool
-is_special c = c == 92 || (c == 34 || c == 10)
-
-abbrev pub escaped : List ℕ → List ℕ
-escaped value = flat_map escape value
+use Rattle.meta_model.specs.declared.quoting.Quoting.TheVariants.{Print}
+use Rattle.meta_model.specs.Quoting.{escaped}
 
 -- the line of a name and its value
 abbrev pub value_line : List ℕ × List ℕ → List ℕ
-value_line pair = pair.0 ++ (codes "=\"" ++ (escaped pair.1 ++ codes "\"\n"))
+value_line pair = pair.0 ++ (codes "=\"" ++ (escaped Print pair.1 ++ codes "\"\n"))
 
 -- The lines of names and their values, in their order (own rule; BitBake User Manual, "The bitbake Command", option `-e`).
 abbrev pub env_text : List (List ℕ × List ℕ) → List ℕ

@@ -1,10 +1,11 @@
 // The tasks that failed, as standard error tells of them.
 use crate::logs::{keep_log, last_lines, remove_log};
-use meta_model::{Event, ListOf, Logged, Plan, TaskId, Why};
+use meta_model::{Event, Logged, Plan, TaskId, Why};
 use outside_os::{FailedRun, ShBench};
 use std::alloc::AllocError;
 use std::fmt::Display;
 use std::slice::Iter;
+use tree_model::ListOf;
 
 /// The runs of a bench that failed, from the first on that isn't told yet.
 type RunsLeft<'a> = Iter<'a, FailedRun>;

@@ -8,11 +8,39 @@ ghost use Rattle.bitbake_top.specs.Asked.{asked_of};
 /// Runs, and what a mode prints.
 #[tactic(auto, unfolding(crate::specs::Asked::asked_of, command_words::specs::Command::command, clap::proofs::OnLiterals::clap_on_literals))]
 pub fn example_of_asking()
-    ensures one_name { asked_of (codes "hello" ∷ []) ≡ Ok (Runs (record { targets = codes "hello" ∷ []; task = None; force = false; options = record { keep_going = false; setscene = true } })) }
-    ensures two_names { asked_of (codes "b" ∷ codes "a" ∷ []) ≡ Ok (Runs (record { targets = codes "b" ∷ codes "a" ∷ []; task = None; force = false; options = record { keep_going = false; setscene = true } })) }
+    ensures one_name { asked_of (codes "hello" ∷ [])
+        ≡ Ok (Runs
+        (record {
+          targets = codes "hello" ∷ [];
+          task = None;
+          force = false;
+          options = record { keep_going = false; setscene = true };
+        })) }
+    ensures two_names { asked_of (codes "b" ∷ codes "a" ∷ [])
+        ≡ Ok (Runs
+        (record {
+          targets = codes "b" ∷ codes "a" ∷ [];
+          task = None;
+          force = false;
+          options = record { keep_going = false; setscene = true };
+        })) }
     // behind `--` each word is a target
-    ensures behind_two_hyphens { asked_of (codes "--" ∷ codes "-e" ∷ []) ≡ Ok (Runs (record { targets = codes "-e" ∷ []; task = None; force = false; options = record { keep_going = false; setscene = true } })) }
-    ensures task { asked_of (codes "-c" ∷ codes "build" ∷ codes "hello" ∷ []) ≡ Ok (Runs (record { targets = codes "hello" ∷ []; task = Some (codes "build"); force = false; options = record { keep_going = false; setscene = true } })) }
+    ensures behind_two_hyphens { asked_of (codes "--" ∷ codes "-e" ∷ [])
+        ≡ Ok (Runs
+        (record {
+          targets = codes "-e" ∷ [];
+          task = None;
+          force = false;
+          options = record { keep_going = false; setscene = true };
+        })) }
+    ensures task { asked_of (codes "-c" ∷ codes "build" ∷ codes "hello" ∷ [])
+        ≡ Ok (Runs
+        (record {
+          targets = codes "hello" ∷ [];
+          task = Some (codes "build");
+          force = false;
+          options = record { keep_going = false; setscene = true };
+        })) }
     // the configuration's values
     ensures environment { asked_of (codes "-e" ∷ []) ≡ Ok (Reads Environment []) }
     ensures environment_of_a_target { asked_of (codes "-e" ∷ codes "x" ∷ []) ≡ Ok (Reads Environment (codes "x" ∷ [])) }
@@ -29,22 +57,47 @@ pub fn example_of_asking()
 /// Dry runs.
 #[tactic(auto, unfolding(crate::specs::Asked::asked_of, command_words::specs::Command::command, clap::proofs::OnLiterals::clap_on_literals))]
 pub fn example_of_dry_runs()
-    ensures target { asked_of (codes "-n" ∷ codes "hello" ∷ []) ≡ Ok (Plans (record { targets = codes "hello" ∷ []; task = None })) }
-    ensures task { asked_of (codes "-n" ∷ codes "-c" ∷ codes "build" ∷ codes "hello" ∷ []) ≡ Ok (Plans (record { targets = codes "hello" ∷ []; task = Some (codes "build") })) }
+    ensures target { asked_of (codes "-n" ∷ codes "hello" ∷ [])
+        ≡ Ok (Plans (record { targets = codes "hello" ∷ []; task = None })) }
+    ensures task { asked_of (codes "-n" ∷ codes "-c" ∷ codes "build" ∷ codes "hello" ∷ [])
+        ≡ Ok (Plans (record { targets = codes "hello" ∷ []; task = Some (codes "build") })) }
     // these options have no bearing on what is printed
-    ensures options { asked_of (codes "-nfk" ∷ codes "--no-setscene" ∷ codes "hello" ∷ []) ≡ Ok (Plans (record { targets = codes "hello" ∷ []; task = None })) }
+    ensures options { asked_of (codes "-nfk" ∷ codes "--no-setscene" ∷ codes "hello" ∷ [])
+        ≡ Ok (Plans (record { targets = codes "hello" ∷ []; task = None })) }
 {}
 
 /// Options of runs, and the sample.
 #[tactic(auto, unfolding(crate::specs::Asked::asked_of, command_words::specs::Command::command, clap::proofs::OnLiterals::clap_on_literals))]
 pub fn example_of_options()
-    ensures force { asked_of (codes "-f" ∷ codes "hello" ∷ []) ≡ Ok (Runs (record { targets = codes "hello" ∷ []; task = None; force = true; options = record { keep_going = false; setscene = true } })) }
-    ensures keep_going { asked_of (codes "-k" ∷ codes "hello" ∷ []) ≡ Ok (Runs (record { targets = codes "hello" ∷ []; task = None; force = false; options = record { keep_going = true; setscene = true } })) }
-    ensures no_setscene { asked_of (codes "--no-setscene" ∷ codes "hello" ∷ []) ≡ Ok (Runs (record { targets = codes "hello" ∷ []; task = None; force = false; options = record { keep_going = false; setscene = false } })) }
+    ensures force { asked_of (codes "-f" ∷ codes "hello" ∷ [])
+        ≡ Ok (Runs
+        (record {
+          targets = codes "hello" ∷ [];
+          task = None;
+          force = true;
+          options = record { keep_going = false; setscene = true };
+        })) }
+    ensures keep_going { asked_of (codes "-k" ∷ codes "hello" ∷ [])
+        ≡ Ok (Runs
+        (record {
+          targets = codes "hello" ∷ [];
+          task = None;
+          force = false;
+          options = record { keep_going = true; setscene = true };
+        })) }
+    ensures no_setscene { asked_of (codes "--no-setscene" ∷ codes "hello" ∷ [])
+        ≡ Ok (Runs
+        (record {
+          targets = codes "hello" ∷ [];
+          task = None;
+          force = false;
+          options = record { keep_going = false; setscene = false };
+        })) }
     // a mode that reads doesn't look at options
     ensures force_in_a_mode { asked_of (codes "-f" ∷ codes "-p" ∷ []) ≡ Ok (Reads Parse []) }
     ensures sample { asked_of (codes "--sample" ∷ codes "5" ∷ []) ≡ Ok (Sample 5) }
-    ensures sample_without_targets { asked_of (codes "-f" ∷ codes "--sample" ∷ codes "5" ∷ codes "x" ∷ []) ≡ Ok (Sample 5) }
+    ensures sample_without_targets { asked_of (codes "-f" ∷ codes "--sample" ∷ codes "5" ∷ codes "x" ∷ [])
+        ≡ Ok (Sample 5) }
 {}
 
 /// Words without a reading.

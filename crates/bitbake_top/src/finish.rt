@@ -1,5 +1,6 @@
 // What a call hands back.
-use meta_model::{ListOf, Logged, Plan, Status};
+use meta_model::{Logged, Plan, Status};
+use tree_model::ListOf;
 
 /// What a call of the program hands back.
 #[derive(Drop)]

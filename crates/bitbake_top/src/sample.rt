@@ -11,14 +11,14 @@ use crate::asked::RunRequest;
 use crate::finish::Finish;
 use crate::run::run;
 use bb_report::{end_text, fault_text};
-use meta_model::{ListOf, Logged, Options, Plan, Status};
+use meta_model::{Logged, Options, Plan, Status};
 use outside_mem::{FixedLayers, MemBench, MemDisk, NullSink};
 use outside_traits::Sink;
 use sample_project::{sample_layers, sample_targets, sample_text};
 use std::alloc::Global;
 use std::sync::Wait;
 use std::thread::Threads;
-use tree_model::{Mem, Text};
+use tree_model::{ListOf, Mem, Text};
 
 /// How many benches the sample has, as the program has them.
 const BENCHES: usize = 17;

@@ -16,12 +16,12 @@ ghost use Rattle.bitbake_top.specs.Run.{Concludes, IsBegun, IsCertain, RanPrinte
 use crate::answer::refuse;
 use bb_report::{plan_text, write_all};
 use build_resume::{Outcome, build};
-use meta_model::{ListOf, Logged, Options, Plan, Status};
+use meta_model::{Logged, Options, Plan, Status};
 use outside_traits::{Bench, Disk, Sink};
 use std::alloc::Global;
 use std::sync::Wait;
 use std::thread::Threads;
-use tree_model::{Mem, Text};
+use tree_model::{ListOf, Mem, Text};
 
 /// What a run of a plan hands back.
 #[derive(Drop)]

@@ -1,11 +1,11 @@
 // Long chains of tasks.
 use crate::facts::{empty_task, facts_of, read_recipe, targets};
-use meta_model::{FactSet, ListOf, TaskFacts};
+use meta_model::{FactSet, TaskFacts};
 use std::alloc::Global;
 use std::process::Abort;
 use std::test::Fail;
 use task_graph::{GraphFault, build};
-use tree_model::{Mem, Text};
+use tree_model::{ListOf, Mem, Text};
 
 fn name(alloc: Global, number: usize) -> Result<Text, Mem> {
     Ok(Text::from_string(format!(in alloc; "do_{number}").map_err(Mem::from)?))

@@ -1,7 +1,7 @@
 // Facts that are read from lines, so that a test shows them as a text.
-use meta_model::{FactSet, ListOf, Package, RecipeFacts, Target, TaskFacts};
+use meta_model::{FactSet, Package, RecipeFacts, Target, TaskFacts};
 use std::alloc::Global;
-use tree_model::{Mem, Text, Texts};
+use tree_model::{ListOf, Mem, Text, Texts};
 
 /// Whether a word begins a part of a line.
 fn is_key(word: &str) -> bool {

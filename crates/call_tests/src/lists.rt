@@ -1,7 +1,6 @@
 // Lists of the plain values.
-use meta_model::ListOf;
 use std::alloc::Global;
-use tree_model::{Mem, Text};
+use tree_model::{ListOf, Mem, Text};
 
 /// The numbers 7 and 9.
 fn numbers(alloc: Global) -> Result<ListOf<u32>, Mem> {

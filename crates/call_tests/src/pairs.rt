@@ -1,10 +1,10 @@
 // A map of names to values, in memory.
 ghost use Rattle.std.specs.Prelude.{◌≡◌, ◌++◌, ◌∷◌, [], OnOk, OnErr};
 
-use meta_model::{ListOf, Resolved};
+use meta_model::Resolved;
 use std::alloc::Global;
 use std::marker::Model;
-use tree_model::{Mem, Text, Texts};
+use tree_model::{ListOf, Mem, Text, Texts};
 use var_expand::{ExpandFault, Lookup};
 
 /// Names with their texts and removes.

@@ -1,10 +1,10 @@
 // Scripts and places of a task, by its store and by its key alone.
 use datastore::Datastore;
-use meta_model::{EntryLine, Key, ListOf, Op};
+use meta_model::{EntryLine, Key, Op};
 use script_gen::{ScriptFault, places_of, script, script_of};
 use std::alloc::Global;
 use std::test::Fail;
-use tree_model::{Mem, Text};
+use tree_model::{ListOf, Mem, Text};
 use var_deps::key;
 
 /// What the shell of the task is given.

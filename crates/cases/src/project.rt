@@ -6,9 +6,7 @@ ghost use Rattle.outside_mem.specs.Told.{story_of};
 use crate::wrong::Wrong;
 use bitbake_top::bitbake;
 use meta_model::Status;
-use outside_mem::{
-    FailDisk, FuseDisk, Gate, GateBench, MemDisk, MemLayers, MemSink, Rule, ScriptTable,
-};
+use outside_mem::{FaultyDisk, Gate, GateBench, MemDisk, MemLayers, MemSink, Rule, ScriptTable};
 use std::alloc::Global;
 use std::collections::BTreeMap;
 use std::mem;
@@ -170,7 +168,7 @@ impl Project {
         requires { IsFresh (story_of disk) }
     {
         let fails = mem::replace(&mut self.fails, NONE_FAILS);
-        let disk = FailDisk::new(disk, fails.disk);
+        let disk = FaultyDisk::failing_once(disk, fails.disk);
         let layers = self.layers(alloc, fails.layers)?;
         let benches = self.benches(alloc, &fails)?;
         let sink = MemSink::new(alloc, numbers(alloc, fails.sink)?)?;
@@ -190,7 +188,7 @@ impl Project {
     ) -> Result<Ran, Wrong>
         requires { IsFresh (story_of disk) }
     {
-        let disk = FuseDisk::new(disk, crash.calls);
+        let disk = FaultyDisk::failing_after(disk, crash.calls);
         let layers = self.layers(alloc, 0)?;
         let benches = self.benches(alloc, &NONE_FAILS)?;
         let sink = MemSink::new(alloc, numbers(alloc, 0)?)?;

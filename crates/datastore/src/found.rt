@@ -12,10 +12,10 @@ ghost use Rattle.datastore.specs.Found.{own_at, form_of, is_present, present_for
 use crate::forms::Forms;
 use crate::maps::Maps;
 use crate::names::push_if;
-use meta_model::{LateLine, ListOf, Resolved};
+use meta_model::{LateLine, Resolved};
 use override_eval::{apply_ops, choose, is_counted};
 use std::alloc::Global;
-use tree_model::{Mem, Text, Texts};
+use tree_model::{ListOf, Mem, Text, Texts};
 
 /// The name `N:rest` of a form.
 fn form_of(alloc: Global, name: &str, rest: &str) -> Result<Text, Mem>

@@ -3,7 +3,7 @@ ghost use Rattle.std.specs.Prelude.{◌≡◌, ◌≤◌, All, IfOk, IsTrue};
 ghost use Rattle.tree_model.specs.Path.{IsClean, inside};
 
 use crate::samples::{named, tree_files};
-use outside_mem::{FailDisk, FuseDisk, MemDisk};
+use outside_mem::{FaultyDisk, MemDisk};
 use outside_traits::{Disk, DiskFault, put_tree, read_tree};
 use std::alloc::Global;
 use std::test::Fail;
@@ -131,7 +131,7 @@ fn fuse_disk_fails(rt: HostRuntime) -> Result<(), Fail> {
     let tree = tree(alloc)?;
     assert!(rt; fits(alloc, "work/hello", &tree)?);
     for calls in 0..=11 {
-        let mut disk = FuseDisk::new(sample(alloc)?, calls);
+        let mut disk = FaultyDisk::failing_after(sample(alloc)?, calls);
         assert_eq!(rt;
             publish(alloc, &mut disk, "work/hello", &tree).is_err(),
             calls < 11
@@ -152,7 +152,7 @@ fn fail_disk_fails(rt: HostRuntime) -> Result<(), Fail> {
     let tree = tree(alloc)?;
     assert!(rt; fits(alloc, "work/hello", &tree)?);
     for which in 0..=12 {
-        let mut disk = FailDisk::new(sample(alloc)?, which);
+        let mut disk = FaultyDisk::failing_once(sample(alloc)?, which);
         let first = publish(alloc, &mut disk, "work/hello", &tree);
         assert_eq!(rt; first.is_err(), 1 <= which && which <= 11);
         if which <= 11 {

@@ -4,9 +4,8 @@ ghost use Rattle.graph_walk.specs.Depths.{AreWithin, mark_at, depth_at};
 ghost use Rattle.graph_walk.specs.Found.{AreDepths};
 
 use crate::marks::{Mark, Walk};
-use meta_model::ListOf;
 use std::alloc::Global;
-use tree_model::Mem;
+use tree_model::{ListOf, Mem};
 
 /// What is found of a graph whose nodes are numbers.
 #[derive(Drop)]

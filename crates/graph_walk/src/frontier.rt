@@ -3,9 +3,8 @@ ghost use Rattle.std.specs.Prelude.{◌≡◌, ◌<◌, ◌≤◌, ◌^◌, ◌�
 ghost use Rattle.std.specs.List.{AllZip};
 ghost use Rattle.graph_walk.specs.Frontier.{IsFrontier, with_node, with_nodes, room, number_of};
 
-use meta_model::ListOf;
 use std::alloc::Global;
-use tree_model::Mem;
+use tree_model::{ListOf, Mem};
 
 /// The nodes that were found, in order and each once, and each one's place among them.
 #[derive(Drop)]

@@ -2,9 +2,8 @@
 ghost use Rattle.std.specs.Prelude.{◌≡◌, ◌+◌, ◌-◌, ◌<◌, ◌≤◌, ◌^◌, ◌∷◌, ◌++◌, [], OnOk, IfOk, MatchOption, length, take, replicate, slice_set, slice_index_or, slice_get, Some, ℕ, Contains, map, Ok, IsTrue, ◌↔◌};
 ghost use Rattle.graph_walk.specs.Depths.{AreWithin, IsWalk, ClosesAt, IsDone, depth_over, edges_from, mark_at, work_left, NeverNew};
 
-use meta_model::ListOf;
 use std::alloc::Global;
-use tree_model::Mem;
+use tree_model::{ListOf, Mem};
 
 /// How far the walk has come with a node.
 #[derive(Clone, Copy)]

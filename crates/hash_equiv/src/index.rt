@@ -11,12 +11,11 @@ use crate::copies::row_again;
 use crate::equal::equal_manifests;
 use crate::places::{places_for, put_place};
 use indexmap::IndexMap;
-use meta_model::ListOf;
 use std::alloc::Global;
 use std::collections::BTreeMap;
 use std::marker::Model;
 use store_model::EquivRow;
-use tree_model::{Bytes, Hash, ManifestLine, Mem};
+use tree_model::{Bytes, Hash, ListOf, ManifestLine, Mem};
 
 /// Why a row isn't added.
 #[derive(Debug, Drop)]

@@ -2,10 +2,9 @@
 ghost use Rattle.std.specs.Prelude.{◌≡◌, ◌++◌, ◌∷◌, [], List, ℕ, IfOk, OnOk, OnErr, bytes_eq, if◌then◌else◌};
 ghost use Rattle.hash_equiv.specs.Index.{places_of};
 
-use meta_model::ListOf;
 use std::alloc::Global;
 use std::collections::BTreeMap;
-use tree_model::Mem;
+use tree_model::{ListOf, Mem};
 
 /// The places of a PN, in their order.
 pub(crate) fn places_for<'a>(of_pn: &'a BTreeMap<String, ListOf<usize>>, pn: &str) -> &'a [usize]

@@ -3,6 +3,7 @@ pub mod Adding
 pub mod Building
 pub mod Edges
 pub mod Escaping
+mod Escapes
 pub mod Gathered
 pub mod Limits
 pub mod Meaning

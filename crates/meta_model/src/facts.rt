@@ -1,6 +1,5 @@
 // What recipes say of one another, and the graph of their tasks.
-use crate::list::ListOf;
-use tree_model::{Text, Texts};
+use tree_model::{ListOf, Text, Texts};
 
 /// A task of a recipe.
 #[derive(Debug, Drop)]

@@ -20,7 +20,8 @@
 //! `TaskGraph`).
 //!
 //! A few calls over texts stand here too, since crates that don't stand on one another make them: blanks at the ends of a
-//! text, its words, what is one of a list, names of tasks (`blanks`, `word_list`, `task_words`).
+//! text, its words, what is one of a list, names of tasks, values between double quotes (`blanks`, `word_list`, `task_words`,
+//! `quoting`).
 //!
 //! Which definition is right no proof can say: each one's comment states its rule, and the examples compare it with
 //! answers that were derived from the rules by hand.
@@ -36,8 +37,8 @@ mod graph_examples;
 mod in_order;
 mod laws;
 mod line;
-mod list;
 mod plan;
+mod quoting;
 mod statement;
 mod task_words;
 mod value;
@@ -55,8 +56,8 @@ pub use laws::{
     build_laws, entry_laws, expansion_laws, one_meaning, reading_laws, step_laws, winning_laws,
 };
 pub use line::{Kind, Line, Place, SyntaxFault};
-pub use list::ListOf;
 pub use plan::{Options, Plan, PlanTask};
+pub use quoting::{Quoting, push_escaped};
 pub use statement::Statement;
 pub use task_words::{is_shell_name, task_name};
 pub use value::{Key, KeyLine, Resolved};

@@ -1,8 +1,7 @@
 // Plans of runs.
 use crate::facts::TaskId;
-use crate::list::ListOf;
 use crate::value::Key;
-use tree_model::{Text, Tree};
+use tree_model::{ListOf, Text, Tree};
 
 /// A task of a plan.
 #[derive(Debug, Drop)]

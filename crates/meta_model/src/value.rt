@@ -1,6 +1,5 @@
 // Values before expansion, and the keys of tasks.
-use crate::list::ListOf;
-use tree_model::{Text, Texts};
+use tree_model::{ListOf, Text, Texts};
 
 /// The value of a name under the active overrides, before expansion.
 #[derive(Debug, Drop)]

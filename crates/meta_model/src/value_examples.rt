@@ -2,7 +2,7 @@
 // comment above it says why. A definition of `specs/` is tried here before anything rests on it.
 #![tactic(auto, unfolding(crate::specs::Statements::statement_of, crate::specs::Grammar::fit_of, crate::specs::Grammar::operator, crate::specs::Grammar::quoted))]
 
-ghost use Rattle.std.specs.Prelude.{◌≡◌, ◌∷◌, [], codes, Some, None};
+ghost use Rattle.std.specs.Prelude.{◌≡◌, ◌∷◌, [], codes, Some, None, ◌++◌};
 ghost use Rattle.meta_model.specs.declared.entry.EntryLine.TheVariants as entry;
 ghost use Rattle.meta_model.specs.declared.entry.Op.TheVariants.{Soft, Weak, Add};
 ghost use Rattle.meta_model.specs.Refusal.{value_cycle, too_deep, too_long, unstable};
@@ -88,8 +88,8 @@ pub fn example_of_users_manual()
     ensures expansion_after_change { value_in (codes "A = \"${B} baz\"\nB = \"${C} bar\"\nC = \"foo\"\nC = \"qux\"")
         (codes "A") ≡ gives (Some (codes "qux bar baz")) }
     // ... and B may be too
-    ensures expansion_after_all_changes { value_in (codes
-        "A = \"${B} baz\"\nB = \"${C} bar\"\nC = \"foo\"\nC = \"qux\"\nB = \"norf\"") (codes "A")
+    ensures expansion_after_all_changes { value_in
+        (codes "A = \"${B} baz\"\nB = \"${C} bar\"\nC = \"foo\"\nC = \"qux\"\nB = \"norf\"") (codes "A")
         ≡ gives (Some (codes "norf baz")) }
     // "Appending (+=) and prepending (=+) With Spaces"
     ensures append_with_space { value_in (codes "B = \"bval\"\nB += \"additional data\"") (codes "B")
@@ -110,12 +110,16 @@ pub fn example_of_users_manual()
     ensures prepend_override_style { value_in (codes "C = \"cval\"\nC:prepend = \"additional data \"") (codes "C")
         ≡ gives (Some (codes "additional data cval")) }
     // "Removal (Override Style Syntax)": nine blanks stay, four before `abcdef` and five behind it
-    ensures remove_several { value_in (codes "FOO2 = \" abc def ghi abcdef abc def abc def def\"\nFOO2:remove = \"\\\n    def \\\n    abc \\\n    ghi \\\n    \"") (codes "FOO2") ≡ gives (Some (codes "    abcdef     ")) }
+    ensures remove_several { value_in
+        (codes "FOO2 = \" abc def ghi abcdef abc def abc def def\"\nFOO2:remove = \"\\\n    def \\\n    abc \\\n"
+        ++ codes "    ghi \\\n    \"") (codes "FOO2") ≡ gives (Some (codes "    abcdef     ")) }
     // "Variable Flag Syntax"
     ensures flag_syntax { flag_in (codes "FOO[a] = \"abc\"\nFOO[b] = \"123\"\nFOO[a] += \"456\"") (codes "FOO")
         (codes "a") ≡ gives (Some (codes "abc 456")) }
     // "Conditional Metadata": `os` is active, `nooverride` isn't
-    ensures condition { value_in (codes "OVERRIDES = \"architecture:os:machine\"\nTEST = \"default\"\nTEST:os = \"osspecific\"\nTEST:nooverride = \"othercondvalue\"") (codes "TEST") ≡ gives (Some (codes "osspecific")) }
+    ensures condition { value_in
+        (codes "OVERRIDES = \"architecture:os:machine\"\nTEST = \"default\"\nTEST:os = \"osspecific\"\n"
+        ++ codes "TEST:nooverride = \"othercondvalue\"") (codes "TEST") ≡ gives (Some (codes "osspecific")) }
     // ... an append under a condition
     ensures append_by_machine { value_in
         (codes "DEPENDS = \"glibc ncurses\"\nOVERRIDES = \"machine:local\"\nDEPENDS:append:machine = \" libmad\"")
@@ -336,9 +340,15 @@ pub fn example_of_override_order()
         (codes "OVERRIDES = \"a\"\nOVERRIDES:append:a = \":b\"\nV = \"0\"\nV:b = \"2\"") (codes "V")
         ≡ gives (Some (codes "2")) }
     // pass four gives four pieces, and pass five the same
-    ensures fifth_pass { active_in (codes "OVERRIDES = \"a\"\nOVERRIDES:append:a = \":b\"\nOVERRIDES:append:b = \":c\"\nOVERRIDES:append:c = \":d\"") ≡ gives ((codes "a") ∷ (codes "b") ∷ (codes "c") ∷ (codes "d") ∷ []) }
+    ensures fifth_pass { active_in
+        (codes "OVERRIDES = \"a\"\nOVERRIDES:append:a = \":b\"\nOVERRIDES:append:b = \":c\"\n"
+        ++ codes "OVERRIDES:append:c = \":d\"") ≡ gives ((codes "a") ∷ (codes "b") ∷ (codes "c") ∷ (codes "d") ∷ []) }
     // one pass more would be needed
-    ensures sixth_pass { active_in (codes "OVERRIDES = \"a\"\nOVERRIDES:append:a = \":b\"\nOVERRIDES:append:b = \":c\"\nOVERRIDES:append:c = \":d\"\nOVERRIDES:append:d = \":e\"") ≡ refused (unstable ((codes "a") ∷ (codes "b") ∷ (codes "c") ∷ (codes "d") ∷ []) ((codes "a") ∷ (codes "b") ∷ (codes "c") ∷ (codes "d") ∷ (codes "e") ∷ [])) }
+    ensures sixth_pass { active_in
+        (codes "OVERRIDES = \"a\"\nOVERRIDES:append:a = \":b\"\nOVERRIDES:append:b = \":c\"\n"
+        ++ codes "OVERRIDES:append:c = \":d\"\nOVERRIDES:append:d = \":e\"") ≡ refused
+        (unstable ((codes "a") ∷ (codes "b") ∷ (codes "c") ∷ (codes "d") ∷ []) ((codes "a") ∷ (codes "b") ∷ (codes "c")
+        ∷ (codes "d") ∷ (codes "e") ∷ [])) }
     // the passes give `a`, `b`, `a`, `b`, `a`
     ensures unsteady { value_in (codes "OVERRIDES = \"${X}\"\nX = \"a\"\nX:a = \"b\"\nX:b = \"a\"") (codes "X")
         ≡ refused (unstable (codes "b" ∷ []) (codes "a" ∷ [])) }
@@ -474,8 +484,9 @@ pub fn example_of_expanded_names_join()
     ensures condition { frozen_value_in (codes "PN = \"foo\"\nOVERRIDES = \"foo\"\nA = \"1\"\nA:append:${PN} = \"2\"")
         (codes "A") ≡ gives (Some (codes "12")) }
     // a condition that gets a colon is one piece, and never active
-    ensures condition_with_colon { frozen_value_in (codes
-        "P = \"a:b\"\nOVERRIDES = \"a:b\"\nA = \"1\"\nA:append:${P} = \"2\"") (codes "A") ≡ gives (Some (codes "1")) }
+    ensures condition_with_colon { frozen_value_in
+        (codes "P = \"a:b\"\nOVERRIDES = \"a:b\"\nA = \"1\"\nA:append:${P} = \"2\"") (codes "A")
+        ≡ gives (Some (codes "1")) }
     // `A:append` is an exact name now
     ensures no_keyword_again { frozen_value_in (codes "K = \"append\"\nA:${K} = \"x\"\nA = \"y\"") (codes "A")
         ≡ gives (Some (codes "y")) }
@@ -499,8 +510,8 @@ pub fn example_of_expanded_names_join()
     ensures least_name_first { frozen_names_in (codes "X = \"${X}\"\nY = \"${Y}\"\nZ${Y} = \"1\"\nA${X} = \"1\"")
         ≡ refused (value_cycle (codes "X")) }
     // ... and among conditions that of the least name, moved or not
-    ensures conditions_by_name { frozen_names_in (codes
-        "P = \"p\"\nX = \"${X}\"\nY = \"${Y}\"\nZ:append:${Y} = \"1\"\nA${P}:append:${X} = \"1\"")
+    ensures conditions_by_name { frozen_names_in
+        (codes "P = \"p\"\nX = \"${X}\"\nY = \"${Y}\"\nZ:append:${Y} = \"1\"\nA${P}:append:${X} = \"1\"")
         ≡ refused (value_cycle (codes "X")) }
     // a name is expanded as it is after the last file: `A${P}` isn't `Ab` yet when the others are expanded
     ensures two_steps { frozen_value_in (codes "P = \"b\"\nA${P} = \"x\"\nC${Ab} = \"1\"") (codes "C${Ab}")

@@ -4,8 +4,7 @@ use Rattle.std.specs.BTreeMap.{get_by_text}
 use Rattle.outside_traits.specs.Bench.{Entries, Gives, Workplace}
 use Rattle.outside_traits.specs.Story.{Story}
 use Rattle.outside_mem.specs.declared.plan.FaultPlan.{FaultPlan}
-use Rattle.outside_mem.specs.declared.fail_disk.FailDisk.{FailDisk}
-use Rattle.outside_mem.specs.declared.fuse_disk.FuseDisk.{FuseDisk}
+use Rattle.outside_mem.specs.declared.faulty_disk.FaultyDisk.{FaultyDisk}
 use Rattle.outside_mem.specs.declared.layers.FixedLayers.{FixedLayers}
 use Rattle.outside_mem.specs.declared.layers.MemLayers.{MemLayers}
 use Rattle.outside_mem.specs.declared.mem_bench.MemBench.{MemBench}
@@ -40,29 +39,21 @@ tree_of disk = disk.tree
 abbrev pub story_of : MemDisk → Story
 story_of disk = story_by disk.tree disk.calls.items
 
--- the disk of which one call fails
-abbrev pub disk_of : FailDisk → MemDisk
+-- the disk of which calls fail
+abbrev pub disk_of : FaultyDisk → MemDisk
 disk_of disk = disk.disk
 
--- how many calls are left up to that one, with it: at 1 the next call fails, and at 0 none does any more
-abbrev pub left_of : FailDisk → ℕ
+-- how many calls are left to be counted down
+abbrev pub left_of : FaultyDisk → ℕ
 left_of disk = disk.left
 
--- how often a failing disk failed
-abbrev pub fail_disk_faults : FailDisk → ℕ
-fail_disk_faults disk = disk.faults
+-- A call fails where so many are left. At 1 that is just the call with the number that was left first; at 0 it is each call behind those.
+abbrev pub due_at : FaultyDisk → ℕ
+due_at disk = disk.due
 
--- the disk of which every call fails from one on
-abbrev pub fused : FuseDisk → MemDisk
-fused disk = disk.disk
-
--- how many calls are left before that one
-abbrev pub calls_left : FuseDisk → ℕ
-calls_left disk = disk.left
-
--- how often a disk with a fuse failed
-abbrev pub fuse_disk_faults : FuseDisk → ℕ
-fuse_disk_faults disk = disk.faults
+-- how often a disk of which calls fail failed
+abbrev pub disk_faults : FaultyDisk → ℕ
+disk_faults disk = disk.faults
 
 -- what the scripts of a table make of trees
 abbrev pub table_gives : ScriptTable → Gives

@@ -5,15 +5,14 @@
 //!
 //! Promised, beside all that the traits say: layers, a `ScriptTable` and the sink fail just the calls whose numbers they
 //! were made with (`Follows`), and the sink those besides that don't fit into its room; `FixedLayers`, a `MemDisk`, a `MemBench`
-//! and a `NullSink`, which keeps nothing, never fail; a `FailDisk` fails just one call, and a `FuseDisk` each call from one on
+//! and a `NullSink`, which keeps nothing, never fail; a `FaultyDisk` fails just one call, or each call from one on
 //! (`Spends`). A `MemDisk` keeps each call that it answered, and `MemDisk::image` makes a fresh disk of what a crash may leave. The
 //! sink takes no memory after it was made. A `GateBench` does what the bench in it does, but that its first run waits for those of
 //! others, or each of its runs fails. (Own rules: no part of the BitBake User Manual.)
 #![tactic(auto)]
 
-mod fail_disk;
+mod faulty_disk;
 mod fingerprint;
-mod fuse_disk;
 mod gate_bench;
 mod kept;
 mod layers;
@@ -26,8 +25,7 @@ mod plan;
 mod script_table;
 mod sink;
 
-pub use fail_disk::FailDisk;
-pub use fuse_disk::FuseDisk;
+pub use faulty_disk::FaultyDisk;
 pub use gate_bench::{Gate, GateBench};
 pub use layers::{FixedLayers, MemLayers};
 pub use mem_bench::MemBench;

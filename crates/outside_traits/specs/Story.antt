@@ -37,7 +37,7 @@ before Synced held = held
 before (Put path was) held = put held path was
 before (Moved from to was replaced) held = put (put held to replaced) from was
 
--- a crash after these calls may leave the image
+-- A crash after these calls may leave the image. What is held is one; at a rename that is said, elsewhere it follows.
 abbrev pub Leaves : Store → List Call → Store → Type 0
 Leaves held [] image = image ≡ held
 Leaves held (Looked ∷ calls) image = Leaves held calls image

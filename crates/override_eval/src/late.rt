@@ -5,9 +5,9 @@ ghost use Rattle.meta_model.specs.declared.entry.Late.TheVariants.{Append, Prepe
 ghost use Rattle.meta_model.specs.Overrides.{is_kind, all_active, counts, texts_of};
 ghost use Rattle.override_eval.specs.LateValue.{late_value};
 
-use meta_model::{Late, LateLine, ListOf, Resolved, is_among};
+use meta_model::{Late, LateLine, Resolved, is_among};
 use std::alloc::Global;
-use tree_model::{Mem, Text, Texts};
+use tree_model::{ListOf, Mem, Text, Texts};
 
 /// Whether the two kinds are one.
 fn is_kind(kind: Late, other: Late) -> bool

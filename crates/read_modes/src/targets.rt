@@ -4,13 +4,13 @@ ghost use Rattle.read_modes.specs.Modes as modes;
 ghost use Rattle.project_reading.specs.Answered.{IsRefusedAs, is_refusal, mode_failed};
 
 use crate::values::all_values;
-use meta_model::{FactSet, ListOf, Status};
+use meta_model::{FactSet, Status};
 use project_reading::{graph_status, nothing_provides, or_status};
 use recipe_set::RecipeSet;
 use run_targets::{is_elsewhere, target_name};
 use std::alloc::Global;
 use task_graph::provider;
-use tree_model::Text;
+use tree_model::{ListOf, Text};
 
 /// The number of the recipe that provides a name, found by going through all recipes.
 fn provider_number(alloc: Global, facts: &FactSet, name: &str) -> Result<u32, Status>

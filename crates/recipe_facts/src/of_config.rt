@@ -9,9 +9,8 @@ ghost use Rattle.load_model.specs.Facts.{wishes_over};
 use crate::asked::words_of;
 use crate::values::family;
 use datastore::{DataFault, Datastore};
-use meta_model::ListOf;
 use std::alloc::Global;
-use tree_model::{Text, Texts};
+use tree_model::{ListOf, Text, Texts};
 
 /// What the configuration says of recipes.
 #[derive(Debug, Drop)]

@@ -8,9 +8,9 @@ use crate::asked::words_of;
 use crate::packages::packages_of;
 use crate::tasks::tasks_of;
 use datastore::{DataFault, Datastore};
-use meta_model::{ListOf, Package, RecipeFacts, TaskFacts};
+use meta_model::{Package, RecipeFacts, TaskFacts};
 use std::alloc::Global;
-use tree_model::{Mem, Text, Texts};
+use tree_model::{ListOf, Mem, Text, Texts};
 
 /// A recipe that was read.
 #[derive(Drop)]

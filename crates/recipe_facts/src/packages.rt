@@ -7,9 +7,9 @@ ghost use Rattle.recipe_facts.specs.Recipe.{packages_of};
 
 use crate::asked::{needed_words, words_of};
 use datastore::{DataFault, Datastore};
-use meta_model::{ListOf, Package};
+use meta_model::Package;
 use std::alloc::Global;
-use tree_model::{Mem, Text, Texts};
+use tree_model::{ListOf, Mem, Text, Texts};
 
 /// The form of a name for a package.
 fn form(alloc: Global, name: &str, owner: &str) -> Result<Text, Mem>

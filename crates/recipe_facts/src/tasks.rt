@@ -6,9 +6,9 @@ ghost use Rattle.load_model.specs.Facts as facts;
 
 use crate::asked::flag_words;
 use datastore::{DataFault, Datastore};
-use meta_model::{ListOf, TaskFacts};
+use meta_model::TaskFacts;
 use std::alloc::Global;
-use tree_model::{Mem, Text, Texts};
+use tree_model::{ListOf, Mem, Text, Texts};
 
 /// What a word says whose parts before and behind its first colon are these.
 fn parts_of_word<'a>(word: &'a str, name: &'a str, task: &'a str) -> (&'a str, &'a str)

@@ -7,9 +7,8 @@ ghost use Rattle.meta_model.specs.Passing.{behind};
 
 use crate::names::valued_names;
 use datastore::{DataFault, Datastore};
-use meta_model::ListOf;
 use std::alloc::Global;
-use tree_model::Text;
+use tree_model::{ListOf, Text};
 
 /// A name without its front, where it has that front.
 fn without_front<'a>(front: &str, name: &'a str) -> Option<&'a str>

@@ -9,11 +9,11 @@ ghost use Rattle.recipe_set.specs.Faults.{IsSetFault, set_failed};
 
 use crate::fault::{SetFault, data_told};
 use datastore::Datastore;
-use meta_model::{FactSet, ListOf, RecipeFacts};
+use meta_model::{FactSet, RecipeFacts};
 use recipe_facts::{Recipe, Wishes, facts_of};
 use std::alloc::Global;
 use std::marker::Model;
-use tree_model::Mem;
+use tree_model::{ListOf, Mem};
 
 /// What all recipes say, and the entries of the chosen recipe of each PN. Contracts see it as the record of `load_model`
 /// (`Facts`).

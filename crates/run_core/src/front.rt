@@ -11,9 +11,9 @@ ghost use Rattle.run_core.specs.Above.{IsAbove, IsListed, PutAbove};
 use crate::board::Board;
 use crate::fate::{Fate, Next};
 use crate::scan::{find, way_on};
-use meta_model::{Avail, Event, ListOf, Options, Plan, PlanTask};
+use meta_model::{Avail, Event, Options, Plan, PlanTask};
 use std::alloc::Global;
-use tree_model::Mem;
+use tree_model::{ListOf, Mem};
 
 /// The tasks that may be able to go on, with the tasks above each task. It answers what is next without looking at all tasks:
 /// each task is looked at once, and once more for each task that it needs directly and for each change of its own.

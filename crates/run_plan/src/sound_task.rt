@@ -8,9 +8,8 @@ ghost use Rattle.run_plan.specs.Checked.{AreEarlier, AreFolders, HasGoodNames, I
 use crate::fitting::known_task;
 use crate::sound_files::are_sound_files;
 use crate::sound_lines::are_sound_lines;
-use meta_model::{PlanTask, TaskId};
+use meta_model::{PlanTask, TaskId, is_shell_name};
 use recipe_set::is_pn;
-use script_gen::is_shell_name;
 use tree_model::{Text, is_clean};
 
 /// Whether it is the name of a task: a shell name of at most 255 bytes that begins with `do_`.

@@ -12,13 +12,13 @@ ghost use Rattle.run_targets.specs.Meaning.{asked_meant};
 use crate::targets::targets_of;
 use datastore::Datastore;
 use layer_conf::Config;
-use meta_model::{ListOf, Status, Target};
+use meta_model::{Status, Target};
 use outside_traits::Layers;
 use project_reading::{or_status, read_config, read_recipes, value_status};
 use recipe_facts::text_of;
 use recipe_set::RecipeSet;
 use std::alloc::Global;
-use tree_model::{Text, Texts};
+use tree_model::{ListOf, Text, Texts};
 
 /// What a run is asked for.
 #[derive(Drop)]

@@ -5,10 +5,10 @@ ghost use Rattle.project_reading.specs.Answered.{IsRefusedAs, is_refusal, mode_f
 ghost use Rattle.run_targets.specs.Targets as targets;
 ghost use Rattle.run_targets.specs.Asked as asked;
 
-use meta_model::{ListOf, Status, Target, task_name};
+use meta_model::{Status, Target, task_name};
 use project_reading::{nothing_provides, or_status};
 use std::alloc::Global;
-use tree_model::{Mem, Text};
+use tree_model::{ListOf, Mem, Text};
 
 /// Whether a word asks for another configuration: it begins with `mc:`, which nothing provides until several are built (own rule).
 pub fn is_elsewhere(word: &str) -> bool

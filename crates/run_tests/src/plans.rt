@@ -3,9 +3,9 @@ ghost use Rattle.std.specs.Prelude.{◌≡◌, ◌<◌, ℕ, IsTrue, All, true};
 ghost use Rattle.run_core.specs.Need.{AreOrdered};
 ghost use Rattle.run_tests.specs.Playing.{IsSound};
 
-use meta_model::{Key, KeyLine, ListOf, Plan, PlanTask, Resolved, TaskId};
+use meta_model::{Key, KeyLine, Plan, PlanTask, Resolved, TaskId};
 use std::alloc::Global;
-use tree_model::{Mem, Text, Texts, Tree};
+use tree_model::{ListOf, Mem, Text, Texts, Tree};
 
 /// A plan of recipes with as many tasks each, one behind the other. Each task also needs the same one of the recipes before.
 #[derive(Clone, Copy)]

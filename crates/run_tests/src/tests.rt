@@ -4,12 +4,12 @@ ghost use Rattle.run_tests.specs.Playing.{IsSound, Stands};
 use crate::index::Index;
 use crate::plans::{Shape, is_sound, plan_of};
 use crate::playing::{Outcome, Play, begin, play_out, step};
-use meta_model::{ListOf, Options, Plan};
+use meta_model::{Options, Plan};
 use run_core::Next;
 use setscene_plan::{ProbeFault, hashes, needed};
 use std::alloc::Global;
 use std::test::Fail;
-use tree_model::{Hash, Mem};
+use tree_model::{Hash, ListOf, Mem};
 
 const PLAIN: Options = Options {
     keep_going: false,

@@ -1,7 +1,6 @@
 pub mod Passing
 pub mod Turns
 pub mod Parts
-pub mod Escapes
 pub mod Ends
 pub mod Orders
 pub mod Exports

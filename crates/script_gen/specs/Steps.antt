@@ -1,6 +1,6 @@
 -- What is asked of one word or of one name after another.
-use Rattle.std.specs.Prelude.{ℕ, Bool, List, [], ◌++◌, ◌||◌, ◌==◌, Option, Some, None, not, ◌&&◌, unwrap_or, Result, Ok, codes, bytes_eq, if◌then◌else◌, flat_map, zip, ◌∷◌}
-use Rattle.meta_model.specs.Text.{backslash, double_quote, into_order, words}
+use Rattle.std.specs.Prelude.{ℕ, Bool, List, [], ◌++◌, ◌||◌, Option, Some, None, not, ◌&&◌, unwrap_or, Result, Ok, codes, bytes_eq, if◌then◌else◌, flat_map, zip, ◌∷◌}
+use Rattle.meta_model.specs.Text.{into_order, words}
 use Rattle.meta_model.specs.Expansion.{Find, value_by}
 use Rattle.meta_model.specs.Script.{function_texts}
 use Rattle.task_model.specs.Views.{is_function}
@@ -52,14 +52,6 @@ abbrev pub told_value : Find → List ℕ → Result (List ℕ × List ℕ) Task
 told_value find name = do
   text ← asked (value_by find name)
   Ok (name, unwrap_or text [])
-
--- a byte that means something to the shell between double quotes
-abbrev pub is_special : ℕ → Bool
-is_special c = c == backslash || (c == double_quote || c == 96)
-
--- it stands there with a backslash in front
-abbrev pub escape : ℕ → List ℕ
-escape c = if c == backslash || (c == double_quote || c == 96) then backslash ∷ (c ∷ []) else c ∷ []
 
 -- what the flags of a task say of its script, with the expanded text of `[noexec]`
 abbrev pub framed : Find → Flags → Result (Frame × List ℕ) TaskRefusal

@@ -23,4 +23,3 @@ pub use fault::ScriptFault;
 pub use frame::is_on;
 pub use place_pairs::{places, places_of};
 pub use scripts::{script, script_of, script_with};
-pub use told::is_shell_name;

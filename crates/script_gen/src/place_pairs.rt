@@ -9,9 +9,9 @@ use crate::flags::{behind_work_folder, flag_text, is_path, must_fit};
 use crate::of_key::OfKey;
 use crate::sight::{OfStore, Sight};
 use datastore::Datastore;
-use meta_model::{Key, ListOf};
+use meta_model::Key;
 use std::alloc::Global;
-use tree_model::{Mem, Text, Texts};
+use tree_model::{ListOf, Mem, Text, Texts};
 use var_expand::words;
 
 /// The folder that a word means: what stands behind `${WORKDIR}/`, or else the word itself.

@@ -1,55 +1,14 @@
 // The text of a script, piece by piece.
-ghost use Rattle.std.specs.Prelude.{◌≡◌, ◌<◌, ◌++◌, ◌∷◌, List, ℕ, IfOk, IfSome, OnOk, codes, flat_map, length, position, slice_index, true};
+ghost use Rattle.std.specs.Prelude.{◌≡◌, ◌++◌, ◌∷◌, IfOk, OnOk, codes, flat_map};
 ghost use Rattle.meta_model.specs.Script.{function_text, function_texts};
-ghost use Rattle.task_model.specs.Scripts.{call_lines, cd_line, clean_lines, ended, ended_bodies, escaped, export_line, export_lines, last_of, make_line, work_folder};
-ghost use Rattle.script_gen.specs.Steps.{is_special, escape, text_of};
+ghost use Rattle.task_model.specs.Scripts.{call_lines, cd_line, clean_lines, ended, ended_bodies, export_line, export_lines, last_of, make_line, work_folder};
+ghost use Rattle.script_gen.specs.Steps.{text_of};
 ghost use Rattle.script_gen.specs.Frames.{frame_of};
 
 use crate::frame::Frame;
+use meta_model::{Quoting, push_escaped};
 use std::alloc::Global;
 use tree_model::{Mem, Text};
-
-/// Whether a byte means something to the shell between double quotes, where it isn't meant to.
-fn is_special(byte: &u8) -> bool
-    ensures { result ≡ is_special byte.now }
-{
-    *byte == b'\\' || *byte == b'"' || *byte == b'`'
-}
-
-/// The place of the first such byte.
-fn special_at(bytes: &[u8]) -> Option<usize>
-    ensures first { result ≡ position is_special bytes.now }
-    ensures within { IfSome result (λ i. i < length bytes.now) }
-    ensures stands { IfSome result (λ i. slice_index bytes.now i < 128) }
-{
-    bytes.iter().position(is_special)
-}
-
-/// Such a byte with a backslash in front.
-fn escape(byte: u8) -> &'static str
-    requires { is_special byte ≡ true }
-    ensures { result.now ≡ escape byte }
-{
-    match byte {
-        b'\\' => "\\\\",
-        b'"' => "\\\"",
-        _ => "\\`",
-    }
-}
-
-/// Puts a value at the end as it stands between double quotes.
-fn push_escaped(out: &mut Text, value: &str) -> Result<(), Mem>
-    ensures { OnOk result (out.new ≡ out.old ++ escaped value.now) }
-{
-    let mut rest = value;
-    while let Some(place) = special_at(rest.as_bytes()) {
-        out.push_str(&rest[..place])?;
-        out.push_str(escape(rest.as_bytes()[place]))?;
-        rest = &rest[place + 1..];
-    }
-    out.push_str(rest)?;
-    Ok(())
-}
 
 /// Puts the line of an exported name at the end.
 fn push_export(out: &mut Text, name: &str, value: &str) -> Result<(), Mem>
@@ -58,7 +17,7 @@ fn push_export(out: &mut Text, name: &str, value: &str) -> Result<(), Mem>
     out.push_str("export ")?;
     out.push_str(name)?;
     out.push_str("=\"")?;
-    push_escaped(out, value)?;
+    push_escaped(out, value, Quoting::Shell)?;
     out.push_str("\"\n")
 }
 

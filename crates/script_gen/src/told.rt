@@ -1,37 +1,18 @@
 // The names that a script tells, with their values.
-ghost use Rattle.std.specs.Prelude.{◌≡◌, ◌==◌, ◌||◌, IfOk, IfErr, OnOk, Ok, map};
-ghost use Rattle.std.specs.List.{list_all};
-ghost use Rattle.std.specs.Char.{is_ascii_alphanumeric};
-ghost use Rattle.meta_model.specs.Text.{in_byte_order, into_order, is_shell_name};
+ghost use Rattle.std.specs.Prelude.{◌≡◌, IfOk, IfErr, OnOk, Ok, map};
+ghost use Rattle.meta_model.specs.Text.{in_byte_order, into_order};
 ghost use Rattle.task_model.specs.Views.{has_flag};
 ghost use Rattle.task_model.specs.Scripts.{is_told, known, told_names, told_values};
 ghost use Rattle.script_gen.specs.Faults.{IsScriptFault};
 ghost use Rattle.script_gen.specs.Steps.{told_value, taken_up};
 
 use crate::fault::ScriptFault;
-use meta_model::{KeyLine, ListOf};
+use meta_model::{KeyLine, is_shell_name};
 use name_walk::place_of;
 use std::alloc::Global;
-use tree_model::{Mem, Text};
+use tree_model::{ListOf, Mem, Text};
 use var_deps::flag_of;
 use var_expand::{ExpandFault, Lookup, value};
-
-/// Whether each character is a letter, a digit or `_`.
-fn are_in_shell_name(name: &[u8]) -> bool
-    ensures { result ≡ list_all (λ d. is_ascii_alphanumeric d || d == 95) name.now }
-{
-    name.iter().all(|c| c.is_ascii_alphanumeric() || *c == b'_')
-}
-
-/// Whether a text is a shell name.
-pub fn is_shell_name(name: &[u8]) -> bool
-    ensures { result ≡ is_shell_name name.now }
-{
-    if name.is_empty() {
-        return false;
-    }
-    (name[0].is_ascii_alphabetic() || name[0] == b'_') && are_in_shell_name(&name[1..])
-}
 
 /// Whether a name has a value and the flag. A name of which nothing can be found has none.
 fn is_flagged<L: Lookup>(alloc: Global, from: &L, flag: &str, name: &str) -> Result<bool, Mem>

@@ -8,10 +8,10 @@ ghost use Rattle.setscene_plan.specs.Asked.{SameAt, members, members_beyond, mem
 use crate::asking::{Needs, after_change, plan_need};
 use crate::probe::{Probe, ProbeFault};
 use crate::work::Names;
-use meta_model::{Avail, ListOf, Plan};
+use meta_model::{Avail, Plan};
 use run_core::all_above;
 use std::alloc::Global;
-use tree_model::Hash;
+use tree_model::{Hash, ListOf};
 
 /// For each task of a plan its name, whether it is needed, and for each needed one whether its output is there. It is brought up to
 /// date after each task that is settled, at the cost of what changes by it.

@@ -9,10 +9,10 @@ ghost use Rattle.setscene_plan.specs.View.{Counts, probe_failed};
 
 use crate::names::{no_hashes, sign, unihash_of};
 use crate::probe::{Probe, ProbeFault};
-use meta_model::{ListOf, Plan};
+use meta_model::Plan;
 use std::alloc::Global;
 use std::collections::{BTreeSet, HashMap};
-use tree_model::{Hash, Mem};
+use tree_model::{Hash, ListOf, Mem};
 
 /// For each task its name and its unihash, and an index of the names.
 #[derive(Drop)]

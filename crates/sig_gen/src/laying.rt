@@ -8,11 +8,11 @@ ghost use Rattle.store_model.specs.Unihashes.{laid_of};
 ghost use Rattle.sig_gen.specs.Signing.{hashed_among, hashed_at, is_hashed_of, laid, laid_cmp, own_in, behind_blank};
 
 use crate::copies::put_copies;
-use meta_model::{KeyLine, ListOf, PlanTask, Resolved};
+use meta_model::{KeyLine, PlanTask, Resolved};
 use std::alloc::Global;
 use std::cmp::Ordering;
 use store_model::DepLine;
-use tree_model::{Hash, Mem, Text, Texts};
+use tree_model::{Hash, ListOf, Mem, Text, Texts};
 
 /// A needed task of the own recipe, by what its place in the layout depends on.
 #[derive(Drop)]

@@ -7,11 +7,11 @@ ghost use Rattle.store_model.specs.Unihashes.{dep_of};
 ghost use Rattle.sig_gen.specs.Signing.{hashed_among, hashed_at, signature_by};
 
 use crate::laying::{hashed, signed_lines};
-use meta_model::{Key, ListOf, Plan, PlanTask};
+use meta_model::{Key, Plan, PlanTask};
 use std::alloc::Global;
 use std::cmp::Ordering;
 use store_model::{DepLine, SigRecord};
-use tree_model::{Entry, Hash, Mem, Text};
+use tree_model::{Entry, Hash, ListOf, Mem, Text};
 
 /// By PN, then by task.
 fn compare(first: &DepLine, second: &DepLine) -> Ordering

@@ -5,12 +5,12 @@ ghost use Rattle.build_store.specs.Paths.{IsOnePart};
 ghost use Rattle.build_store.specs.View.{IsSignatureOf};
 ghost use Rattle.store_tests.specs.Samples.{HasSigPlace, IsSample};
 
-use meta_model::{Key, ListOf, PlanTask, TaskId};
+use meta_model::{Key, PlanTask, TaskId};
 use sig_gen::decode;
 use std::alloc::Global;
 use std::test::Fail;
 use store_model::SigRecord;
-use tree_model::{Bytes, Entry, Mem, Text, Tree};
+use tree_model::{Bytes, Entry, ListOf, Mem, Text, Tree};
 
 /// A signature: one task's body, no files, nothing needed.
 pub const HELLO: &[u8] =

@@ -8,9 +8,9 @@ ghost use Rattle.task_graph.specs.Turn.{IsIdAt, IsLeast, IsTurned};
 
 use crate::order::{compare_ids, id_at};
 use crate::table::TaskTable;
-use meta_model::{FactSet, ListOf, TaskId};
+use meta_model::{FactSet, TaskId};
 use std::alloc::Global;
-use tree_model::Mem;
+use tree_model::{ListOf, Mem};
 
 /// The tasks at places, as they are written.
 fn ids_at(

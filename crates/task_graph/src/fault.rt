@@ -2,12 +2,12 @@
 ghost use Rattle.std.specs.Prelude.{◌≡◌};
 ghost use Rattle.task_graph.specs.Faults.{IsWantOfMemory};
 
-use meta_model::{ListOf, TaskId};
+use meta_model::TaskId;
 use std::alloc::{AllocError, AllocFailed};
 use std::error::Error;
 use std::fmt;
 use std::fmt::Formatter;
-use tree_model::{Mem, Text, Texts};
+use tree_model::{ListOf, Mem, Text, Texts};
 
 /// Why a name has no provider, why there is no task graph, why a text is no number of threads; or want of memory.
 #[derive(Drop)]

@@ -9,9 +9,9 @@ ghost use Rattle.task_graph.specs.Order.{AreAllPlaces, AreRanks, AreNumbers, IsN
 use crate::order::{Draft, ordered_drafts};
 use crate::reach::Reached;
 use crate::table::TaskTable;
-use meta_model::{FactSet, Graph, ListOf, Node};
+use meta_model::{FactSet, Graph, Node};
 use std::alloc::Global;
-use tree_model::Mem;
+use tree_model::{ListOf, Mem};
 
 /// For each place the number of its node.
 fn ranks_of(alloc: Global, drafts: &[Draft]) -> Result<Vec<u32>, Mem>

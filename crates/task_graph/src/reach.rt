@@ -13,9 +13,9 @@ use crate::context::{Context, find_task};
 use crate::edges::edges_of;
 use crate::fault::GraphFault;
 use graph_walk::Frontier;
-use meta_model::{FactSet, ListOf, Target};
+use meta_model::{FactSet, Target};
 use std::alloc::Global;
-use tree_model::Mem;
+use tree_model::{ListOf, Mem};
 
 /// The most tasks that a graph may have.
 const TASK_LIMIT: usize = 65_536;

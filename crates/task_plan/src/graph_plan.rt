@@ -9,11 +9,12 @@ ghost use Rattle.task_plan.specs.Steps.{forced_tasks};
 
 use crate::fault::PlanFault;
 use crate::planned::{Sums, copy_numbers, planned_node};
-use meta_model::{Graph, ListOf, Node, Plan, PlanTask};
+use meta_model::{Graph, Node, Plan, PlanTask};
 use outside_traits::Layers;
 use recipe_set::RecipeSet;
 use std::alloc::Global;
 use std::collections::BTreeMap;
+use tree_model::ListOf;
 
 /// Whether the task with this number is one of these.
 fn is_one_of(numbers: &[u32], number: usize) -> bool

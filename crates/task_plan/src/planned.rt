@@ -16,12 +16,12 @@ use crate::parts::{Parts, parts_of};
 use crate::shell::Shell;
 use crate::texts::texts_of;
 use datastore::Datastore;
-use meta_model::{ListOf, Node, PlanTask, TaskId};
+use meta_model::{Node, PlanTask, TaskId};
 use outside_traits::Layers;
 use recipe_set::RecipeSet;
 use std::alloc::Global;
 use std::collections::BTreeMap;
-use tree_model::Mem;
+use tree_model::{ListOf, Mem};
 use var_deps::StoreKeys;
 
 /// The most bytes of the keys' lines and the scripts of a plan together (own rule).

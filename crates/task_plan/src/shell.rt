@@ -11,10 +11,10 @@ ghost use Rattle.task_plan.specs.Steps.{key_told, script_told, places_told, nost
 use crate::fault::{PlanFault, data_told, script_fault};
 use crate::words::flag_text;
 use datastore::{DataFault, Datastore};
-use meta_model::{Key, KeyLine, ListOf};
+use meta_model::{Key, KeyLine};
 use script_gen::{is_on, places, script_with};
 use std::alloc::Global;
-use tree_model::Text;
+use tree_model::{ListOf, Text};
 use var_deps::{StoreKeys, flag_of};
 
 /// The script of a task, the folders of its output, and whether it runs in each run.

@@ -1,7 +1,6 @@
 // A job, and what comes of it.
-use meta_model::ListOf;
 use outside_traits::BenchFault;
-use tree_model::{Manifest, Mem, Text, Tree};
+use tree_model::{ListOf, Manifest, Mem, Text, Tree};
 
 /// How a task's output is taken from its work tree.
 #[derive(Debug, Drop)]

@@ -11,10 +11,10 @@ ghost use Rattle.task_worker.specs.OneTask.{job_of};
 use crate::given::{Given, Job, Placing, WorkFault};
 use crate::laying::lay_over;
 use crate::running::{Left, is_fit, ran};
-use meta_model::{ListOf, PlanTask};
+use meta_model::PlanTask;
 use outside_traits::{Bench, BenchFault};
 use std::alloc::Global;
-use tree_model::{Mem, Text, Tree, TreeFault, manifest_of};
+use tree_model::{ListOf, Mem, Text, Tree, TreeFault, manifest_of};
 
 /// What stands under a folder of the work tree, under the folder of the output to which it goes.
 ///

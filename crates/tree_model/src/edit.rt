@@ -5,9 +5,10 @@ ghost use Rattle.tree_model.specs.Path.{IsBefore, IsClean};
 ghost use Rattle.tree_model.specs.Tree.{HasRoom, IsAscending, IsListing, IsStart, IsTree, entry_at, put};
 
 use crate::entry::Entry;
+use crate::list::Texts;
 use crate::order::{comes_before, place_of};
 use crate::path::begins_with;
-use crate::text::{Mem, Text, Texts};
+use crate::text::{Mem, Text};
 use std::alloc::Global;
 
 /// The same entries again.

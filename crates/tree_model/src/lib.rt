@@ -1,7 +1,7 @@
 //! Texts, byte strings and trees of files, as plain values.
 //!
-//! Contracts see a `Text` and a `Bytes` as a list of numbers (the bytes), a `Texts` as a list of such
-//! lists, and a `Tree` as the list of its paths and entries in the order of the paths' bytes. A tree is a
+//! Contracts see a `Text` and a `Bytes` as a list of numbers (the bytes), a `ListOf` as the list of its items (a `Texts` is
+//! one of texts), and a `Tree` as the list of its paths and entries in the order of the paths' bytes. A tree is a
 //! finite map from clean paths to entries in which no path is a proper ancestor of another; `entry_at` is
 //! that map.
 //!
@@ -15,6 +15,7 @@ mod entry;
 mod folder;
 mod hash;
 mod laws;
+mod list;
 mod manifest;
 mod order;
 mod overlay;
@@ -28,7 +29,8 @@ pub use laws::{
     overlay_is_associative, overlay_is_one_tree, overlay_is_overlaid, overlay_with_itself,
     overlay_with_the_empty_tree, pick_after_place, pick_is_picked, trees_of_equal_manifests,
 };
+pub use list::{ListOf, Texts};
 pub use manifest::{Manifest, ManifestLine, manifest_of, matches};
 pub use path::{begins_with, is_below, is_clean};
-pub use text::{Bytes, Mem, Text, Texts};
+pub use text::{Bytes, Mem, Text};
 pub use tree::{Size, Tree, TreeFault};

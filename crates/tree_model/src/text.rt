@@ -1,5 +1,5 @@
-// Text, bytes and lists of texts. Contracts see each as a list.
-ghost use Rattle.std.specs.Prelude.{◌≡◌, ◌++◌, ◌∷◌, ◌==◌, [], List, ℕ, IfOk, OnOk, OnErr, string_bytes, length};
+// Text and bytes. Contracts see each as a list.
+ghost use Rattle.std.specs.Prelude.{◌≡◌, ◌++◌, [], List, ℕ, IfOk, OnOk, OnErr, string_bytes};
 
 use std::alloc::{AllocError, AllocFailed, Global};
 use std::marker::Model;
@@ -157,75 +157,4 @@ impl Bytes {
             bytes: self.bytes.clone()?,
         })
     }
-}
-
-/// A list of texts. Contracts see the list of the texts' bytes.
-#[derive(Debug, Drop)]
-pub struct Texts {
-    list: Vec<Text>,
-}
-
-impl Model for Texts {
-    ghost Value = { List (List ℕ) };
-
-    ghost view = { λ t. t.list.items };
-}
-
-impl Texts {
-    /// The list without texts. It takes no memory yet.
-    pub fn new(alloc: Global) -> Texts
-        ensures { result ≡ [] }
-    {
-        Texts {
-            list: Vec::new(alloc),
-        }
-    }
-
-    /// The number of texts.
-    pub fn len(&self) -> usize
-        ensures { result ≡ length self.now }
-    {
-        self.list.len()
-    }
-
-    /// Whether there is no text.
-    pub fn is_empty(&self) -> bool
-        ensures { result ≡ (length self.now == 0) }
-    {
-        self.list.is_empty()
-    }
-
-    /// The same list again.
-    pub fn copy(&self) -> Result<Texts, Mem>
-        ensures { IfOk result (λ made. made ≡ self.now) }
-    {
-        Ok(Texts {
-            list: texts_again(*self.list.allocator(), &self.list)?,
-        })
-    }
-
-    /// The texts, in their order.
-    pub fn as_slice(&self) -> &[Text]
-        ensures { result.now ≡ self.now }
-    {
-        self.list.as_slice()
-    }
-
-    /// Puts a text at the end. Where memory is wanting the list stays as it was.
-    pub fn push(&mut self, text: Text) -> Result<(), Mem>
-        ensures ok { OnOk result (self.new ≡ self.old ++ text ∷ []) }
-        ensures err { OnErr result (self.new ≡ self.old) }
-    {
-        Ok(self.list.push(text)?)
-    }
-}
-
-fn texts_again(alloc: Global, texts: &[Text]) -> Result<Vec<Text>, Mem>
-    ensures { IfOk result (λ made. made.items ≡ texts.now) }
-{
-    let mut made = Vec::with_capacity(alloc, texts.len())?;
-    for text in texts {
-        made.push(text.copy()?)?;
-    }
-    Ok(made)
 }

@@ -11,9 +11,10 @@ ghost use Rattle.tree_model.specs.Tree.{HasRoom, IsListing, IsTree, entry_at, pu
 use crate::edit::{copies, listing_of, put_entry, take_entry};
 use crate::entry::Entry;
 use crate::folder::{entries_inside, entries_under};
+use crate::list::Texts;
 use crate::order::{bad_place, place_of};
 use crate::overlay::overlay_entries;
-use crate::text::{Mem, Text, Texts};
+use crate::text::{Mem, Text};
 use std::alloc::{AllocError, AllocFailed, Global};
 use std::marker::Model;
 

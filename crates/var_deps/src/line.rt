@@ -14,9 +14,9 @@ ghost use Rattle.var_deps.specs.Known.{IsKnown, IsLine, read_led, told_at};
 use crate::led::{Led, leads};
 use crate::seen::Seen;
 use datastore::Datastore;
-use meta_model::{ListOf, Resolved};
+use meta_model::Resolved;
 use std::alloc::Global;
-use tree_model::{Mem, Text, Texts};
+use tree_model::{ListOf, Mem, Text, Texts};
 use var_expand::{ExpandFault, Lookup, expand};
 
 /// The line of a name, or why there is none.

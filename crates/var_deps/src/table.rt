@@ -20,11 +20,11 @@ use crate::led::{Led, all_of, push_all, without, words_of_flag};
 use crate::line::{Known, Line, know};
 use crate::seen::Seen;
 use datastore::put_value;
-use meta_model::{Key, KeyLine, ListOf, Resolved};
+use meta_model::{Key, KeyLine, Resolved};
 use name_walk::{Leading, holds, least_of, reach};
 use std::alloc::Global;
 use std::collections::BTreeMap;
-use tree_model::{Mem, Text, Texts};
+use tree_model::{ListOf, Mem, Text, Texts};
 use var_expand::ExpandFault;
 
 /// What is known of the names of a store that aren't the task.

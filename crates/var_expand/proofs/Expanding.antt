@@ -1,6 +1,6 @@
 -- Laws of answers, and of the steps of an expansion.
-use Rattle.std.proofs.Common.{◌≡◌, refl, sym, ◌∙◌, ap, subst, arith, ℕ, zero, suc, ◌+◌, ◌-◌, ◌<◌, ◌≤◌, nat_le, Bool, true, false, ◌&&◌, ◌||◌, inl, inr, List, [], ◌∷◌, ◌++◌, length, append_assoc, append-nil, length-append, Option, Some, None, Result, Ok, Err, flat_map, codes, bytes_eq, ne_eqb, nat_eq, max, slice_get, get_or, take, drop, IfOk, IfErr, OnOk}
-use Rattle.std.proofs.lemmas.Bool.{le-leb, lt-leb, cases_lt, cases_eq, true≢false}
+use Rattle.std.proofs.Common.{◌≡◌, refl, sym, ◌∙◌, ap, subst, arith, ℕ, zero, suc, ◌+◌, ◌-◌, ◌<◌, ◌≤◌, nat_le, Bool, true, false, ◌&&◌, ◌||◌, inl, inr, List, [], ◌∷◌, ◌++◌, length, append_assoc, append-nil, length-append, Option, Some, None, Result, Ok, Err, flat_map, codes, bytes_eq, ne_eqb, max, slice_get, get_or, take, drop, IfOk, IfErr, OnOk}
+use Rattle.std.proofs.lemmas.Bool.{le-leb, lt-leb, cases_lt, cases_eq}
 use Rattle.std.proofs.lemmas.List.{drop_more}
 use Rattle.std.proofs.Math.Seq.{take-append_seam}
 use Rattle.std.specs.List.{list_all}
@@ -392,10 +392,6 @@ fit_whole fault names names' t t' a b h =
 
 pub fit_room : (sofar sofar' piece piece' : List ℕ) → sofar' ≡ sofar → piece' ≡ piece → length piece' ≤ longest - length sofar' → length piece ≤ longest - length sofar
 fit_room sofar sofar' piece piece' a b h = subst (λ s. length piece ≤ longest - length s) a (subst (λ p. length p ≤ longest - length sofar') b h)
-
-pub no_items : {A : Type 0} (xs : List A) → nat_eq (length xs) 0 ≡ true → xs ≡ []
-no_items [] h = refl
-no_items (x ∷ xs) h = absurd (true≢false (sym h ∙ ne_eqb (length (x ∷ xs)) 0 (λ e. omega (arith, e))))
 
 pub ref_depth : (part : Part) (pieces : Pieces) → part ≡ Ref pieces → depth (part_before part end) ≡ suc (depth (parts_in pieces))
 ref_depth part pieces e = ap (λ p. depth (part_before p end)) e ∙ ap depth (ref_part pieces end) ∙ above (depth (parts_in pieces))

@@ -7,7 +7,7 @@ use Rattle.var_expand.specs.Faults.{IsFaultOf}
 use Rattle.var_expand.specs.Going.{IsGoing, Tells, table_of}
 use Rattle.var_expand.specs.Pieces.{part_before, parts_in, parts_in_list}
 use Rattle.var_expand.specs.Expanding.{known, last_name, part_text, grown}
-use Rattle.var_expand.proofs.Expanding.{plain_ok, plain_long, fit_whole, no_items, ref_depth, ref_is, grown_fault, value_alone, part_depth, cut_part, fault_same, finish, finish_fault, finish_goes_on, put_ok, put_err, same_ok, same_err}
+use Rattle.var_expand.proofs.Expanding.{plain_ok, plain_long, fit_whole, ref_depth, ref_is, grown_fault, value_alone, part_depth, cut_part, fault_same, finish, finish_fault, finish_goes_on, put_ok, put_err, same_ok, same_err}
 use Rattle.var_expand.proofs.Growing.{deeper_fault, deeper_going, deeper_grew, deeper_ok, deeper_told, grew_on, put_told}
 use Rattle.var_expand.proofs.expansion.+expansion.Goals as goal
 
@@ -81,7 +81,7 @@ pub expand_value-returns-then-is_empty-clause-ok : goal.expand_value-returns-the
 expand_value-returns-then-is_empty-clause-ok g t c =
     let names = c.args.going.now.within.items in
     value_alone (known (g.L.Lookup.finds c.args.from.now) c.args.left names) (last_name names) c.args.found c.in_ok-value.value c.in_ok-value.ensures.ok
-    (no_items c.args.found.removes (sym c.is_empty.ensures ∙ c.if-is_empty.true))
+    (c.is_empty.ensures.0 c.if-is_empty.true)
 
 pub expand_part-returns-in-Plain-clause-ok : goal.expand_part-returns-in-Plain-clause-ok
 expand_part-returns-in-Plain-clause-ok g t c =
@@ -149,7 +149,7 @@ expand_part-returns-in_ok-piece-in-Ref-clause-told g t c =
 
 pub expand_value-returns-then-is_empty-clause-told : goal.expand_value-returns-then-is_empty-clause-told
 expand_value-returns-then-is_empty-clause-told g t c =
-    λ v tells. value_alone v (last_name c.args.going.now.within.items) c.args.found c.in_ok-value.value (c.in_ok-value.ensures.told v tells) (no_items c.args.found.removes (sym c.is_empty.ensures ∙ c.if-is_empty.true))
+    λ v tells. value_alone v (last_name c.args.going.now.within.items) c.args.found c.in_ok-value.value (c.in_ok-value.ensures.told v tells) (c.is_empty.ensures.0 c.if-is_empty.true)
 
 pub value_within-expand_value-requires : goal.value_within-expand_value-requires
 value_within-expand_value-requires g t c κs within =

@@ -1,9 +1,9 @@
 // A list type of our own.
-ghost use Rattle.std.specs.Prelude.{◌≡◌, [], ◌∷◌, ◌++◌, OnOk, OnErr, length, IsTrue, ◌↔◌};
+ghost use Rattle.std.specs.Prelude.{◌≡◌, [], ◌∷◌, ◌++◌, IfOk, OnOk, OnErr, length, IsTrue, ◌↔◌};
 
+use crate::text::{Mem, Text};
 use std::alloc::Global;
 use std::marker::Model;
-use tree_model::Mem;
 
 /// A list that grows at its end. Contracts see it as the list of its items, so two lists with the same items are equal,
 /// whatever room they keep.
@@ -11,6 +11,9 @@ use tree_model::Mem;
 pub struct ListOf<T> {
     items: Vec<T>,
 }
+
+/// A list of texts. Contracts see the list of the texts' bytes.
+pub type Texts = ListOf<Text>;
 
 impl<T> Model for ListOf<T> {
     ghost use Rattle.std.specs.Prelude.{List};
@@ -65,4 +68,25 @@ impl<T: Drop> ListOf<T> {
     {
         self.items.is_empty()
     }
+}
+
+impl ListOf<Text> {
+    /// The same texts again.
+    pub fn copy(&self) -> Result<Texts, Mem>
+        ensures { IfOk result (λ made. made ≡ self.now) }
+    {
+        Ok(ListOf {
+            items: texts_again(*self.items.allocator(), &self.items)?,
+        })
+    }
+}
+
+fn texts_again(alloc: Global, texts: &[Text]) -> Result<Vec<Text>, Mem>
+    ensures { IfOk result (λ made. made.items ≡ texts.now) }
+{
+    let mut made = Vec::with_capacity(alloc, texts.len())?;
+    for text in texts {
+        made.push(text.copy()?)?;
+    }
+    Ok(made)
 }

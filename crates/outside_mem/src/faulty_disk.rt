@@ -1,4 +1,4 @@
-// A disk in memory of which one call fails.
+// A disk in memory of which calls fail.
 ghost use Rattle.std.specs.Prelude.{◌≡◌, ◌≤◌, ◌-◌, length, nat_eq, true, false};
 ghost use Rattle.tree_model.specs.Path.{IsClean};
 ghost use Rattle.outside_traits.specs.Answers.{IsSettled, Lists, Reads, Removes, Renames, Syncs, Writes};
@@ -12,26 +12,45 @@ use outside_traits::{Disk, DiskFault};
 use std::alloc::Global;
 use tree_model::{Entry, Texts};
 
-/// A disk that fails just one call. One that failed has changed nothing, and is a moment as any other.
+/// A disk that fails some calls, by their numbers: just one of them, or each from one on. A call that failed has changed nothing,
+/// and is a moment as any other.
 #[derive(Drop)]
-pub struct FailDisk {
+pub struct FaultyDisk {
     disk: MemDisk,
     left: u64,
+    due: u64,
     faults: u64,
 }
 
-impl FailDisk {
-    ghost use Rattle.outside_mem.specs.Told.{disk_of, fail_disk_faults, left_of};
+impl FaultyDisk {
+    ghost use Rattle.outside_mem.specs.Told.{disk_faults, disk_of, due_at, left_of};
 
     /// The disk, of which the call with the number `which` fails, from 1. With 0 none does.
-    pub fn new(disk: MemDisk, which: u64) -> FailDisk
+    pub fn failing_once(disk: MemDisk, which: u64) -> FaultyDisk
         ensures disk { disk_of result ≡ disk }
         ensures left { left_of result ≡ which }
-        ensures fresh { fail_disk_faults result ≡ 0 }
+        ensures due { due_at result ≡ 1 }
+        ensures fresh { disk_faults result ≡ 0 }
     {
-        FailDisk {
+        FaultyDisk {
             disk,
             left: which,
+            due: 1,
+            faults: 0,
+        }
+    }
+
+    /// The disk, of which that many calls pass and all later ones fail.
+    pub fn failing_after(disk: MemDisk, calls: u64) -> FaultyDisk
+        ensures disk { disk_of result ≡ disk }
+        ensures left { left_of result ≡ calls }
+        ensures due { due_at result ≡ 0 }
+        ensures fresh { disk_faults result ≡ 0 }
+    {
+        FaultyDisk {
+            disk,
+            left: calls,
+            due: 0,
             faults: 0,
         }
     }
@@ -46,11 +65,12 @@ impl FailDisk {
     /// Counts a call, and says whether it is to fail.
     fn is_to_fail(&mut self) -> bool
         ensures disk { disk_of self.new ≡ disk_of self.old }
-        ensures faults { fail_disk_faults self.new ≡ fail_disk_faults self.old }
+        ensures faults { disk_faults self.new ≡ disk_faults self.old }
         ensures left { left_of self.new ≡ left_of self.old - 1 }
-        ensures due { result ≡ nat_eq (left_of self.old) 1 }
+        ensures kept { due_at self.new ≡ due_at self.old }
+        ensures due { result ≡ nat_eq (left_of self.old) (due_at self.old) }
     {
-        let fails = self.left == 1;
+        let fails = self.left == self.due;
         self.left = self.left.saturating_sub(1);
         fails
     }
@@ -60,21 +80,22 @@ impl FailDisk {
         ensures failed { result ≡ DiskFault.Failed }
         ensures disk { disk_of self.new ≡ disk_of self.old }
         ensures left { left_of self.new ≡ left_of self.old }
-        ensures cause { Counts (fail_disk_faults self.old) (fail_disk_faults self.new) true }
+        ensures kept { due_at self.new ≡ due_at self.old }
+        ensures cause { Counts (disk_faults self.old) (disk_faults self.new) true }
     {
         count_fault(&mut self.faults);
         DiskFault::Failed
     }
 }
 
-impl Disk for FailDisk {
-    ghost use Rattle.outside_mem.specs.Told.{disk_of, fail_disk_faults, left_of, story_of};
+impl Disk for FaultyDisk {
+    ghost use Rattle.outside_mem.specs.Told.{disk_faults, disk_of, story_of};
 
     ghost tells = { Unit {0} };
 
     ghost reach = { 4096 };
 
-    ghost faults = { fail_disk_faults };
+    ghost faults = { disk_faults };
 
     ghost story = { λ d. story_of (disk_of d) };
 
@@ -82,8 +103,8 @@ impl Disk for FailDisk {
 
     fn read(&mut self, alloc: Global, path: &str) -> Result<Option<Entry>, DiskFault>
         ensures told { Reads path.now (story_of (disk_of self.old)) (story_of (disk_of self.new)) result }
-        ensures cause { Counts (fail_disk_faults self.old) (fail_disk_faults self.new) (disk_failed result) }
-        ensures spends { Spends (left_of self.old) (left_of self.new) (nat_eq (left_of self.old) 1) result }
+        ensures cause { Counts (disk_faults self.old) (disk_faults self.new) (disk_failed result) }
+        ensures spends { Spends self.old self.new result }
     {
         if self.is_to_fail() {
             self.disk.note_look()?;
@@ -97,8 +118,8 @@ impl Disk for FailDisk {
         requires within_reach { length path.now ≤ 4096 }
         requires free { IsFree (story_of (disk_of self.old)).held path.now }
         ensures told { Writes path.now entry.now (story_of (disk_of self.old)) (story_of (disk_of self.new)) result }
-        ensures cause { Counts (fail_disk_faults self.old) (fail_disk_faults self.new) (disk_failed result) }
-        ensures spends { Spends (left_of self.old) (left_of self.new) (nat_eq (left_of self.old) 1) result }
+        ensures cause { Counts (disk_faults self.old) (disk_faults self.new) (disk_failed result) }
+        ensures spends { Spends self.old self.new result }
     {
         if self.is_to_fail() {
             self.disk.note_put(path)?;
@@ -113,8 +134,8 @@ impl Disk for FailDisk {
         requires within_reach { length to.now ≤ 4096 }
         requires free { IsFree (story_of (disk_of self.old)).held to.now }
         ensures told { Renames from.now to.now (story_of (disk_of self.old)) (story_of (disk_of self.new)) result }
-        ensures cause { Counts (fail_disk_faults self.old) (fail_disk_faults self.new) (disk_failed result) }
-        ensures spends { Spends (left_of self.old) (left_of self.new) (nat_eq (left_of self.old) 1) result }
+        ensures cause { Counts (disk_faults self.old) (disk_faults self.new) (disk_failed result) }
+        ensures spends { Spends self.old self.new result }
     {
         if self.is_to_fail() {
             self.disk.note_move(from, to)?;
@@ -125,8 +146,8 @@ impl Disk for FailDisk {
 
     fn remove(&mut self, path: &str) -> Result<(), DiskFault>
         ensures told { Removes path.now (story_of (disk_of self.old)) (story_of (disk_of self.new)) result }
-        ensures cause { Counts (fail_disk_faults self.old) (fail_disk_faults self.new) (disk_failed result) }
-        ensures spends { Spends (left_of self.old) (left_of self.new) (nat_eq (left_of self.old) 1) result }
+        ensures cause { Counts (disk_faults self.old) (disk_faults self.new) (disk_failed result) }
+        ensures spends { Spends self.old self.new result }
     {
         if self.is_to_fail() {
             self.disk.note_put(path)?;
@@ -137,8 +158,8 @@ impl Disk for FailDisk {
 
     fn list(&mut self, alloc: Global, prefix: &str) -> Result<Texts, DiskFault>
         ensures told { Lists prefix.now (story_of (disk_of self.old)) (story_of (disk_of self.new)) result }
-        ensures cause { Counts (fail_disk_faults self.old) (fail_disk_faults self.new) (disk_failed result) }
-        ensures spends { Spends (left_of self.old) (left_of self.new) (nat_eq (left_of self.old) 1) result }
+        ensures cause { Counts (disk_faults self.old) (disk_faults self.new) (disk_failed result) }
+        ensures spends { Spends self.old self.new result }
     {
         if self.is_to_fail() {
             self.disk.note_look()?;
@@ -149,8 +170,8 @@ impl Disk for FailDisk {
 
     fn sync(&mut self) -> Result<(), DiskFault>
         ensures told { Syncs (story_of (disk_of self.old)) (story_of (disk_of self.new)) result }
-        ensures cause { Counts (fail_disk_faults self.old) (fail_disk_faults self.new) (disk_failed result) }
-        ensures spends { Spends (left_of self.old) (left_of self.new) (nat_eq (left_of self.old) 1) result }
+        ensures cause { Counts (disk_faults self.old) (disk_faults self.new) (disk_failed result) }
+        ensures spends { Spends self.old self.new result }
     {
         if self.is_to_fail() {
             self.disk.note_look()?;
