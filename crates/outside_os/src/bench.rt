@@ -2,11 +2,10 @@
 ghost use Rattle.std.specs.Prelude.{[], Ok, None, true};
 
 use crate::faults::{FirstFault, is_memory, one_more};
-use crate::folder::{
-    Item, Part, is_too_long, join, list_items, look, open_up, put_entry, read_entry,
-};
+use crate::folder::{is_too_long, join, look, open_up, put_entry, read_entry};
 use crate::lock::BenchLock;
 use crate::runs::{FailedRun, LOG, Runs};
+use crate::walk::{Item, Part, list_items};
 use outside_traits::{Bench, BenchFault, Taken};
 use std::alloc::{AllocError, Global};
 use std::env::VarError;
@@ -219,8 +218,8 @@ impl<R: Files<File = File> + Env + Processes + AllocGlobal + Clone + Drop> ShBen
     /// The entry of one item, or `None` where it has more bytes than the limit.
     fn read_item(&self, root: &str, item: &Item, limit: u64) -> io::Result<Option<Entry>> {
         let whole = join(self.rt.alloc(), root, item.path.as_str())?;
-        open_up(&self.rt, whole.as_str(), &item.metadata)?;
-        match read_entry(&self.rt, whole.as_str(), &item.metadata, limit)? {
+        open_up(&self.rt, whole.as_str(), &item.facts)?;
+        match read_entry(&self.rt, whole.as_str(), &item.facts, limit)? {
             Some(entry) if entry.len() as u64 <= limit => Ok(Some(entry)),
             _ => Ok(None),
         }
@@ -310,7 +309,7 @@ fn remove_folder<R: Files + AllocGlobal + Clone + Drop>(rt: &R, folder: &str) ->
 fn is_within(items: &[Item], max: &Size) -> bool {
     let mut bytes = 0u64;
     for item in items {
-        let length = item.metadata.len();
+        let length = item.facts.length;
         bytes = bytes.saturating_add(length);
         if length > max.largest {
             return false;

@@ -3,12 +3,13 @@ ghost use Rattle.std.specs.Prelude.{[], None};
 
 use crate::faults::{FirstFault, is_memory, one_more};
 use crate::folder::{
-    Part, is_empty, is_entry, join, lay_entry, list_items, look, look_through, move_entry,
-    no_memory, read_unchanged,
+    FileFacts, is_empty, is_entry, join, lay_entry, look, look_through, move_entry, no_memory,
+    put_joined, read_unchanged,
 };
 use crate::listed::Listed;
 use crate::lock::{BENCHES_FOLDER, LOCK, Locking};
 use crate::seen::SeenFolders;
+use crate::walk::{Part, list_items};
 use outside_traits::{Disk, DiskFault};
 use std::alloc::{AllocError, Global};
 use std::collections::BTreeSet;
@@ -68,6 +69,9 @@ struct BuildFolder<R> {
 
     /// What the last listing saw, which isn't looked at again as it is read.
     listed: Listed,
+
+    /// The path, from the current folder, of what is read there.
+    whole: String,
 }
 
 impl<R: AllocGlobal> FolderDisk<R> {
@@ -82,6 +86,7 @@ impl<R: AllocGlobal> FolderDisk<R> {
         let settled = BTreeSet::new(rt.alloc());
         let seen = SeenFolders::none(rt.alloc());
         let listed = Listed::none(rt.alloc());
+        let whole = String::new(rt.alloc());
         FolderDisk {
             folder: BuildFolder {
                 rt,
@@ -90,6 +95,7 @@ impl<R: AllocGlobal> FolderDisk<R> {
                 settled,
                 seen,
                 listed,
+                whole,
             },
             calls: 0,
             faults: 0,
@@ -209,16 +215,16 @@ impl<R: Files + Locking + AllocGlobal + Clone + Drop> BuildFolder<R> {
 
     fn read(&mut self, path: &str) -> io::Result<Option<Entry>> {
         self.hold()?;
-        if let Some(metadata) = self.listed.next(path) {
-            let whole = join(self.rt.alloc(), ROOT, path)?;
-            return read_unchanged(&self.rt, whole.as_str(), metadata);
+        if let Some(facts) = self.listed.next(path) {
+            put_joined(&mut self.whole, ROOT, path)?;
+            return read_unchanged(&self.rt, self.whole.as_str(), &facts);
         }
         let Some(whole) = self.open_place(path)? else {
             return Ok(None);
         };
         match look(&self.rt, whole.as_str())? {
             Some(metadata) if is_entry(&metadata) => {
-                read_unchanged(&self.rt, whole.as_str(), &metadata)
+                read_unchanged(&self.rt, whole.as_str(), &FileFacts::of(&metadata))
             }
             _ => Ok(None),
         }
@@ -281,14 +287,11 @@ impl<R: Files + Locking + AllocGlobal + Clone + Drop> BuildFolder<R> {
             hidden: BENCHES,
             opens: false,
         };
+        self.listed.forget();
         let mut paths = Texts::new(alloc);
-        if let Some(items) = list_items(&self.rt, &part, u64::MAX)? {
-            for item in &items {
-                paths
-                    .push(item.path.copy().map_err(no_memory)?)
-                    .map_err(no_memory)?;
-            }
-            self.listed = Listed::of(items);
+        for item in list_items(&self.rt, &part, u64::MAX)?.into_iter().flatten() {
+            self.listed.put(item.path.as_str(), item.facts)?;
+            paths.push(item.path).map_err(no_memory)?;
         }
         Ok(paths)
     }

@@ -1,13 +1,14 @@
 // Files, links and folders of a real file system, by paths inside a root folder.
 ghost use Rattle.std.specs.Prelude.{◌≤◌, IfOk, IfSome, length};
 
-use std::alloc::Global;
-use std::fs::{DirEntry, FileTimes, Metadata, OpenFile, OpenOptions, Permissions};
+use crate::walk::{Part, list_items};
+use std::alloc::{AllocError, Global};
+use std::fs::{FileTimes, FileType, Metadata, OpenFile, OpenOptions, Permissions};
 use std::io::{ErrorKind, Read, Write};
 use std::os::unix::fs::{MetadataExt, OpenOptionsExt, PermissionsExt, symlink};
 use std::rt::Files;
 use std::{fs, io};
-use tree_model::{Bytes, Entry, Mem, Text, is_below, is_clean};
+use tree_model::{Bytes, Entry, Mem, Text};
 
 /// What Linux answers to a path with more bytes than it can name.
 const NAME_TOO_LONG: i32 = 36;
@@ -23,7 +24,7 @@ pub fn no_memory(_: Mem) -> io::Error {
 }
 
 /// Whether an error says that nothing stands at the path.
-fn is_absent(error: &io::Error) -> bool {
+pub fn is_absent(error: &io::Error) -> bool {
     matches!(error.kind(), ErrorKind::NotFound | ErrorKind::NotADirectory) || is_too_long(error)
 }
 
@@ -35,12 +36,46 @@ pub fn is_too_long(error: &io::Error) -> bool {
 
 /// The path of a place in a folder; the empty path is the folder itself.
 pub fn join(alloc: Global, folder: &str, path: &str) -> io::Result<String> {
-    let mut whole = String::from_str(alloc, folder)?;
+    let room = folder.len().saturating_add(path.len()).saturating_add(1);
+    let mut whole = String::with_capacity(alloc, room)?;
+    put_joined(&mut whole, folder, path)?;
+    Ok(whole)
+}
+
+/// Puts the path of a place in a folder in place of a text.
+pub fn put_joined(whole: &mut String, folder: &str, path: &str) -> Result<(), AllocError> {
+    whole.clear();
+    whole.push_str(folder)?;
     if !folder.is_empty() && !path.is_empty() {
         whole.push('/')?;
     }
-    whole.push_str(path)?;
-    Ok(whole)
+    whole.push_str(path)
+}
+
+/// What the system says of a file, a link or a folder, as far as it is used.
+#[derive(Clone, Copy)]
+pub struct FileFacts {
+    kind: FileType,
+    mode: u32,
+
+    /// How many bytes it has.
+    pub length: u64,
+}
+
+impl FileFacts {
+    /// What the system's answer says.
+    pub fn of(metadata: &Metadata) -> Self {
+        FileFacts {
+            kind: metadata.file_type(),
+            mode: metadata.mode(),
+            length: metadata.len(),
+        }
+    }
+
+    /// Whether it is a file.
+    pub fn is_file(&self) -> bool {
+        self.kind.is_file()
+    }
 }
 
 /// The metadata of what stands at a path itself, or `None` where that is nothing. Follows no link at its end.
@@ -76,7 +111,7 @@ pub fn leads_to_file<R: Files>(rt: &R, path: &str) -> io::Result<bool> {
 }
 
 /// Whether the path and all that it has above it, inside the root, are folders and no links to folders.
-fn is_folder<R: Files + AllocGlobal>(rt: &R, root: &str, path: &str) -> io::Result<bool> {
+pub fn is_folder<R: Files + AllocGlobal>(rt: &R, root: &str, path: &str) -> io::Result<bool> {
     let mut whole = String::from_str(rt.alloc(), root)?;
     for part in path.split('/') {
         whole.push('/')?;
@@ -123,33 +158,33 @@ fn read_up_to<R: Files + AllocGlobal>(
     Ok(bytes)
 }
 
-/// The entry at a path with this metadata, or `None` where its length is above `max`: a file or a link.
+/// The entry at a path that was looked at, or `None` where its length is above `max`: a file or a link.
 pub fn read_entry<R: Files + AllocGlobal>(
     rt: &R,
     path: &str,
-    metadata: &Metadata,
+    facts: &FileFacts,
     max: u64,
 ) -> io::Result<Option<Entry>> {
-    if metadata.is_symlink() {
+    if facts.kind.is_symlink() {
         return read_link(rt, path, max);
     }
-    match read_bytes(rt, path, metadata.len(), max)? {
-        Some(bytes) => Ok(Some(file_entry(metadata, bytes))),
+    match read_bytes(rt, path, facts.length, max)? {
+        Some(bytes) => Ok(Some(file_entry(facts, bytes))),
         None => Ok(None),
     }
 }
 
-/// The entry at a path with this metadata, a file or a link, where nothing else changes it: of a file the bytes up to its
+/// The entry at a path that was looked at, a file or a link, where nothing else changes it: of a file the bytes up to its
 /// length, which takes one call less than to look for its end. `None` where nothing is there any more.
 pub fn read_unchanged<R: Files + AllocGlobal>(
     rt: &R,
     path: &str,
-    metadata: &Metadata,
+    facts: &FileFacts,
 ) -> io::Result<Option<Entry>> {
-    let found = if metadata.is_symlink() {
+    let found = if facts.kind.is_symlink() {
         read_link(rt, path, u64::MAX)
     } else {
-        read_file(rt, path, metadata)
+        read_file(rt, path, facts)
     };
     match found {
         Err(error) if is_absent(&error) => Ok(None),
@@ -157,20 +192,20 @@ pub fn read_unchanged<R: Files + AllocGlobal>(
     }
 }
 
-/// A file with this metadata and its bytes up to the length.
+/// A file that was looked at, with its bytes up to the length.
 fn read_file<R: Files + AllocGlobal>(
     rt: &R,
     path: &str,
-    metadata: &Metadata,
+    facts: &FileFacts,
 ) -> io::Result<Option<Entry>> {
-    let bytes = read_up_to(rt, path, metadata.len(), metadata.len())?;
-    Ok(Some(file_entry(metadata, Bytes::from_vec(bytes))))
+    let bytes = read_up_to(rt, path, facts.length, facts.length)?;
+    Ok(Some(file_entry(facts, Bytes::from_vec(bytes))))
 }
 
-/// A file with this metadata and these bytes.
-fn file_entry(metadata: &Metadata, bytes: Bytes) -> Entry {
+/// A file that was looked at, with these bytes.
+fn file_entry(facts: &FileFacts, bytes: Bytes) -> Entry {
     Entry::File {
-        exec: metadata.mode() & OWNER_RUNS != 0,
+        exec: facts.mode & OWNER_RUNS != 0,
         bytes,
     }
 }
@@ -187,24 +222,24 @@ fn read_link<R: Files + AllocGlobal>(rt: &R, path: &str, max: u64) -> io::Result
 }
 
 /// Lets the owner read a file, or read, write and enter a folder, where its mode forbids that.
-pub fn open_up<R: Files>(rt: &R, path: &str, metadata: &Metadata) -> io::Result<()> {
-    let wanted = if metadata.is_dir() {
+pub fn open_up<R: Files>(rt: &R, path: &str, facts: &FileFacts) -> io::Result<()> {
+    let wanted = if facts.kind.is_dir() {
         0o700
     } else {
         OWNER_READS
     };
-    let mode = metadata.mode() & 0o7777;
-    if metadata.is_symlink() || mode & wanted == wanted {
+    let mode = facts.mode & 0o7777;
+    if facts.kind.is_symlink() || mode & wanted == wanted {
         return Ok(());
     }
     fs::set_permissions(rt, path, Permissions::from_mode(mode | wanted))
 }
 
 /// Opens a folder up, and says whether it is one.
-fn open_folder<R: Files>(rt: &R, path: &str) -> io::Result<bool> {
+pub fn open_folder<R: Files>(rt: &R, path: &str) -> io::Result<bool> {
     match look(rt, path)? {
         Some(metadata) if metadata.is_dir() => {
-            open_up(rt, path, &metadata)?;
+            open_up(rt, path, &FileFacts::of(&metadata))?;
             Ok(true)
         }
         _ => Ok(false),
@@ -331,164 +366,4 @@ pub fn is_empty<R: Files + AllocGlobal + Clone + Drop>(rt: &R, folder: &str) -> 
         Ok(mut entries) => entries.next().is_none(),
         Err(_) => false,
     }
-}
-
-/// A part of a real folder: what stands at the paths inside `root` that begin with `prefix`. The folder `hidden` of
-/// the root isn't entered. Where `opens` is set, folders that the owner may not read are opened up, and a root that is
-/// a link has nothing.
-#[derive(Clone, Copy)]
-pub struct Part<'a> {
-    pub root: &'a str,
-    pub prefix: &'a str,
-    pub hidden: &'a str,
-    pub opens: bool,
-}
-
-impl<'a> Part<'a> {
-    /// All of a folder.
-    pub fn whole(root: &'a str) -> Self {
-        Part {
-            root,
-            prefix: "",
-            hidden: "",
-            opens: false,
-        }
-    }
-
-    /// All of a folder, which is opened up with the folders in it.
-    pub fn opened(root: &'a str) -> Self {
-        Part {
-            root,
-            prefix: "",
-            hidden: "",
-            opens: true,
-        }
-    }
-}
-
-/// A file or a link, by its path inside the root.
-#[derive(Drop)]
-pub struct Item {
-    pub path: Text,
-    pub metadata: Metadata,
-}
-
-/// What a walk has found, and the folders that it has still to enter.
-#[derive(Drop)]
-struct Walk {
-    items: Vec<Item>,
-    folders: Vec<String>,
-}
-
-/// The files and links of a part, in the order of their paths' bytes, or `None` where they are more than `max`.
-/// Follows no link, passes over what is neither file, folder nor link, and enters no folder whose path doesn't begin
-/// as the prefix does.
-pub fn list_items<R: Files + AllocGlobal + Clone + Drop>(
-    rt: &R,
-    part: &Part<'_>,
-    max: u64,
-) -> io::Result<Option<Vec<Item>>> {
-    let mut walk = Walk {
-        items: Vec::new(rt.alloc()),
-        folders: Vec::new(rt.alloc()),
-    };
-    if let Some(folder) = first_folder(rt, part)? {
-        walk.folders.push(folder)?;
-    }
-    for _ in 0..u64::MAX {
-        let Some(folder) = walk.folders.pop() else {
-            break;
-        };
-        enter(rt, part, folder.as_str(), max, &mut walk)?;
-        if walk.items.len() as u64 > max {
-            return Ok(None);
-        }
-    }
-    walk.items
-        .sort_by(|a, b| a.path.as_str().cmp(b.path.as_str()))?;
-    Ok(Some(walk.items))
-}
-
-/// The folder in which all paths with the prefix stand, if there is such a folder.
-fn first_folder<R: Files + AllocGlobal>(rt: &R, part: &Part<'_>) -> io::Result<Option<String>> {
-    let Some((folder, _)) = part.prefix.rsplit_once('/') else {
-        return Ok(Some(String::new(rt.alloc())));
-    };
-    let hidden = folder == part.hidden || is_below(part.hidden, folder);
-    if hidden || !is_clean(folder) || !is_folder(rt, part.root, folder)? {
-        return Ok(None);
-    }
-    Ok(Some(String::from_str(rt.alloc(), folder)?))
-}
-
-/// Adds what stands in a folder, until more than `max` items are found.
-fn enter<R: Files + AllocGlobal + Clone + Drop>(
-    rt: &R,
-    part: &Part<'_>,
-    folder: &str,
-    max: u64,
-    walk: &mut Walk,
-) -> io::Result<()> {
-    let whole = join(rt.alloc(), part.root, folder)?;
-    if part.opens && !open_folder(rt, whole.as_str())? {
-        return Ok(());
-    }
-    let entries = match fs::read_dir(rt, whole.as_str()) {
-        Ok(entries) => entries,
-        Err(error) if is_absent(&error) && !is_too_long(&error) => return Ok(()),
-        Err(error) => return Err(error),
-    };
-    for entry in entries {
-        add_entry(rt, part, folder, entry, walk)?;
-        if walk.items.len() as u64 > max {
-            break;
-        }
-    }
-    Ok(())
-}
-
-/// Adds an entry of a folder, where its path has the prefix.
-fn add_entry<R: Files + AllocGlobal + Clone + Drop>(
-    rt: &R,
-    part: &Part<'_>,
-    folder: &str,
-    entry: io::Result<DirEntry<R>>,
-    walk: &mut Walk,
-) -> io::Result<()> {
-    let entry = entry?;
-    let path = join(rt.alloc(), folder, entry.file_name())?;
-    if path.as_str().starts_with(part.prefix) {
-        add_there(path, entry.metadata(), part, walk)
-    } else {
-        Ok(())
-    }
-}
-
-/// Adds what has this metadata, unless it is gone.
-fn add_there(
-    path: String,
-    metadata: io::Result<Metadata>,
-    part: &Part<'_>,
-    walk: &mut Walk,
-) -> io::Result<()> {
-    match metadata {
-        Ok(metadata) => add(path, metadata, part, walk),
-        Err(error) if error.kind() == ErrorKind::NotFound => Ok(()),
-        Err(error) => Err(error),
-    }
-}
-
-/// Adds a file or a link to what is found, and a folder to those that are still to enter.
-fn add(path: String, metadata: Metadata, part: &Part<'_>, walk: &mut Walk) -> io::Result<()> {
-    if metadata.is_dir() {
-        if path.as_str() != part.hidden {
-            walk.folders.push(path)?;
-        }
-    } else if is_entry(&metadata) {
-        walk.items.push(Item {
-            path: Text::from_string(path),
-            metadata,
-        })?;
-    }
-    Ok(())
 }

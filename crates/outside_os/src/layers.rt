@@ -2,8 +2,9 @@
 ghost use Rattle.std.specs.Prelude.{None};
 
 use crate::faults::{FirstFault, is_memory, one_more};
-use crate::folder::{Part, leads_to_file, list_items, look_through, no_memory, read_bytes};
+use crate::folder::{leads_to_file, look_through, no_memory, read_bytes};
 use crate::seen::SeenFolders;
+use crate::walk::{Part, list_items};
 use outside_traits::{Layers, ReadFault};
 use std::alloc::Global;
 use std::io;
@@ -97,7 +98,7 @@ impl<R: Files + AllocGlobal + Clone + Drop> FolderLayers<R> {
         };
         let mut paths = Texts::new(alloc);
         for item in list_items(&self.rt, &part, u64::MAX)?.into_iter().flatten() {
-            if item.metadata.is_file() || leads_to_file(&self.rt, item.path.as_str())? {
+            if item.facts.is_file() || leads_to_file(&self.rt, item.path.as_str())? {
                 paths.push(item.path).map_err(no_memory)?;
             }
         }

@@ -17,6 +17,7 @@ mod lock;
 mod runs;
 mod seen;
 mod sink;
+mod walk;
 
 pub use bench::ShBench;
 pub use disk::FolderDisk;
