@@ -11,6 +11,7 @@ ghost use Rattle.build_store.specs.Publication.{record_file};
 ghost use Rattle.build_store.specs.Sound.{HasShortPaths};
 ghost use Rattle.build_store.specs.Survey.{AreHeld, HasVisited, IsFoundIn, IsGood, IsSurveyed, Visits};
 
+use crate::naming::same_bytes;
 use outside_traits::{Disk, DiskFault};
 use record_belief::Candidate;
 use sig_gen::{SigFault, decode_stored, name_by, signature_in};
@@ -49,11 +50,13 @@ fn are_short(lines: &[ManifestLine]) -> bool
 }
 
 /// Whether a path is that of the record of a name.
-fn is_path_of(alloc: Global, path: &str, name: &Hash) -> Result<bool, Mem>
-    ensures { IfOk result (λ is. IsTrue is ↔ (path.now ≡ record_path name.now)) }
+fn is_path_of(path: &str, name: &Hash) -> bool
+    ensures { IsTrue result ↔ (path.now ≡ record_path name.now) }
 {
-    let own = record_path(alloc, name)?;
-    Ok(path == own.as_str())
+    match path.as_bytes().strip_prefix(b"rec/") {
+        Some(digits) => same_bytes(digits, name.digits().as_slice()),
+        None => false,
+    }
 }
 
 /// The name of a record, by the bytes that spell it.
@@ -69,12 +72,7 @@ fn name_in(bytes: &[u8], stored: &StoredSig) -> Result<Hash, Mem>
 }
 
 /// The candidate that a record is, which was read at a path, as these bytes.
-fn judged(
-    alloc: Global,
-    path: &str,
-    bytes: &[u8],
-    stored: StoredSig,
-) -> Result<Option<Candidate>, Mem>
+fn judged(path: &str, bytes: &[u8], stored: StoredSig) -> Result<Option<Candidate>, Mem>
     requires { SpellsStored bytes.now stored }
     ensures some { IfOk result (λ found. IfSome found (λ c. (c.stored ≡ stored) × (c.name ≡ name_of stored.sig)
         × HasShortPaths stored.manifest × (path.now ≡ record_path c.name))) }
@@ -82,7 +80,7 @@ fn judged(
         → path.now ≡ record_path (name_of stored.sig) → ⊥)) }
 {
     let name = name_in(bytes, &stored)?;
-    if is_path_of(alloc, path, &name)? && are_short(stored.manifest.lines()) {
+    if is_path_of(path, &name) && are_short(stored.manifest.lines()) {
         return Ok(Some(Candidate { name, stored }));
     }
     Ok(None)
@@ -96,7 +94,7 @@ fn candidate_in(alloc: Global, path: &str, bytes: &[u8]) -> Result<Option<Candid
         → bytes.now ≡ record_bytes c.stored → ⊥)) }
 {
     match decode_stored(alloc, bytes) {
-        Ok(stored) => judged(alloc, path, bytes, stored),
+        Ok(stored) => judged(path, bytes, stored),
         Err(SigFault::BadRecord) => Ok(None),
         Err(SigFault::Memory) => Err(Mem),
     }
