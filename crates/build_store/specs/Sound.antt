@@ -38,8 +38,12 @@ pub record IsHeld (image : Store) (row : EquivRow) : Type 0 where
   pub known : IsRow row
   pub held : image (record_path row.name) ≡ Some (record_file known.stored)
 
+-- Whatever a crash leaves now holds the records of all these rows.
+abbrev pub HoldsRecords : Story → List EquivRow → Type 0
+HoldsRecords story rows = (image : Store) → IsImage story image → AllByRecursion (IsHeld image) rows
+
 -- What a store keeps of its disk, where that tells: paths under `rec/`, `stamp/` and `tmp/` are such as the store makes, and each image
 -- holds the records of all rows.
 pub record IsKept (rows : List EquivRow) (story : Story) : Type 0 where
   pub laid_out : IsLaidOut story.held
-  pub stored : (image : Store) → IsImage story image → AllByRecursion (IsHeld image) rows
+  pub stored : HoldsRecords story rows

@@ -16,6 +16,9 @@
 //! (`opened_is_valid`), all that is available (`opened_stays`), and what a plan may reuse (`reuse_again`). The records that `publish`
 //! stores can be read.
 //!
+//! `known_name` gives for a PN and the bytes of a signature the name of every signature with these bytes, where it knows one; that it does
+//! isn't promised. `into_disk` gives the disk back, which in every image holds the records of all rows.
+//!
 //! A fault of the disk comes only where its count of faults rose; a collision or an unsteady task only with the two values that differ.
 //! Want of memory is free. (The Yocto Project Overview and Concepts Manual, "Shared State Cache" and "Hash Equivalence"; formats and
 //! protocol are own rules.)

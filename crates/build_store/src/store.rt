@@ -17,7 +17,7 @@ ghost use Rattle.build_store.specs.Opening.{Clears, IsOpened};
 ghost use Rattle.build_store.specs.Outcome.{disk_of, open_failed};
 ghost use Rattle.build_store.specs.Paths.{HasPlace};
 ghost use Rattle.build_store.specs.Publication.{AreShort, HasNoObject, HoldsObject, IsAgreed, IsPublished, IsRestored, KeepsOthers, Publishes, Restores, SameObjects, line_for, object_for, publication, rows_with, unihash_for};
-ghost use Rattle.build_store.specs.Sound.{IsReadable};
+ghost use Rattle.build_store.specs.Sound.{HoldsRecords, IsReadable};
 ghost use Rattle.build_store.specs.View.{IsSignatureOf, IsWanting, SameBooks, kept_with, kept_without, signed_by};
 
 use crate::comparing::compare_at;
@@ -264,9 +264,10 @@ impl<D: Disk> Store<D> {
         self.disk.moment()
     }
 
-    /// The disk. No memory.
+    /// The disk, which holds the records of all rows, whatever a crash leaves. No memory.
     pub fn into_disk(self) -> D
-        ensures { result ≡ self.disk }
+        ensures disk { result ≡ self.disk }
+        ensures records { D.tells → HoldsRecords (D.story result) self.rows }
     {
         let Store {
             disk,

@@ -7,7 +7,9 @@
 //! The model: an `Index` is the list of its rows, in the order in which they were added.
 //!
 //! Promised: a row, a unihash and the first row of an output are those of the definitions over that list (`store_model`, `Rows`);
-//! two rows of one name are never both there; a call that is refused leaves the index as it was.
+//! two rows of one name are never both there; a call that is refused leaves the index as it was. `name_of` gives for a PN and the bytes of a
+//! signature the name of a row with these bytes, so that they needn't be digested again; that it finds one isn't promised, since it looks at
+//! the PN's first rows alone.
 #![tactic(auto)]
 
 mod copies;
