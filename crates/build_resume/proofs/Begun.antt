@@ -20,7 +20,7 @@ use Rattle.run_queue.specs.Seen.{RunView, seen}
 use Rattle.run_queue.specs.Turns.{IsAtEnd, SameRun}
 use Rattle.outside_traits.specs.Fault.{Counts}
 use Rattle.run_workers.specs.Runs.{RanScripts, RanThese, Runs, by_bench}
-use Rattle.build_resume.specs.Benches.{started_by}
+use Rattle.build_resume.specs.Benches.{broken_at, started_by}
 use Rattle.build_resume.specs.Build.{RanJust, RanStarted}
 use Rattle.build_resume.specs.Drive.{Drove, Grows, IsHalted, RanOn, WentOn}
 use Rattle.build_resume.specs.Ends.{EndsBy, bench_broke, halt_by, is_faultless, is_plain, memory_broke, status_by, status_of}
@@ -206,14 +206,14 @@ pub ran_nothing : (gives : Gives) (plan : Plan) (tale : List Logged) → tale �
 ran_nothing gives plan tale none seat runs = record {
   runs = [];
   ran = sym (append-nil runs);
-  these = subst (λ (l : List Logged). RanThese gives plan (started_by seat l) []) (sym none) tt;
+  these = subst (λ (l : List Logged). RanThese gives plan (broken_at seat l) (started_by seat l) []) (sym none) tt;
 }
 
-pub just_nothing : (plan : Plan) (tale : List Logged) → tale ≡ [] → (seat : ℕ) (runs : Runs) → RanJust plan (started_by seat tale) runs runs
+pub just_nothing : (plan : Plan) (tale : List Logged) → tale ≡ [] → (seat : ℕ) (runs : Runs) → RanJust plan (broken_at seat tale) (started_by seat tale) runs runs
 just_nothing plan tale none seat runs = record {
   runs = [];
   ran = sym (append-nil runs);
-  these = subst (λ (l : List Logged). RanScripts plan (started_by seat l) []) (sym none) tt;
+  these = subst (λ (l : List Logged). RanScripts plan (broken_at seat l) (started_by seat l) []) (sym none) tt;
 }
 
 -- a tale that went on to the run's end

@@ -1,6 +1,6 @@
 -- What each bench of a row did.
 use Rattle.std.proofs.Common.{◌≡◌, ◌≢◌, ◌∙◌, ap, sym, subst, refl, ℕ, zero, suc, ◌+◌, ◌<◌, List, [], ◌∷◌, ◌++◌, append-nil, arith, length, map, get_or, All, Some, inl, inr}
-use Rattle.std.specs.Prelude.{slice_index}
+use Rattle.std.specs.Prelude.{Option, slice_index}
 use Rattle.std.specs.List.{slice_get}
 use Rattle.std.proofs.lemmas.List.{get_or_append_left, length-append, length-map, map-append}
 use Rattle.std.proofs.lemmas.Option.{none-some, same_Some}
@@ -9,11 +9,14 @@ use Rattle.outside_traits.specs.Fault.{Rose}
 use Rattle.meta_model.specs.declared.event.Logged.{Logged}
 use Rattle.meta_model.specs.declared.plan.Plan.{Plan}
 use Rattle.meta_model.specs.CleanBuild.{Gives}
-use Rattle.run_workers.specs.Runs.{RanThese, Runs}
-use Rattle.build_resume.specs.Benches.{AtSeats, AtWorkers, BreaksBench, BreaksByFault, SomeRose, started_by}
+use Rattle.run_workers.specs.Runs.{RanThese, Runs, broken_off, started_in}
+use Rattle.run_workers.specs.Told.{own}
+use Rattle.build_resume.specs.Benches.{AtSeats, AtWorkers, BreaksBench, BreaksByFault, SomeRose, broken_at, started_by}
 use Rattle.build_resume.specs.Build.{RanJust, RanStarted}
 use Rattle.build_resume.specs.Drive.{IsAlone}
-use Rattle.build_resume.proofs.Seating.{breaks_before, breaks_nil, started_split}
+use Rattle.build_resume.proofs.Seating.{breaks_before, breaks_nil, broken_behind, own_split, started_split}
+use Rattle.build_resume.proofs.Turning.{these_still}
+use Rattle.build_resume.proofs.Working.{own_none}
 
 -- ---- each bench of a row
 
@@ -109,26 +112,32 @@ others_have P benches others x was all k d lt =
 
 -- ---- a tale that seat 0 went on with
 
--- what a worker's seat started is what it had started
-pub started_before : (seat : ℕ) (old more : List Logged) → seat ≢ 0 → IsAlone more → started_by seat (old ++ more) ≡ started_by seat old
-started_before seat old more other alone = started_split seat old more ∙ ap (λ (l : List ℕ). started_by seat old ++ l) (alone.starts seat other) ∙ append-nil (started_by seat old)
+-- the entries of a worker's seat are those that it had
+own_before : (seat : ℕ) (old tale more : List Logged) → seat ≢ 0 → tale ≡ old ++ more → IsAlone more → own seat tale ≡ own seat old
+own_before seat old tale more other is alone =
+    ap (own seat) is ∙ own_split seat old more ∙ ap (λ (l : List Logged). own seat old ++ l) (own_none seat more (λ k e at of. other (sym of ∙ alone.seats k e at))) ∙ append-nil (own seat old)
 
 pub ran_before : (gives : Gives) (plan : Plan) (seat : ℕ) (old tale more : List Logged) (before now : Runs) → seat ≢ 0 → tale ≡ old ++ more → IsAlone more → RanStarted gives plan old seat before now → RanStarted gives plan tale seat before now
 ran_before gives plan seat old tale more before now other is alone r = record {
   runs = r.runs;
   ran = r.ran;
-  these = subst (λ (ts : List ℕ). RanThese gives plan ts r.runs) (sym (ap (started_by seat) is ∙ started_before seat old more other alone)) r.these;
+  these = subst (λ (l : List Logged). RanThese gives plan (broken_off l) (started_in l) r.runs) (sym (own_before seat old tale more other is alone)) r.these;
 }
 
-pub just_before : (plan : Plan) (seat : ℕ) (old front more : List Logged) (before now : Runs) → seat ≢ 0 → front ≡ old ++ more → IsAlone more → RanJust plan (started_by seat old) before now → RanJust plan (started_by seat front) before now
-just_before plan seat old front more before now other is alone r = subst (λ (ts : List ℕ). RanJust plan ts before now) (sym (ap (started_by seat) is ∙ started_before seat old more other alone)) r
+pub just_before : (plan : Plan) (seat : ℕ) (broke : Option ℕ) (old front more : List Logged) (before now : Runs) → seat ≢ 0 → front ≡ old ++ more → IsAlone more → RanJust plan broke (started_by seat old) before now → RanJust plan broke (started_by seat front) before now
+just_before plan seat broke old front more before now other is alone r = subst (λ (l : List Logged). RanJust plan broke (started_in l) before now) (sym (own_before seat old front more other is alone)) r
+
+-- by the whole tale
+pub broken_before : (plan : Plan) (seat : ℕ) (old tale more : List Logged) (ts : List ℕ) (before now : Runs) → seat ≢ 0 → tale ≡ old ++ more → IsAlone more → RanJust plan (broken_at seat old) ts before now → RanJust plan (broken_at seat tale) ts before now
+broken_before plan seat old tale more ts before now other is alone r = subst (λ (l : List Logged). RanJust plan (broken_off l) ts before now) (sym (own_before seat old tale more other is alone)) r
 
 -- behind a tale in which seat 0 started nothing
 pub ran_behind : (gives : Gives) (plan : Plan) (old tale more : List Logged) (before now : Runs) → started_by 0 old ≡ [] → tale ≡ old ++ more → RanStarted gives plan more 0 before now → RanStarted gives plan tale 0 before now
 ran_behind gives plan old tale more before now none is r = record {
   runs = r.runs;
   ran = r.ran;
-  these = subst (λ (ts : List ℕ). RanThese gives plan ts r.runs) (sym (ap (started_by 0) is ∙ started_split 0 old more ∙ ap (λ (l : List ℕ). l ++ started_by 0 more) none)) r.these;
+  these = subst (λ (l : List ℕ). RanThese gives plan (broken_at 0 tale) l r.runs) (sym (ap (started_by 0) is ∙ started_split 0 old more ∙ ap (λ (l : List ℕ). l ++ started_by 0 more) none))
+      (these_still gives plan (broken_at 0 more) (broken_at 0 tale) (started_by 0 more) r.runs (λ t off. ap (broken_at 0) is ∙ broken_behind 0 old more t off) r.these);
 }
 
 -- a worker's task that broke off since its bench failed had done so

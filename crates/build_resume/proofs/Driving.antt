@@ -1,6 +1,6 @@
 -- What a turn adds to the tale of a run, and to what its bench ran.
 use Rattle.std.proofs.Common.{◌≡◌, ◌∙◌, sym, ap, subst, refl, ℕ, List, [], ◌∷◌, ◌++◌, append_assoc, append-nil, Some, None, inl, inr, true, false}
-use Rattle.std.specs.Prelude.{◌⊎◌, Option, IsSome}
+use Rattle.std.specs.Prelude.{◌⊎◌, Option}
 use Rattle.std.proofs.lemmas.Bool.{false≢true}
 use Rattle.meta_model.specs.declared.event.Event.{Event}
 use Rattle.meta_model.specs.declared.event.Event.TheVariants as events
@@ -13,11 +13,13 @@ use Rattle.run_queue.specs.Opening.{Opening}
 use Rattle.run_queue.specs.Seen.{Seen}
 use Rattle.run_queue.specs.Turns.{IsCleanJob, Marks}
 use Rattle.run_workers.specs.Runs.{AllRan, IsRunOf, RanSoFar, RanThese, Runs}
-use Rattle.build_resume.specs.Benches.{started_by}
+use Rattle.run_workers.specs.Told.{own}
+use Rattle.run_workers.specs.Worked.{BrokeOff}
+use Rattle.build_resume.specs.Benches.{broken_at, started_by}
 use Rattle.build_resume.specs.Drive.{Closes, Drove, Grows}
 use Rattle.run_workers.specs.declared.worker.Halt.{Halt}
-use Rattle.build_resume.proofs.Seating.{alone_nil, alone_one, alone_then, breaks_nil, breaks_one, breaks_split, started_split}
-use Rattle.build_resume.proofs.Turning.{all_then, these_then}
+use Rattle.build_resume.proofs.Seating.{alone_nil, alone_one, alone_then, breaks_nil, breaks_one, breaks_split, broken_behind, broken_marked, started_split}
+use Rattle.build_resume.proofs.Turning.{all_then, these_still, these_then}
 
 -- a turn that marked nothing
 pub drove_none : (gives : Gives) (plan : Plan) (halt : Halt) (old new : List Logged) (runs : Runs) → new ≡ old → Drove gives plan (Some halt) old new runs runs
@@ -44,16 +46,16 @@ closing_starts t moment (events.Ended u) e n = refl
 closing_starts t moment (events.Failed u w) e n = refl
 closing_starts t moment (events.Broke u c) e n = refl
 
-so_far : (gives : Gives) (plan : Plan) (halt : Option Halt) (t : ℕ) (run : List ℕ × Entries) → IsRunOf gives plan t run → RanSoFar gives plan halt (t ∷ []) (run ∷ [])
-so_far gives plan None t run is = (is, tt)
-so_far gives plan (Some h) t run is = (is, tt)
+so_far : (gives : Gives) (plan : Plan) (halt : Option Halt) (broke : Option ℕ) (t : ℕ) (run : List ℕ × Entries) → IsRunOf gives plan t run → RanSoFar gives plan halt broke (t ∷ []) (run ∷ [])
+so_far gives plan None broke t run is = (is, tt)
+so_far gives plan (Some h) broke t run is = (is, tt)
 
 -- a turn that started a task, whose job came to an end
 pub drove_job : (gives : Gives) (plan : Plan) (halt : Option Halt) (t : ℕ) (run : List ℕ × Entries) (old mid new : List Logged) (before now : Runs) → IsRunOf gives plan t run → Marks 0 (events.Started t 0) old mid → Closes t halt mid new
-    → (now ≡ before ++ run ∷ []) ⊎ ((now ≡ before) × IsSome halt) → Drove gives plan halt old new before now
+    → (now ≡ before ++ run ∷ []) ⊎ ((now ≡ before) × BrokeOff t halt (own 0 new)) → Drove gives plan halt old new before now
 drove_job gives plan halt t run old mid new before now is m c ran = elim ran [
-  | inl did ↦ record { more = entries; tale = tale; runs = run ∷ []; ran = did; these = subst (λ ts. RanSoFar gives plan halt ts (run ∷ [])) (sym started) (so_far gives plan halt t run is) }
-  | inr none ↦ record { more = entries; tale = tale; runs = []; ran = none.0 ∙ sym (append-nil before); these = subst (λ ts. RanSoFar gives plan halt ts []) (sym started) (halted halt none.1) }
+  | inl did ↦ record { more = entries; tale = tale; runs = run ∷ []; ran = did; these = subst (λ ts. RanSoFar gives plan halt (broken_at 0 entries) ts (run ∷ [])) (sym started) (so_far gives plan halt (broken_at 0 entries) t run is) }
+  | inr none ↦ record { more = entries; tale = tale; runs = []; ran = none.0 ∙ sym (append-nil before); these = subst (λ ts. RanSoFar gives plan halt (broken_at 0 entries) ts []) (sym started) (halted halt none.1) }
 ]
   where
     first : Logged
@@ -71,9 +73,9 @@ drove_job gives plan halt t run old mid new before now is m c ran = elim ran [
     started : started_by 0 entries ≡ t ∷ []
     started = ap (λ l. t ∷ l) (closing_starts t c.marks.moment c.event c.of c.starts_none)
 
-    halted : (h : Option Halt) → IsSome h → RanSoFar gives plan h (t ∷ []) []
-    halted None s = absurd (false≢true s)
-    halted (Some h) s = refl
+    halted : (h : Option Halt) → BrokeOff t h (own 0 new) → RanSoFar gives plan h (broken_at 0 entries) (t ∷ []) []
+    halted None broke = absurd (false≢true broke.0)
+    halted (Some h) broke = (refl, sym (broken_marked c.event mid new c.marks) ∙ broke.1)
 
 -- one turn behind others
 pub drove_on : (gives : Gives) (plan : Plan) (halt : Option Halt) (old mid new : List Logged) (before between now : Runs) → Drove gives plan None old mid before between → Drove gives plan halt mid new between now → Drove gives plan halt old new before now
@@ -85,9 +87,11 @@ drove_on gives plan halt old mid new before between now one other = record {
   these = by halt other.these;
 }
   where
-    by : (h : Option Halt) → RanSoFar gives plan h (started_by 0 other.more) other.runs → RanSoFar gives plan h (started_by 0 (one.more ++ other.more)) (one.runs ++ other.runs)
+    by : (h : Option Halt) → RanSoFar gives plan h (broken_at 0 other.more) (started_by 0 other.more) other.runs → RanSoFar gives plan h (broken_at 0 (one.more ++ other.more)) (started_by 0 (one.more ++ other.more)) (one.runs ++ other.runs)
     by None these = subst (λ ts. AllRan gives plan ts (one.runs ++ other.runs)) (sym (started_split 0 one.more other.more)) (all_then gives plan (started_by 0 one.more) (started_by 0 other.more) one.runs other.runs one.these these)
-    by (Some h) these = subst (λ ts. RanThese gives plan ts (one.runs ++ other.runs)) (sym (started_split 0 one.more other.more)) (these_then gives plan (started_by 0 one.more) (started_by 0 other.more) one.runs other.runs one.these these)
+    by (Some h) these =
+        subst (λ ts. RanThese gives plan (broken_at 0 (one.more ++ other.more)) ts (one.runs ++ other.runs)) (sym (started_split 0 one.more other.more))
+        (these_then gives plan (broken_at 0 (one.more ++ other.more)) (started_by 0 one.more) (started_by 0 other.more) one.runs other.runs one.these (these_still gives plan (broken_at 0 other.more) (broken_at 0 (one.more ++ other.more)) (started_by 0 other.more) other.runs (broken_behind 0 one.more other.more) these))
 
 -- before the first turn
 pub drove_first : (gives : Gives) (plan : Plan) (tale : List Logged) (runs : Runs) → Drove gives plan None tale tale runs runs

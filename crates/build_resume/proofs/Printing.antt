@@ -11,10 +11,13 @@ use Rattle.run_queue.specs.declared.fault.RunFault.{RunFault}
 use Rattle.run_queue.specs.Keeps.{IsFront, Prints}
 use Rattle.run_queue.specs.Turns.{Marks}
 use Rattle.run_workers.specs.Runs.{AllScripts, IsScriptOf, RanScripts, Runs, ScriptsSoFar}
-use Rattle.build_resume.specs.Benches.{AtSeats, started_by}
+use Rattle.run_workers.specs.Told.{own}
+use Rattle.run_workers.specs.Worked.{BrokeOff}
+use Rattle.build_resume.specs.Benches.{AtSeats, broken_at, started_by}
 use Rattle.build_resume.specs.Build.{RanJust, RanPrinted}
 use Rattle.build_resume.specs.Drive.{Closes, IsAlone, RanSaid, SaidByWorkers, SaidTo}
 use Rattle.run_workers.specs.declared.worker.Halt.{Halt}
+use Rattle.run_workers.proofs.Working.{said_all as all_said}
 use Rattle.build_resume.proofs.Driving.{closing_starts}
 use Rattle.build_resume.proofs.Seating.{alone_nil, alone_one, alone_then, started_split}
 
@@ -40,23 +43,17 @@ said_whole base a b plan old new before now goes stood stands is =
 
 -- ---- scripts that ran
 
-scripts_all : (plan : Plan) (ts : List ℕ) (runs : Runs) → AllScripts plan ts runs → RanScripts plan ts runs
-scripts_all plan [] [] all = tt
-scripts_all plan [] (r ∷ runs) all = absurd all
-scripts_all plan (t ∷ ts) [] all = absurd all
-scripts_all plan (t ∷ ts) (r ∷ runs) all = (all.0, scripts_all plan ts runs all.1)
-
 scripts_then : (plan : Plan) (ts more : List ℕ) (runs last : Runs) → AllScripts plan ts runs → AllScripts plan more last → AllScripts plan (ts ++ more) (runs ++ last)
 scripts_then plan [] more [] last all rest = rest
 scripts_then plan [] more (r ∷ runs) last all rest = absurd all
 scripts_then plan (t ∷ ts) more [] last all rest = absurd all
 scripts_then plan (t ∷ ts) more (r ∷ runs) last all rest = (all.0, scripts_then plan ts more runs last all.1 rest)
 
-scripts_last : (plan : Plan) (ts more : List ℕ) (runs last : Runs) → AllScripts plan ts runs → RanScripts plan more last → RanScripts plan (ts ++ more) (runs ++ last)
-scripts_last plan [] more [] last all rest = rest
-scripts_last plan [] more (r ∷ runs) last all rest = absurd all
-scripts_last plan (t ∷ ts) more [] last all rest = absurd all
-scripts_last plan (t ∷ ts) more (r ∷ runs) last all rest = (all.0, scripts_last plan ts more runs last all.1 rest)
+scripts_last : (plan : Plan) (broke : Option ℕ) (ts more : List ℕ) (runs last : Runs) → AllScripts plan ts runs → RanScripts plan broke more last → RanScripts plan broke (ts ++ more) (runs ++ last)
+scripts_last plan broke [] more [] last all rest = rest
+scripts_last plan broke [] more (r ∷ runs) last all rest = absurd all
+scripts_last plan broke (t ∷ ts) more [] last all rest = absurd all
+scripts_last plan broke (t ∷ ts) more (r ∷ runs) last all rest = (all.0, scripts_last plan broke ts more runs last all.1 rest)
 
 -- ---- turns
 
@@ -72,7 +69,7 @@ module _ (plan : Plan) (first fault : Option RunFault) (from old new : List Logg
     alone = r.alone;
     runs = r.runs;
     ran = r.ran;
-    these = scripts_all plan (started_by 0 r.front) r.runs r.these;
+    these = all_said plan (broken_at 0 new) (started_by 0 r.front) r.runs r.these;
     rest = r.rest ++ g.rest;
     is = on_three a b base (tale_text plan.tasks r.front) r.rest r.is g;
     whole = λ goes. absurd (let n : Some halt ≡ None = goes in cc);
@@ -151,13 +148,13 @@ said_last plan halt fault from tale told before now base old new told_is r g = r
   on = r.on;
   goes = r.goes;
   alone = r.alone;
-  ran = record { runs = r.runs; ran = r.ran; these = r.these };
+  ran = record { runs = r.runs; ran = r.ran; these = subst (λ (l : List Logged). RanScripts plan (broken_at 0 l) (started_by 0 r.front) r.runs) (sym told_is) r.these };
   rest = r.rest ++ g.rest;
   written_is = on_three old new base (tale_text plan.tasks r.front) r.rest r.is g;
 }
 
 -- where no turn was taken
-pub said_nothing : (plan : Plan) (tale : List Logged) (before now : List Runs) (old new : List ℕ) → tale ≡ [] → AtSeats (λ seat. RanJust plan (started_by seat tale)) before now → IsFront old new → RanPrinted plan tale before now old new
+pub said_nothing : (plan : Plan) (tale : List Logged) (before now : List Runs) (old new : List ℕ) → tale ≡ [] → AtSeats (λ seat. RanJust plan (broken_at seat tale) (started_by seat tale)) before now → IsFront old new → RanPrinted plan tale before now old new
 said_nothing plan tale before now old new none ran g = record {
   front = tale;
   back = [];
@@ -205,27 +202,31 @@ module _ (plan : Plan) (first kept fault : Option RunFault) (from old mid new : 
   new_alone : IsAlone ((r.on ++ entry ∷ []) ++ last ∷ [])
   new_alone = alone_then (r.on ++ entry ∷ []) (last ∷ []) mid_alone (alone_one last refl)
 
+  abbrev broke : Option ℕ
+  broke = broken_at 0 new
+
   -- the scripts that ran, with this one
-  with_run : (h : Option Halt) → ScriptsSoFar plan h (started_by 0 mid) (r.runs ++ run ∷ [])
+  with_run : (h : Option Halt) → ScriptsSoFar plan h broke (started_by 0 mid) (r.runs ++ run ∷ [])
   with_run None = subst (λ (ts : List ℕ). AllScripts plan ts (r.runs ++ run ∷ [])) (sym mid_started) (scripts_then plan (started_by 0 r.front) (t ∷ []) r.runs (run ∷ []) r.these (script, tt))
-  with_run (Some h) = subst (λ (ts : List ℕ). RanScripts plan ts (r.runs ++ run ∷ [])) (sym mid_started) (scripts_last plan (started_by 0 r.front) (t ∷ []) r.runs (run ∷ []) r.these (script, tt))
+  with_run (Some h) = subst (λ (ts : List ℕ). RanScripts plan broke ts (r.runs ++ run ∷ [])) (sym mid_started) (scripts_last plan broke (started_by 0 r.front) (t ∷ []) r.runs (run ∷ []) r.these (script, tt))
 
   -- or without it
-  with_none : (h : Option Halt) → IsSome h → ScriptsSoFar plan h (started_by 0 mid) r.runs
-  with_none None some = absurd (false≢true some)
-  with_none (Some h) some =
-      subst (λ (ts : List ℕ). RanScripts plan ts r.runs) (sym mid_started) (subst (λ (runs : Runs). RanScripts plan (started_by 0 r.front ++ t ∷ []) runs) (append-nil r.runs) (scripts_last plan (started_by 0 r.front) (t ∷ []) r.runs [] r.these refl))
+  with_none : (h : Option Halt) → BrokeOff t h (own 0 new) → ScriptsSoFar plan h broke (started_by 0 mid) r.runs
+  with_none None off = absurd (false≢true off.0)
+  with_none (Some h) off =
+      subst (λ (ts : List ℕ). RanScripts plan broke ts r.runs) (sym mid_started)
+      (subst (λ (runs : Runs). RanScripts plan broke (started_by 0 r.front ++ t ∷ []) runs) (append-nil r.runs) (scripts_last plan broke (started_by 0 r.front) (t ∷ []) r.runs [] r.these (refl, off.1)))
 
   record RanSo : Type 0 where
     pub runs : Runs
     pub ran : after ≡ before ++ runs
-    pub these : ScriptsSoFar plan halt (started_by 0 mid) runs
+    pub these : ScriptsSoFar plan halt broke (started_by 0 mid) runs
 
-  ran_so : (after ≡ now ++ run ∷ []) ⊎ ((after ≡ now) × IsSome halt) → RanSo
+  ran_so : (after ≡ now ++ run ∷ []) ⊎ ((after ≡ now) × BrokeOff t halt (own 0 new)) → RanSo
   ran_so (inl did) = record { runs = r.runs ++ run ∷ []; ran = did ∙ ap (λ (l : Runs). l ++ run ∷ []) r.ran ∙ append_assoc before r.runs (run ∷ []); these = with_run halt }
   ran_so (inr none) = record { runs = r.runs; ran = none.0 ∙ r.ran; these = with_none halt none.1 }
 
-  pub said_job : (after ≡ now ++ run ∷ []) ⊎ ((after ≡ now) × IsSome halt) → (IsSome kept → IsSome halt × (after ≡ now)) → (kept ≡ None → a ≡ base ++ tale_text plan.tasks old → m ≡ base ++ tale_text plan.tasks mid) → (kept ≡ None → fault ≡ None → m ≡ base ++ tale_text plan.tasks mid → b ≡ base ++ tale_text plan.tasks new)
+  pub said_job : (after ≡ now ++ run ∷ []) ⊎ ((after ≡ now) × BrokeOff t halt (own 0 new)) → (IsSome kept → IsSome halt × (after ≡ now)) → (kept ≡ None → a ≡ base ++ tale_text plan.tasks old → m ≡ base ++ tale_text plan.tasks mid) → (kept ≡ None → fault ≡ None → m ≡ base ++ tale_text plan.tasks mid → b ≡ base ++ tale_text plan.tasks new)
       → RanSaid plan halt fault from new before after base b
   said_job ran unheard says says_new = by kept refl
     where
@@ -266,7 +267,7 @@ module _ (plan : Plan) (first kept fault : Option RunFault) (from old mid new : 
         alone = new_alone;
         runs = so.runs;
         ran = so.ran;
-        these = subst (λ (ts : List ℕ). ScriptsSoFar plan halt ts so.runs) new_started so.these;
+        these = subst (λ (ts : List ℕ). ScriptsSoFar plan halt broke ts so.runs) new_started so.these;
         rest = [];
         is = says_new none faultless_now (mid_text none) ∙ ap (λ (l : List ℕ). base ++ l) (sym (append-nil (tale_text plan.tasks new)));
         whole = λ goes none. (refl, refl);

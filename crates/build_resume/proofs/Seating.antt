@@ -1,44 +1,47 @@
 -- Which seats marked what in a tale.
-use Rattle.std.proofs.Common.{◌≡◌, ◌≢◌, ◌∙◌, sym, ap, refl, ℕ, zero, suc, Bool, true, List, [], ◌∷◌, ◌++◌, Some, inl, inr}
-use Rattle.std.specs.Prelude.{◌⊎◌, ◌==◌, ◌||◌, false, if◌then◌else◌}
+use Rattle.std.proofs.Common.{◌≡◌, ◌≢◌, ◌∙◌, sym, ap, refl, ℕ, zero, suc, Bool, true, List, [], ◌∷◌, ◌++◌, Some, None, inl, inr}
+use Rattle.std.specs.Prelude.{◌⊎◌, ◌==◌, ◌||◌, Option, false, fold}
 use Rattle.std.specs.List.{slice_get}
-use Rattle.std.proofs.lemmas.Bool.Decides.{eqb_tells}
 use Rattle.std.proofs.lemmas.List.Elements.{filter-append}
+use Rattle.std.proofs.lemmas.List.Sums.{fold_push}
 use Rattle.std.proofs.lemmas.Option.{none-some, same_Some}
 use Rattle.meta_model.specs.declared.event.Event.{Event}
-use Rattle.meta_model.specs.declared.event.Event.TheVariants as events
 use Rattle.meta_model.specs.declared.event.Logged.{Logged}
-use Rattle.run_workers.specs.Runs.{started_in}
+use Rattle.run_queue.specs.Turns.{Marks}
+use Rattle.run_workers.specs.Runs.{broken_by, broken_off, started_in}
 use Rattle.run_workers.specs.Told.{own}
 use Rattle.run_workers.specs.Worked.{is_bench_break}
-use Rattle.build_resume.specs.Benches.{BreaksBench, SomeBreak, started_by}
+use Rattle.run_workers.proofs.Working.{started_split as in_split}
+use Rattle.build_resume.specs.Benches.{BreaksBench, SomeBreak, broken_at, started_by}
 use Rattle.build_resume.specs.Ends.{bench_broke}
 use Rattle.std.proofs.lemmas.Bool.{false≢true}
 use Rattle.build_resume.specs.Drive.{IsAlone}
 
 -- ---- what a seat started
 
-in_split : (one other : List Logged) → started_in (one ++ other) ≡ started_in one ++ started_in other
-in_split [] other = refl
-in_split (e ∷ one) other = by e.event (in_split one other)
-  where
-    by : (x : Event) → started_in (one ++ other) ≡ started_in one ++ started_in other → started_in (record e { event = x } ∷ (one ++ other)) ≡ started_in (record e { event = x } ∷ one) ++ started_in other
-    by (events.Found t) rest = rest
-    by (events.Restored t) rest = rest
-    by (events.Started t seat) rest = ap (λ l. t ∷ l) rest
-    by (events.Ended t) rest = rest
-    by (events.Failed t w) rest = rest
-    by (events.Broke t c) rest = rest
+-- the entries of a seat in two lists
+pub own_split : (seat : ℕ) (one other : List Logged) → own seat (one ++ other) ≡ own seat one ++ own seat other
+own_split seat one other = filter-append (λ (e : Logged). e.seat == seat) one other
 
 pub started_split : (seat : ℕ) (one other : List Logged) → started_by seat (one ++ other) ≡ started_by seat one ++ started_by seat other
-started_split seat one other = ap started_in (filter-append (λ (e : Logged). e.seat == seat) one other) ∙ in_split (own seat one) (own seat other)
+started_split seat one other = ap started_in (own_split seat one other) ∙ in_split (own seat one) (own seat other)
 
--- an entry of seat 0 is none of another one
-other_none : (seat : ℕ) (e : Logged) → e.seat ≡ 0 → seat ≢ 0 → own seat (e ∷ []) ≡ []
-other_none seat e zero_seat other = elim (eqb_tells e.seat seat) [
-  | inl same ↦ absurd (other (sym same.1 ∙ zero_seat))
-  | inr ne ↦ ap (λ (b : Bool). if b then e ∷ [] else []) ne.0
-]
+-- ---- the task that broke off at the end
+
+-- by entries that stand behind others
+off_behind : (before : Option ℕ) (one other : List Logged) (t : ℕ) → broken_off other ≡ Some t → fold (λ before entry. broken_by entry.event) before (one ++ other) ≡ Some t
+off_behind before [] [] t off = let n : None ≡ Some t = off in cc
+off_behind before [] (e ∷ other) t off = off
+off_behind before (e ∷ one) other t off = off_behind (broken_by e.event) one other t off
+
+pub broken_behind : (seat : ℕ) (one other : List Logged) (t : ℕ) → broken_at seat other ≡ Some t → broken_at seat (one ++ other) ≡ Some t
+broken_behind seat one other t off = ap broken_off (own_split seat one other) ∙ off_behind None (own seat one) (own seat other) t off
+
+-- by the event that seat 0 marked last
+pub broken_marked : (event : Event) (old new : List Logged) → Marks 0 event old new → broken_at 0 new ≡ broken_by event
+broken_marked event old new m =
+    let e : Logged = record { event = event; seat = 0; moment = m.moment } in
+    ap (broken_at 0) m.is ∙ ap broken_off (own_split 0 old (e ∷ [])) ∙ fold_push (λ before entry. broken_by entry.event) None (own 0 old) e
 
 -- ---- places in two lists
 
@@ -55,17 +58,13 @@ only_entry e x (suc k) at = absurd (none-some x at)
 -- ---- events that only seat 0 marked
 
 pub alone_nil : IsAlone []
-alone_nil = record { starts = λ seat other. refl; seats = λ place entry at. absurd (none-some entry at) }
+alone_nil = record { seats = λ place entry at. absurd (none-some entry at) }
 
 pub alone_one : (e : Logged) → e.seat ≡ 0 → IsAlone (e ∷ [])
-alone_one e zero_seat = record {
-  starts = λ seat other. ap started_in (other_none seat e zero_seat other);
-  seats = λ place entry at. ap (λ (l : Logged). l.seat) (sym (only_entry e entry place at)) ∙ zero_seat;
-}
+alone_one e zero_seat = record { seats = λ place entry at. ap (λ (l : Logged). l.seat) (sym (only_entry e entry place at)) ∙ zero_seat }
 
 pub alone_then : (one other : List Logged) → IsAlone one → IsAlone other → IsAlone (one ++ other)
 alone_then one other a b = record {
-  starts = λ seat ne. started_split seat one other ∙ ap (λ (l : List ℕ). l ++ started_by seat other) (a.starts seat ne) ∙ b.starts seat ne;
   seats = λ place entry at. elim (split_place one other place entry at) [
     | inl first ↦ a.seats place entry first
     | inr later ↦ b.seats later.0 entry later.1

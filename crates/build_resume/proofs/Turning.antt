@@ -210,20 +210,21 @@ module _ {D W : Type 0} (old mid new : RunView D W) (t : ℕ) (same : mid.plan �
 
 -- ---- what ran
 
-pub all_these : (gives : Gives) (plan : Plan) (ts : List ℕ) (runs : List (List ℕ × Entries)) → AllRan gives plan ts runs → RanThese gives plan ts runs
-all_these gives plan [] [] all = tt
-all_these gives plan [] (r ∷ runs) all = absurd all
-all_these gives plan (t ∷ ts) [] all = absurd all
-all_these gives plan (t ∷ ts) (r ∷ runs) all = (all.0, all_these gives plan ts runs all.1)
-
 pub all_then : (gives : Gives) (plan : Plan) (ts more : List ℕ) (runs last : List (List ℕ × Entries)) → AllRan gives plan ts runs → AllRan gives plan more last → AllRan gives plan (ts ++ more) (runs ++ last)
 all_then gives plan [] more [] last all rest = rest
 all_then gives plan [] more (r ∷ runs) last all rest = absurd all
 all_then gives plan (t ∷ ts) more [] last all rest = absurd all
 all_then gives plan (t ∷ ts) more (r ∷ runs) last all rest = (all.0, all_then gives plan ts more runs last all.1 rest)
 
-pub these_then : (gives : Gives) (plan : Plan) (ts more : List ℕ) (runs last : List (List ℕ × Entries)) → AllRan gives plan ts runs → RanThese gives plan more last → RanThese gives plan (ts ++ more) (runs ++ last)
-these_then gives plan [] more [] last all rest = rest
-these_then gives plan [] more (r ∷ runs) last all rest = absurd all
-these_then gives plan (t ∷ ts) more [] last all rest = absurd all
-these_then gives plan (t ∷ ts) more (r ∷ runs) last all rest = (all.0, these_then gives plan ts more runs last all.1 rest)
+pub these_then : (gives : Gives) (plan : Plan) (broke : Option ℕ) (ts more : List ℕ) (runs last : List (List ℕ × Entries)) → AllRan gives plan ts runs → RanThese gives plan broke more last → RanThese gives plan broke (ts ++ more) (runs ++ last)
+these_then gives plan broke [] more [] last all rest = rest
+these_then gives plan broke [] more (r ∷ runs) last all rest = absurd all
+these_then gives plan broke (t ∷ ts) more [] last all rest = absurd all
+these_then gives plan broke (t ∷ ts) more (r ∷ runs) last all rest = (all.0, these_then gives plan broke ts more runs last all.1 rest)
+
+-- by a tale that tells of the same task that it broke off
+pub these_still : (gives : Gives) (plan : Plan) (broke now : Option ℕ) (ts : List ℕ) (runs : List (List ℕ × Entries)) → ((t : ℕ) → broke ≡ Some t → now ≡ Some t) → RanThese gives plan broke ts runs → RanThese gives plan now ts runs
+these_still gives plan broke now [] [] still ran = tt
+these_still gives plan broke now [] (r ∷ runs) still ran = absurd ran
+these_still gives plan broke now (t ∷ ts) [] still ran = (ran.0, still t ran.1)
+these_still gives plan broke now (t ∷ ts) (r ∷ runs) still ran = (ran.0, these_still gives plan broke now ts runs still ran.1)

@@ -18,7 +18,7 @@ use Rattle.run_workers.specs.Runs.{RanScripts, RanThese, Runs, started_in}
 use Rattle.meta_model.specs.CleanBuild.{Gives}
 use Rattle.run_workers.specs.Told.{own}
 use Rattle.run_workers.specs.Worked.{Breaks, NoneBroke, RanPrinted, is_bench_break, is_break}
-use Rattle.build_resume.specs.Benches.{AtWorkers, BreaksBench, BreaksByFault, HasSeats, started_by}
+use Rattle.build_resume.specs.Benches.{AtWorkers, BreaksBench, BreaksByFault, HasSeats, broken_at, started_by}
 use Rattle.build_resume.specs.Build.{RanJust, RanStarted}
 use Rattle.build_resume.specs.Drive.{IsAlone, SaidByWorkers}
 
@@ -170,7 +170,7 @@ drop_all (e ∷ tale) = drop_all tale
 
 pub said_by_workers : {B : Type 0} (runs : B → Runs) (plan : Plan) (fault : Option RunFault) (tale : List Logged) (before now : List B) (base written : List ℕ) (failed : Bool) (n count : ℕ) → HasSeats count tale → length now ≡ length before
     → IsFront (base ++ tale_text plan.tasks (take n tale)) written
-    → ((k : ℕ) (old new : B) → slice_get before k ≡ Some old → slice_get now k ≡ Some new → RanPrinted plan (own (k + 1) (take n tale)) (runs old) (runs new))
+    → ((k : ℕ) (old new : B) → slice_get before k ≡ Some old → slice_get now k ≡ Some new → RanPrinted plan (own (k + 1) tale) (own (k + 1) (take n tale)) (runs old) (runs new))
     → (fault ≡ None → n ≡ length tale) → (fault ≡ None → failed ≡ false) → Prints base written (tale_text plan.tasks tale) failed
     → SaidByWorkers runs plan fault tale before now base written
 said_by_workers runs plan fault tale before now base written failed n count has long front each all stands prints = record {
@@ -205,18 +205,18 @@ front_has n tale front back cut has place entry at = has place entry (subst (λ 
     first (x ∷ l) (suc k) e = first l k e
 
 -- a seat behind the last one ran nothing
-just_behind : (plan : Plan) (n : ℕ) (tale : List Logged) (runs : Runs) → HasSeats n tale → RanJust plan (started_by (n + 1) tale) runs runs
-just_behind plan n tale runs has = record {
+just_behind : (plan : Plan) (broke : Option ℕ) (n : ℕ) (tale : List Logged) (runs : Runs) → HasSeats n tale → RanJust plan broke (started_by (n + 1) tale) runs runs
+just_behind plan broke n tale runs has = record {
   runs = [];
   ran = sym (append-nil runs);
-  these = subst (λ (l : List ℕ). RanScripts plan l []) (sym (none_behind n (n + 1) tale (omega arith) has)) tt;
+  these = subst (λ (l : List ℕ). RanScripts plan broke l []) (sym (none_behind n (n + 1) tale (omega arith) has)) tt;
 }
 
 pub ran_behind : (gives : Gives) (plan : Plan) (n : ℕ) (tale : List Logged) (runs : Runs) → HasSeats n tale → RanStarted gives plan tale (n + 1) runs runs
 ran_behind gives plan n tale runs has = record {
   runs = [];
   ran = sym (append-nil runs);
-  these = subst (λ (l : List ℕ). RanThese gives plan l []) (sym (none_behind n (n + 1) tale (omega arith) has)) tt;
+  these = subst (λ (l : List ℕ). RanThese gives plan (broken_at (n + 1) tale) l []) (sym (none_behind n (n + 1) tale (omega arith) has)) tt;
 }
 
 -- what was printed is as it was where one bench more has no worker
@@ -226,7 +226,7 @@ said_pushed runs plan fault tale before now old new x base written was is has sa
   front = said.front;
   back = said.back;
   cut = said.cut;
-  ran = workers_pushed (λ seat a b. RanJust plan (started_by seat said.front) (runs a) (runs b)) before now old new x was is said.ran (just_behind plan (length before) said.front (runs x) (front_has (length before) tale said.front said.back said.cut has));
+  ran = workers_pushed (λ seat a b. RanJust plan (broken_at seat tale) (started_by seat said.front) (runs a) (runs b)) before now old new x was is said.ran (just_behind plan (broken_at (length before + 1) tale) (length before) said.front (runs x) (front_has (length before) tale said.front said.back said.cut has));
   none = said.none;
   rest = said.rest;
   is = said.is;

@@ -1,9 +1,9 @@
 -- What the benches of a run did, each by its seat.
-use Rattle.std.specs.Prelude.{◌≡◌, ◌<◌, ◌≤◌, ◌+◌, ℕ, true, List, [], ◌∷◌, ◌++◌, Some, length, slice_index}
+use Rattle.std.specs.Prelude.{◌≡◌, ◌<◌, ◌≤◌, ◌+◌, ℕ, true, List, [], ◌∷◌, ◌++◌, Option, Some, length, slice_index}
 use Rattle.std.specs.List.{slice_get}
 use Rattle.outside_traits.specs.Fault.{Rose}
 use Rattle.meta_model.specs.declared.event.Logged.{Logged}
-use Rattle.run_workers.specs.Runs.{started_in}
+use Rattle.run_workers.specs.Runs.{broken_off, started_in}
 use Rattle.run_workers.specs.Told.{own}
 use Rattle.run_workers.specs.Worked.{is_bench_break}
 
@@ -33,6 +33,10 @@ SomeRose before now = (k : ℕ) × (k < length before) × Rose (slice_index befo
 -- the tasks that a seat started, in order
 abbrev pub started_by : ℕ → List Logged → List ℕ
 started_by seat tale = started_in (own seat tale)
+
+-- the task of a seat that broke off by the last entry of that seat, if that says so
+abbrev pub broken_at : ℕ → List Logged → Option ℕ
+broken_at seat tale = broken_off (own seat tale)
 
 -- each entry of a tale is of a worker's seat, up to this number
 abbrev pub HasSeats : ℕ → List Logged → Type 0

@@ -1,5 +1,5 @@
 -- What a run of a plan leaves.
-use Rattle.std.specs.Prelude.{◌≡◌, ◌≢◌, ◌⊎◌, ◌<◌, ◌+◌, ◌-◌, ◌^◌, ℕ, Bool, true, false, List, [], ◌∷◌, ◌++◌, take, Contains, Some, Ok, Err}
+use Rattle.std.specs.Prelude.{◌≡◌, ◌≢◌, ◌⊎◌, ◌<◌, ◌+◌, ◌-◌, ◌^◌, ℕ, Bool, true, false, List, [], ◌∷◌, ◌++◌, take, Contains, Option, Some, Ok, Err}
 use Rattle.std.specs.List.{slice_get, AllByRecursion}
 use Rattle.sha2.specs.Sha256.{sha256}
 use Rattle.tree_model.specs.Path.{IsAtOrBelow}
@@ -38,7 +38,7 @@ use Rattle.run_queue.specs.Stands.{AllStand, HasStarted, IsHonest, IsTakenUp}
 use Rattle.run_workers.specs.Runs.{RanScripts, Runs}
 use Rattle.run_workers.specs.Told.{own}
 use Rattle.run_workers.specs.Worked as worked
-use Rattle.build_resume.specs.Benches.{AtSeats, started_by}
+use Rattle.build_resume.specs.Benches.{AtSeats, broken_at, started_by}
 use Rattle.build_resume.specs.Ends.{is_faultless}
 
 -- What is asked of a run: the plan is sound; what the disk holds is valid with a book of lines that can be read again, and has folders
@@ -98,25 +98,27 @@ pub record HasRun (gives : Gives) (reading : Reading) (book : Book) (held : Stor
 
 -- ---- the bench runs
 
--- the bench of a seat ran what that seat started
+-- The bench of a seat ran what that seat started. Only the last of these tasks may have no run, where the last entry of the seat is that it
+-- broke off.
 abbrev pub RanStarted : Gives → Plan → List Logged → ℕ → Runs → Runs → Type 0
 RanStarted gives plan tale seat before now = worked.RanStarted gives plan (own seat tale) before now
 
 -- ---- what ran was printed
 
--- the bench ran just the scripts of these tasks
-pub record RanJust (plan : Plan) (tasks : List ℕ) (before now : Runs) : Type 0 where
+-- The bench ran just the scripts of these tasks. Only the last one may have no run, and only where it is the one that broke off.
+pub record RanJust (plan : Plan) (broke : Option ℕ) (tasks : List ℕ) (before now : Runs) : Type 0 where
   pub runs : Runs
   pub ran : now ≡ before ++ runs
-  pub these : RanScripts plan tasks runs
+  pub these : RanScripts plan broke tasks runs
 
 -- What ran had been printed: each bench ran the scripts of just those tasks that its seat starts in a front of the tale, and behind what was
--- written before the run the lines of that front stand whole.
+-- written before the run the lines of that front stand whole. Only the last one of a seat may have no run, where the last entry of the seat
+-- in the whole tale is that it broke off.
 pub record RanPrinted (plan : Plan) (tale : List Logged) (before now : List Runs) (old new : List ℕ) : Type 0 where
   pub front : List Logged
   pub back : List Logged
   pub cut : tale ≡ front ++ back
-  pub ran : AtSeats (λ seat. RanJust plan (started_by seat front)) before now
+  pub ran : AtSeats (λ seat. RanJust plan (broken_at seat tale) (started_by seat front)) before now
   pub rest : List ℕ
   pub written : new ≡ old ++ (tale_text plan.tasks front ++ rest)
 
@@ -205,7 +207,8 @@ pub record Leaves (gives : Gives) (reading : Reading) (book : Book) (held : Stor
   pub real : (t : ℕ) → Contains (failed_in tale) t → FailsClean gives plan t
   -- and with `-k` each task that fails by itself in the clean build is told
   pub all_told : AreWanted plan → s ≡ status.TaskFailed → options.keep_going ≡ true → IsEachFailureTold gives plan tale
-  -- each bench ran the tasks that its seat started, each over the clean outputs of what it needs
+  -- each bench ran the tasks that its seat started, each over the clean outputs of what it needs, but for maybe the last one, where the last
+  -- entry of the seat is that it broke off
   pub ran : AtSeats (RanStarted gives plan tale) before now
 
 -- ---- how a run may end

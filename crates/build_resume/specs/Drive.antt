@@ -17,12 +17,11 @@ use Rattle.run_workers.specs.declared.worker.Halt.{Halt}
 use Rattle.run_workers.specs.declared.worker.Halt.TheVariants as halts
 use Rattle.run_workers.specs.Runs.{RanSoFar, Runs, ScriptsSoFar, by_bench}
 use Rattle.run_workers.specs.Worked.{is_bench_break}
-use Rattle.build_resume.specs.Benches.{AtWorkers, BreaksBench, BreaksByFault, started_by}
+use Rattle.build_resume.specs.Benches.{AtWorkers, BreaksBench, BreaksByFault, broken_at, started_by}
 use Rattle.build_resume.specs.Build.{RanJust, RanStarted}
 
 -- events that only seat 0 marked
 pub record IsAlone (more : List Logged) : Type 0 where
-  pub starts : (seat : ℕ) → seat ≢ 0 → started_by seat more ≡ []
   pub seats : (place : ℕ) (entry : Logged) → slice_get more place ≡ Some entry → entry.seat ≡ 0
 
 -- A tale that seat 0 went on with. A task broke off since its bench failed only where that was the last turn.
@@ -32,13 +31,13 @@ pub record Grows (halt : Option Halt) (old new : List Logged) : Type 0 where
   pub alone : IsAlone more
   pub breaks : BreaksBench 0 more → by_bench halt ≡ true
 
--- What a run did: its tale went on, and the bench ran what was started.
+-- What a run did: its tale went on, and the bench ran what was started, but where it halted for maybe the last one, if that broke off.
 pub record Drove (gives : Gives) (plan : Plan) (halt : Option Halt) (old new : List Logged) (before now : Runs) : Type 0 where
   pub more : List Logged
   pub tale : new ≡ old ++ more
   pub runs : Runs
   pub ran : now ≡ before ++ runs
-  pub these : RanSoFar gives plan halt (started_by 0 more) runs
+  pub these : RanSoFar gives plan halt (broken_at 0 more) (started_by 0 more) runs
 
 -- What ran so far had been printed, as far as a front of the tale, which goes on from the front as it was at first. Where the run goes on
 -- and no fault is kept that is the whole tale, and nothing else was written.
@@ -51,7 +50,7 @@ pub record RanSaid (plan : Plan) (halt : Option Halt) (fault : Option RunFault) 
   pub alone : IsAlone on
   pub runs : Runs
   pub ran : now ≡ before ++ runs
-  pub these : ScriptsSoFar plan halt (started_by 0 front) runs
+  pub these : ScriptsSoFar plan halt (broken_at 0 tale) (started_by 0 front) runs
   pub rest : List ℕ
   pub is : written ≡ base ++ (tale_text plan.tasks front ++ rest)
   pub whole : halt ≡ None → fault ≡ None → (back ≡ []) × (rest ≡ [])
@@ -62,7 +61,7 @@ pub record SaidByWorkers {B : Type 0} (runs : B → Runs) (plan : Plan) (fault :
   pub front : List Logged
   pub back : List Logged
   pub cut : tale ≡ front ++ back
-  pub ran : AtWorkers (λ seat old new. RanJust plan (started_by seat front) (runs old) (runs new)) before now
+  pub ran : AtWorkers (λ seat old new. RanJust plan (broken_at seat tale) (started_by seat front) (runs old) (runs new)) before now
   pub none : started_by 0 front ≡ []
   pub rest : List ℕ
   pub is : written ≡ base ++ (tale_text plan.tasks front ++ rest)
@@ -76,7 +75,7 @@ pub record SaidTo (plan : Plan) (from tale : List Logged) (before now : Runs) (b
   pub on : List Logged
   pub goes : front ≡ from ++ on
   pub alone : IsAlone on
-  pub ran : RanJust plan (started_by 0 front) before now
+  pub ran : RanJust plan (broken_at 0 tale) (started_by 0 front) before now
   pub rest : List ℕ
   pub written_is : written ≡ base ++ (tale_text plan.tasks front ++ rest)
 

@@ -4,3 +4,4 @@ pub mod Drive
 pub mod Ends
 pub mod Laws
 pub mod Outcome
+pub mod Worked

@@ -9,6 +9,8 @@ ghost use Rattle.run_queue.specs.Seen.{seen};
 ghost use Rattle.run_queue.specs.Keeps.{IsRun, IsSteady, KeepsCount, KeepsFront, PrintsOn};
 ghost use Rattle.run_queue.specs.Turns.{IsCleanJob, RunsUnder, SameRun, fates_of};
 ghost use Rattle.run_workers.specs.Runs.{Runs, by_bench};
+ghost use Rattle.run_workers.specs.Told.{own};
+ghost use Rattle.run_workers.specs.Worked.{BrokeOff};
 ghost use Rattle.build_resume.specs.Drive.{Closes, Drove, GoesOnBehind, Grows, IsHalted, RanSaid, left_over};
 
 use meta_model::Cut;
@@ -39,7 +41,8 @@ fn do_claimed<D: Disk, B: Bench, W: Sink>(
     ensures stays { W.tells → KeepsFront W.written state.old state.new }
     ensures gives { B.gives bench.new ≡ B.gives bench.old }
     ensures ran { B.tells → ((B.place bench.new).runs ≡ ran_job (B.place bench.old).runs job)
-        ⊎ (((B.place bench.new).runs ≡ (B.place bench.old).runs) × IsSome result) }
+        ⊎ (((B.place bench.new).runs ≡ (B.place bench.old).runs)
+        × BrokeOff job.task result (own 0 state.new.tale)) }
     ensures unheard { IsSome state.old.fault → IsSome result
         × (B.tells → (B.place bench.new).runs ≡ (B.place bench.old).runs) }
     ensures cause { Counts (B.faults bench.old) (B.faults bench.new) (by_bench result) }

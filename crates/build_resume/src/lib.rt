@@ -15,7 +15,8 @@
 //!   just there where no device failed, memory wasn't wanting and no two signatures have one digest (the clause `exactly`);
 //! - `TaskFailed` comes only where a told task fails by itself in the clean build (`real`), and `Unsteady` never (`steady`);
 //! - the tale is legal over the store as it was opened, and what it settled stands (`legal`);
-//! - each bench runs the scripts of the tasks that its seat starts, each over the clean outputs of what it needs (`ran`).
+//! - each bench runs the scripts of the tasks that its seat starts, each over the clean outputs of what it needs; only the last one may have
+//!   no run, where the seat marked last that it broke off (`ran`).
 //!
 //! Whatever the disk tells, the benches run the scripts of just those tasks whose start had been printed (`printed`): where the sink fails at
 //! the line of a start, the task breaks off. Ok comes only where the tale leaves nothing to do and no task failed (`told`).
@@ -27,6 +28,7 @@
 
 mod drive;
 mod ending;
+mod examples;
 mod laws;
 mod running;
 mod workers;

@@ -18,7 +18,7 @@ use Rattle.turn_lock.specs.Views.{entries_of, numbered, records_of}
 use Rattle.run_workers.specs.declared.shared.Told.{Told}
 use Rattle.run_workers.specs.declared.worker.Halt.{Halt}
 use Rattle.run_workers.specs.Left.{AllDid, IsLeft}
-use Rattle.run_workers.specs.Runs.{RanScripts, RanSoFar, RanThese, Runs, ScriptsSoFar, by_bench, started_in}
+use Rattle.run_workers.specs.Runs.{RanScripts, RanSoFar, RanThese, Runs, ScriptsSoFar, broken_off, by_bench, started_in}
 use Rattle.run_workers.specs.Told.{logged_in, own, printed_in, told}
 use Rattle.run_workers.specs.Worked.{AllWorked, Breaks, Did, IsJoined, Worked}
 use Rattle.run_workers.proofs.Sinces.{lines_first, since_first}
@@ -62,16 +62,20 @@ module _ {B : Type 0} (dt bt alike : Type 0) (place : B → Workplace) (gives_of
         | inr one ↦ inr (one.0, one.1, tt, λ is. rose_of (faults old) (faults new) (by_bench halt) w.cause (one.3 is))
       ];
     });
-    ran = λ t u o e r. let m = w.ran t u o e r in record { runs = m.runs; ran = m.ran; these = subst (λ l. RanThese gives first.plan (started_in l) m.runs) logged (ran_by halt (started_in (logged_in mine)) m.runs m.these) };
-    said = λ t. let m = w.said t in record { runs = m.runs; ran = m.ran; these = subst (λ l. RanScripts first.plan (started_in l) m.runs) said (said_by halt (started_in (printed_in mine)) m.runs m.these) };
+    ran = λ t u o e r. let m = w.ran t u o e r in record { runs = m.runs; ran = m.ran; these = subst (λ l. RanThese gives first.plan (broken_off l) (started_in l) m.runs) logged (ran_by halt (started_in (logged_in mine)) m.runs m.these) };
+    said = λ t. let m = w.said t in record {
+      runs = m.runs;
+      ran = m.ran;
+      these = subst (λ l. RanScripts first.plan (broken_off l) (started_in (own n (take printed tale))) m.runs) logged (subst (λ l. RanScripts first.plan (broken_off (logged_in mine)) (started_in l) m.runs) said (said_by halt (started_in (printed_in mine)) m.runs m.these));
+    };
   }
     where
-      ran_by : (h : Option Halt) (ts : List ℕ) (runs : Runs) → RanSoFar gives first.plan h ts runs → RanThese gives first.plan ts runs
-      ran_by None ts runs all = ran_all gives first.plan ts runs all
+      ran_by : (h : Option Halt) (ts : List ℕ) (runs : Runs) → RanSoFar gives first.plan h (broken_off (logged_in mine)) ts runs → RanThese gives first.plan (broken_off (logged_in mine)) ts runs
+      ran_by None ts runs all = ran_all gives first.plan (broken_off (logged_in mine)) ts runs all
       ran_by (Some h) ts runs these = these
 
-      said_by : (h : Option Halt) (ts : List ℕ) (runs : Runs) → ScriptsSoFar first.plan h ts runs → RanScripts first.plan ts runs
-      said_by None ts runs all = said_all first.plan ts runs all
+      said_by : (h : Option Halt) (ts : List ℕ) (runs : Runs) → ScriptsSoFar first.plan h (broken_off (logged_in mine)) ts runs → RanScripts first.plan (broken_off (logged_in mine)) ts runs
+      said_by None ts runs all = said_all first.plan (broken_off (logged_in mine)) ts runs all
       said_by (Some h) ts runs these = these
 
 module _ {D B W : Type 0} (dt bt wt alike : Type 0) (story : D → Story) (place : B → Workplace) (gives_of : B → Gives) (bench_faults : B → ℕ) (written : W → List ℕ) (faults : W → ℕ) (first : Seen) (count : ℕ) (gives : Gives) where

@@ -4,7 +4,7 @@ mod Handing
 mod Turning
 mod Idle
 mod Records
-mod Working
+pub mod Working
 mod Spreading
 mod Leaving
 mod Picking

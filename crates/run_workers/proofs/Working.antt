@@ -19,10 +19,10 @@ use Rattle.run_queue.specs.Seen.{Seen}
 use Rattle.run_queue.specs.Turns.{IsCleanJob}
 use Rattle.run_workers.specs.declared.shared.Told.{Told}
 use Rattle.run_workers.specs.declared.worker.Halt.{Halt}
-use Rattle.run_workers.specs.Runs.{AllRan, AllScripts, IsRunOf, IsScriptOf, RanScripts, RanSoFar, RanThese, Runs, ScriptsSoFar, by_bench, started_in}
+use Rattle.run_workers.specs.Runs.{AllRan, AllScripts, IsRunOf, IsScriptOf, RanScripts, RanSoFar, RanThese, Runs, ScriptsSoFar, broken_off, by_bench, started_in}
 use Rattle.run_workers.specs.Seats.{AddsBy, HoldsNone}
 use Rattle.run_workers.specs.Told.{logged_in, printed_in}
-use Rattle.run_workers.specs.Worked.{Breaks, Closes, NoneBroke, RanMine, RanOnce, SaidMine, Worked, is_break, is_bench_break}
+use Rattle.run_workers.specs.Worked.{Breaks, BrokeOff, Closes, NoneBroke, RanMine, RanOnce, SaidMine, Worked, is_break, is_bench_break}
 use Rattle.run_workers.proofs.Records.{none_added, none_first}
 use Rattle.run_workers.proofs.Telling.{logged_split, printed_split}
 
@@ -60,11 +60,11 @@ quiet_says e quiet = by e.printed
     by false = refl
 
 module _ (gives : Gives) (plan : Plan) where
-  pub ran_all : (ts : List ℕ) (runs : Runs) → AllRan gives plan ts runs → RanThese gives plan ts runs
-  ran_all [] [] all = tt
-  ran_all [] (r ∷ runs) all = absurd all
-  ran_all (t ∷ ts) [] all = absurd all
-  ran_all (t ∷ ts) (r ∷ runs) all = (all.0, ran_all ts runs all.1)
+  pub ran_all : (broke : Option ℕ) (ts : List ℕ) (runs : Runs) → AllRan gives plan ts runs → RanThese gives plan broke ts runs
+  ran_all broke [] [] all = tt
+  ran_all broke [] (r ∷ runs) all = absurd all
+  ran_all broke (t ∷ ts) [] all = absurd all
+  ran_all broke (t ∷ ts) (r ∷ runs) all = (all.0, ran_all broke ts runs all.1)
 
   ran_one : (ts : List ℕ) (t : ℕ) (runs : Runs) (run : List ℕ × Entries) → AllRan gives plan ts runs → IsRunOf gives plan t run → AllRan gives plan (ts ++ t ∷ []) (runs ++ run ∷ [])
   ran_one [] t [] run all is = (is, tt)
@@ -72,27 +72,27 @@ module _ (gives : Gives) (plan : Plan) where
   ran_one (u ∷ ts) t [] run all is = absurd all
   ran_one (u ∷ ts) t (r ∷ runs) run all is = (all.0, ran_one ts t runs run all.1 is)
 
-  ran_none : (ts : List ℕ) (t : ℕ) (runs : Runs) → AllRan gives plan ts runs → RanThese gives plan (ts ++ t ∷ []) runs
-  ran_none [] t [] all = refl
+  ran_none : (ts : List ℕ) (t : ℕ) (runs : Runs) → AllRan gives plan ts runs → RanThese gives plan (Some t) (ts ++ t ∷ []) runs
+  ran_none [] t [] all = (refl, refl)
   ran_none [] t (r ∷ runs) all = absurd all
   ran_none (u ∷ ts) t [] all = absurd all
   ran_none (u ∷ ts) t (r ∷ runs) all = (all.0, ran_none ts t runs all.1)
 
   -- up to where a worker goes on or halts
-  ran_so_far : (halt : Option Halt) (ts : List ℕ) (runs : Runs) → AllRan gives plan ts runs → RanSoFar gives plan halt ts runs
-  ran_so_far None ts runs all = all
-  ran_so_far (Some h) ts runs all = ran_all ts runs all
+  ran_so_far : (halt : Option Halt) (broke : Option ℕ) (ts : List ℕ) (runs : Runs) → AllRan gives plan ts runs → RanSoFar gives plan halt broke ts runs
+  ran_so_far None broke ts runs all = all
+  ran_so_far (Some h) broke ts runs all = ran_all broke ts runs all
 
-  ran_or_halted : (halt : Option Halt) (ts : List ℕ) (t : ℕ) (runs : Runs) → IsSome halt → AllRan gives plan ts runs → RanSoFar gives plan halt (ts ++ t ∷ []) runs
-  ran_or_halted None ts t runs some all = absurd (false≢true some)
-  ran_or_halted (Some h) ts t runs some all = ran_none ts t runs all
+  ran_or_broke : (halt : Option Halt) (mine : List Logged) (ts : List ℕ) (t : ℕ) (runs : Runs) → BrokeOff t halt mine → AllRan gives plan ts runs → RanSoFar gives plan halt (broken_off mine) (ts ++ t ∷ []) runs
+  ran_or_broke None mine ts t runs broke all = absurd (false≢true broke.0)
+  ran_or_broke (Some h) mine ts t runs broke all = subst (λ (b : Option ℕ). RanThese gives plan b (ts ++ t ∷ []) runs) (sym broke.1) (ran_none ts t runs all)
 
 module _ (plan : Plan) where
-  pub said_all : (ts : List ℕ) (runs : Runs) → AllScripts plan ts runs → RanScripts plan ts runs
-  said_all [] [] all = tt
-  said_all [] (r ∷ runs) all = absurd all
-  said_all (t ∷ ts) [] all = absurd all
-  said_all (t ∷ ts) (r ∷ runs) all = (all.0, said_all ts runs all.1)
+  pub said_all : (broke : Option ℕ) (ts : List ℕ) (runs : Runs) → AllScripts plan ts runs → RanScripts plan broke ts runs
+  said_all broke [] [] all = tt
+  said_all broke [] (r ∷ runs) all = absurd all
+  said_all broke (t ∷ ts) [] all = absurd all
+  said_all broke (t ∷ ts) (r ∷ runs) all = (all.0, said_all broke ts runs all.1)
 
   said_one : (ts : List ℕ) (t : ℕ) (runs : Runs) (run : List ℕ × Entries) → AllScripts plan ts runs → IsScriptOf plan t run.0 → AllScripts plan (ts ++ t ∷ []) (runs ++ run ∷ [])
   said_one [] t [] run all is = (is, tt)
@@ -100,19 +100,19 @@ module _ (plan : Plan) where
   said_one (u ∷ ts) t [] run all is = absurd all
   said_one (u ∷ ts) t (r ∷ runs) run all is = (all.0, said_one ts t runs run all.1 is)
 
-  said_none : (ts : List ℕ) (t : ℕ) (runs : Runs) → AllScripts plan ts runs → RanScripts plan (ts ++ t ∷ []) runs
-  said_none [] t [] all = refl
+  said_none : (ts : List ℕ) (t : ℕ) (runs : Runs) → AllScripts plan ts runs → RanScripts plan (Some t) (ts ++ t ∷ []) runs
+  said_none [] t [] all = (refl, refl)
   said_none [] t (r ∷ runs) all = absurd all
   said_none (u ∷ ts) t [] all = absurd all
   said_none (u ∷ ts) t (r ∷ runs) all = (all.0, said_none ts t runs all.1)
 
-  said_so_far : (halt : Option Halt) (ts : List ℕ) (runs : Runs) → AllScripts plan ts runs → ScriptsSoFar plan halt ts runs
-  said_so_far None ts runs all = all
-  said_so_far (Some h) ts runs all = said_all ts runs all
+  said_so_far : (halt : Option Halt) (broke : Option ℕ) (ts : List ℕ) (runs : Runs) → AllScripts plan ts runs → ScriptsSoFar plan halt broke ts runs
+  said_so_far None broke ts runs all = all
+  said_so_far (Some h) broke ts runs all = said_all broke ts runs all
 
-  said_or_halted : (halt : Option Halt) (ts : List ℕ) (t : ℕ) (runs : Runs) → IsSome halt → AllScripts plan ts runs → ScriptsSoFar plan halt (ts ++ t ∷ []) runs
-  said_or_halted None ts t runs some all = absurd (false≢true some)
-  said_or_halted (Some h) ts t runs some all = said_none ts t runs all
+  said_or_broke : (halt : Option Halt) (mine : List Logged) (ts : List ℕ) (t : ℕ) (runs : Runs) → BrokeOff t halt mine → AllScripts plan ts runs → ScriptsSoFar plan halt (broken_off mine) (ts ++ t ∷ []) runs
+  said_or_broke None mine ts t runs broke all = absurd (false≢true broke.0)
+  said_or_broke (Some h) mine ts t runs broke all = subst (λ (b : Option ℕ). RanScripts plan b (ts ++ t ∷ []) runs) (sym broke.1) (said_none ts t runs all)
 
 -- ---- entries of which none broke
 
@@ -186,12 +186,12 @@ module _ {B : Type 0} (dt bt alike : Type 0) (place : B → Workplace) (gives_of
       ran = λ t u o e r. let before = w.ran t u o e r in record {
         runs = before.runs;
         ran = before.ran;
-        these = subst (λ ts. RanSoFar gives first.plan halt ts before.runs) (sym same_logged) (ran_so_far gives first.plan halt (started_in (logged_in mine)) before.runs before.these);
+        these = subst (λ ts. RanSoFar gives first.plan halt (broken_off (logged_in (mine ++ added))) ts before.runs) (sym same_logged) (ran_so_far gives first.plan halt (broken_off (logged_in (mine ++ added))) (started_in (logged_in mine)) before.runs before.these);
       };
       said = λ t. let before = w.said t in record {
         runs = before.runs;
         ran = before.ran;
-        these = subst (λ ts. ScriptsSoFar first.plan halt ts before.runs) (sym same_printed) (said_so_far first.plan halt (started_in (printed_in mine)) before.runs before.these);
+        these = subst (λ ts. ScriptsSoFar first.plan halt (broken_off (logged_in (mine ++ added))) ts before.runs) (sym same_printed) (said_so_far first.plan halt (broken_off (logged_in (mine ++ added))) (started_in (printed_in mine)) before.runs before.these);
       };
     }
       where
@@ -246,41 +246,44 @@ module _ {B : Type 0} (dt bt alike : Type 0) (place : B → Workplace) (gives_of
           ∙ ap (λ l. started_in (printed_in mid) ++ l) (quiet_says end c.quiet) ∙ append-nil (started_in (printed_in mid))
           ∙ ap (λ (l : List Told). started_in (printed_in l)) begins ∙ ap started_in (printed_split mine (start ∷ [])) ∙ started_split (printed_in mine) (printed_in (start ∷ []))
 
-      ran_job : (run : List ℕ × Entries) → IsRunOf gives first.plan job.task run → RanOnce printed (IsSome halt) run (place now).runs (place next).runs
+      abbrev broke : Option ℕ
+      broke = broken_off (logged_in new)
+
+      ran_job : (run : List ℕ × Entries) → IsRunOf gives first.plan job.task run → RanOnce printed (BrokeOff job.task halt (logged_in new)) run (place now).runs (place next).runs
           → RanMine gives first.plan None (logged_in mine) (place old).runs (place now).runs → RanMine gives first.plan halt (logged_in new) (place old).runs (place next).runs
       ran_job run is once before = elim once [
         | inl did ↦ record {
           runs = before.runs ++ run ∷ [];
           ran = did.1 ∙ ap (λ (l : Runs). l ++ run ∷ []) before.ran ∙ append_assoc (place old).runs before.runs (run ∷ []);
-          these = subst (λ ts. RanSoFar gives first.plan halt ts (before.runs ++ run ∷ [])) (sym started_new)
-              (ran_so_far gives first.plan halt (started_in (logged_in mine) ++ job.task ∷ []) (before.runs ++ run ∷ []) (ran_one gives first.plan (started_in (logged_in mine)) job.task before.runs run before.these is));
+          these = subst (λ ts. RanSoFar gives first.plan halt broke ts (before.runs ++ run ∷ [])) (sym started_new)
+              (ran_so_far gives first.plan halt broke (started_in (logged_in mine) ++ job.task ∷ []) (before.runs ++ run ∷ []) (ran_one gives first.plan (started_in (logged_in mine)) job.task before.runs run before.these is));
         }
         | inr none ↦ record {
           runs = before.runs;
           ran = none.1 ∙ before.ran;
-          these = subst (λ ts. RanSoFar gives first.plan halt ts before.runs) (sym started_new) (ran_or_halted gives first.plan halt (started_in (logged_in mine)) job.task before.runs none.0 before.these);
+          these = subst (λ ts. RanSoFar gives first.plan halt broke ts before.runs) (sym started_new) (ran_or_broke gives first.plan halt (logged_in new) (started_in (logged_in mine)) job.task before.runs none.0 before.these);
         }
       ]
 
-      said_job : (run : List ℕ × Entries) → IsScriptOf first.plan job.task run.0 → RanOnce printed (IsSome halt) run (place now).runs (place next).runs
-          → SaidMine first.plan None (printed_in mine) (place old).runs (place now).runs → SaidMine first.plan halt (printed_in new) (place old).runs (place next).runs
+      said_job : (run : List ℕ × Entries) → IsScriptOf first.plan job.task run.0 → RanOnce printed (BrokeOff job.task halt (logged_in new)) run (place now).runs (place next).runs
+          → SaidMine first.plan None (logged_in mine) (printed_in mine) (place old).runs (place now).runs → SaidMine first.plan halt (logged_in new) (printed_in new) (place old).runs (place next).runs
       said_job run is once before = by printed refl
         where
           ts : List ℕ
           ts = started_in (printed_in mine)
 
-          by : (p : Bool) → printed ≡ p → SaidMine first.plan halt (printed_in new) (place old).runs (place next).runs
+          by : (p : Bool) → printed ≡ p → SaidMine first.plan halt (logged_in new) (printed_in new) (place old).runs (place next).runs
           by true heard = elim once [
             | inl did ↦ record {
               runs = before.runs ++ run ∷ [];
               ran = did.1 ∙ ap (λ (l : Runs). l ++ run ∷ []) before.ran ∙ append_assoc (place old).runs before.runs (run ∷ []);
-              these = subst (λ l. ScriptsSoFar first.plan halt l (before.runs ++ run ∷ [])) (sym (printed_new ∙ ap (λ p. ts ++ started_in (printed_in (record start { printed = p } ∷ []))) heard))
-                  (said_so_far first.plan halt (ts ++ job.task ∷ []) (before.runs ++ run ∷ []) (said_one first.plan ts job.task before.runs run before.these is));
+              these = subst (λ l. ScriptsSoFar first.plan halt broke l (before.runs ++ run ∷ [])) (sym (printed_new ∙ ap (λ p. ts ++ started_in (printed_in (record start { printed = p } ∷ []))) heard))
+                  (said_so_far first.plan halt broke (ts ++ job.task ∷ []) (before.runs ++ run ∷ []) (said_one first.plan ts job.task before.runs run before.these is));
             }
             | inr none ↦ record {
               runs = before.runs;
               ran = none.1 ∙ before.ran;
-              these = subst (λ l. ScriptsSoFar first.plan halt l before.runs) (sym (printed_new ∙ ap (λ p. ts ++ started_in (printed_in (record start { printed = p } ∷ []))) heard)) (said_or_halted first.plan halt ts job.task before.runs none.0 before.these);
+              these = subst (λ l. ScriptsSoFar first.plan halt broke l before.runs) (sym (printed_new ∙ ap (λ p. ts ++ started_in (printed_in (record start { printed = p } ∷ []))) heard)) (said_or_broke first.plan halt (logged_in new) ts job.task before.runs none.0 before.these);
             }
           ]
           by false unheard = elim once [
@@ -288,7 +291,7 @@ module _ {B : Type 0} (dt bt alike : Type 0) (place : B → Workplace) (gives_of
             | inr none ↦ record {
               runs = before.runs;
               ran = none.1 ∙ before.ran;
-              these = subst (λ l. ScriptsSoFar first.plan halt l before.runs) (sym (printed_new ∙ ap (λ p. ts ++ started_in (printed_in (record start { printed = p } ∷ []))) unheard ∙ append-nil ts)) (said_so_far first.plan halt ts before.runs before.these);
+              these = subst (λ l. ScriptsSoFar first.plan halt broke l before.runs) (sym (printed_new ∙ ap (λ p. ts ++ started_in (printed_in (record start { printed = p } ∷ []))) unheard ∙ append-nil ts)) (said_so_far first.plan halt broke ts before.runs before.these);
             }
           ]
 
@@ -303,7 +306,7 @@ module _ {B : Type 0} (dt bt alike : Type 0) (place : B → Workplace) (gives_of
       })
 
       pub worked_job : gives_of next ≡ gives_of now → Counts (faults now) (faults next) (by_bench halt)
-          → (bt → RanOnce printed (IsSome halt) (job.script, job.layout) (place now).runs (place next).runs) → (alike → bt) → IsScriptOf first.plan job.task job.script
+          → (bt → RanOnce printed (BrokeOff job.task halt (logged_in new)) (job.script, job.layout) (place now).runs (place next).runs) → (alike → bt) → IsScriptOf first.plan job.task job.script
           → (dt → alike → (o : Opening) → o.gives ≡ gives → IsRun o first → IsCleanJob o first job) → Worked dt bt alike place gives_of faults first gives halt n new old next
       worked_job same cause once tells script clean = record {
         none = subst (HoldsNone n) (sym c.is) (none_added n mid c.event c.moment c.printed c.quiet);

@@ -5,3 +5,4 @@ pub mod Runs
 pub mod Seats
 pub mod Worked
 pub mod Left
+pub mod Rows

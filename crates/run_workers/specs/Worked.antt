@@ -1,5 +1,5 @@
 -- What a worker did on its bench, by the own entries of its seat.
-use Rattle.std.specs.Prelude.{◌≡◌, ◌⊎◌, ◌≤◌, ℕ, suc, List, [], ◌∷◌, ◌++◌, Bool, true, false, Option, IsSome, take}
+use Rattle.std.specs.Prelude.{◌≡◌, ◌⊎◌, ◌≤◌, ℕ, suc, List, [], ◌∷◌, ◌++◌, Bool, true, false, Option, Some, IsSome, take}
 use Rattle.outside_traits.specs.Bench.{Workplace}
 use Rattle.outside_traits.specs.Fault.{Counts, Rose}
 use Rattle.meta_model.specs.declared.event.Cut.TheVariants as cut
@@ -16,7 +16,7 @@ use Rattle.turn_lock.specs.declared.rule.Record.{Record}
 use Rattle.turn_lock.specs.declared.rule.View.{View}
 use Rattle.run_workers.specs.declared.shared.Told.{Told}
 use Rattle.run_workers.specs.declared.worker.Halt.{Halt}
-use Rattle.run_workers.specs.Runs.{RanScripts, RanSoFar, RanThese, Runs, ScriptsSoFar, by_bench, started_in}
+use Rattle.run_workers.specs.Runs.{RanScripts, RanSoFar, RanThese, Runs, ScriptsSoFar, broken_off, by_bench, started_in}
 use Rattle.run_workers.specs.Seats.{HoldsNone}
 use Rattle.run_workers.specs.Told.{logged_in, own, printed_in}
 
@@ -56,33 +56,38 @@ pub record Closes (n : ℕ) (halt : Option Halt) (old new : List Told) : Type 0 
   pub quiet : is_started event ≡ false
   pub breaks : is_break event ≡ true → IsSome halt × (is_bench_break event ≡ true → by_bench halt ≡ true)
 
--- a run of a job, of which it is known whether its start had been printed: it was made, or the worker halts
+-- a run of a job, of which it is known whether its start had been printed: it was made, or the job broke off
 abbrev pub RanOnce : Bool → Type 0 → List ℕ × Entries → Runs → Runs → Type 0
-RanOnce printed halts run before now = ((printed ≡ true) × (now ≡ before ++ run ∷ [])) ⊎ (halts × (now ≡ before))
+RanOnce printed broke run before now = ((printed ≡ true) × (now ≡ before ++ run ∷ [])) ⊎ (broke × (now ≡ before))
+
+-- the job of a task broke off, by a seat's entries, in a worker that halts
+abbrev pub BrokeOff : ℕ → Option Halt → List Logged → Type 0
+BrokeOff t halt mine = IsSome halt × (broken_off mine ≡ Some t)
 
 -- the bench ran what was started in these entries, over the clean outputs of what it needs
 pub record RanMine (gives : Gives) (plan : Plan) (halt : Option Halt) (mine : List Logged) (before now : Runs) : Type 0 where
   pub runs : Runs
   pub ran : now ≡ before ++ runs
-  pub these : RanSoFar gives plan halt (started_in mine) runs
+  pub these : RanSoFar gives plan halt (broken_off mine) (started_in mine) runs
 
--- the bench ran the scripts of what was started in these entries
-pub record SaidMine (plan : Plan) (halt : Option Halt) (mine : List Logged) (before now : Runs) : Type 0 where
+-- the bench ran the scripts of what was started in those of a seat's entries that had been printed
+pub record SaidMine (plan : Plan) (halt : Option Halt) (mine said : List Logged) (before now : Runs) : Type 0 where
   pub runs : Runs
   pub ran : now ≡ before ++ runs
-  pub these : ScriptsSoFar plan halt (started_in mine) runs
+  pub these : ScriptsSoFar plan halt (broken_off mine) (started_in said) runs
 
--- the bench ran what was started in these entries, but for the last one where that broke off
+-- The bench ran what was started in these entries of its seat, but for maybe the last one, where the last of them says that it broke off.
 pub record RanStarted (gives : Gives) (plan : Plan) (mine : List Logged) (before now : Runs) : Type 0 where
   pub runs : Runs
   pub ran : now ≡ before ++ runs
-  pub these : RanThese gives plan (started_in mine) runs
+  pub these : RanThese gives plan (broken_off mine) (started_in mine) runs
 
--- the same of scripts alone
-pub record RanPrinted (plan : Plan) (mine : List Logged) (before now : Runs) : Type 0 where
+-- The bench ran the scripts of what was started in those of its seat's entries that had been printed, but for maybe the last one, where the
+-- last of all its entries says that it broke off.
+pub record RanPrinted (plan : Plan) (mine said : List Logged) (before now : Runs) : Type 0 where
   pub runs : Runs
   pub ran : now ≡ before ++ runs
-  pub these : RanScripts plan (started_in mine) runs
+  pub these : RanScripts plan (broken_off mine) (started_in said) runs
 
 module _ {N : Type 0} where
   -- a seat of number 0 that has so many numbers to spare, no entries and no records of others
@@ -107,7 +112,7 @@ module _ {B : Type 0} (disk_tells bench_tells alike : Type 0) (place : B → Wor
     pub cause : Counts (faults old) (faults new) (by_bench halt)
     pub breaks : Breaks (IsSome halt) (by_bench halt ≡ true) (logged_in mine)
     pub ran : disk_tells → alike → (o : Opening) → o.gives ≡ gives → IsRun o first → RanMine gives first.plan halt (logged_in mine) (place old).runs (place new).runs
-    pub said : bench_tells → SaidMine first.plan halt (printed_in mine) (place old).runs (place new).runs
+    pub said : bench_tells → SaidMine first.plan halt (logged_in mine) (printed_in mine) (place old).runs (place new).runs
 
   -- what a worker that halted did
   abbrev pub IsWorked : ℕ → List Told → B → B → Type 0
@@ -128,4 +133,4 @@ module _ {B : Type 0} (disk_tells bench_tells alike : Type 0) (place : B → Wor
     pub later : faults old ≤ faults new
     pub breaks : Breaks (Unit {0}) (Rose (faults old) (faults new)) (own n tale)
     pub ran : disk_tells → alike → (o : Opening) → o.gives ≡ gives → IsRun o first → RanStarted gives first.plan (own n tale) (place old).runs (place new).runs
-    pub said : bench_tells → RanPrinted first.plan (own n (take printed tale)) (place old).runs (place new).runs
+    pub said : bench_tells → RanPrinted first.plan (own n tale) (own n (take printed tale)) (place old).runs (place new).runs

@@ -9,13 +9,14 @@
 //! each entry with whether its line and all before it had been printed (`specs/Told`).
 //!
 //! The promises: what `RunState` keeps of a run it keeps here, over all turns; the k-th bench ran the scripts of just those tasks that its own
-//! seat started, k + 1, in their order, each over the clean outputs of what it needs, but for the last one where that broke off; it ran
-//! those scripts alone whose start had been printed; and a task broke by a bench only where that bench's count of faults rose.
+//! seat started, k + 1, in their order, each over the clean outputs of what it needs, but for maybe the last one, where that broke off; it
+//! ran those scripts alone whose start had been printed; and a task broke by a bench only where that bench's count of faults rose.
 //! Nothing is said of when, or in which order, workers get their turns.
 #![tactic(auto)]
 
 mod began;
 mod bell;
+mod examples;
 mod queue;
 mod shared;
 mod worker;

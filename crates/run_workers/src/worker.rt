@@ -1,5 +1,5 @@
 // One worker of a run.
-ghost use Rattle.std.specs.Prelude.{◌≡◌, ◌≤◌, [], List, IsSome, None, Some, true};
+ghost use Rattle.std.specs.Prelude.{◌≡◌, ◌≤◌, [], List, None, Some, true};
 ghost use Rattle.outside_traits.specs.Fault.{Counts};
 ghost use Rattle.run_queue.specs.Opening.{Opening};
 ghost use Rattle.run_queue.specs.Keeps.{IsRun};
@@ -7,7 +7,8 @@ ghost use Rattle.run_queue.specs.Turns.{IsCleanJob};
 ghost use Rattle.turn_lock.specs.Seats.{view_of, IsFree, IsSeatOf};
 ghost use Rattle.run_workers.specs.Runs.{by_bench};
 ghost use Rattle.run_workers.specs.Seats.{Holds, HoldsNone, IsSameSeat};
-ghost use Rattle.run_workers.specs.Worked.{Closes, IsWorked, RanOnce, Worked};
+ghost use Rattle.run_workers.specs.Told.{logged_in};
+ghost use Rattle.run_workers.specs.Worked.{BrokeOff, Closes, IsWorked, RanOnce, Worked};
 
 use crate::began::Began;
 use crate::bell::Bell;
@@ -57,8 +58,8 @@ fn do_claimed<K: Began, D: Disk, B: Bench, W: Sink, R: Wait>(
     ensures same { IsSameSeat (view_of seat.old) (view_of seat.new) }
     ensures closes { Closes (view_of seat.old).number result (view_of seat.old).own (view_of seat.new).own }
     ensures gives { B.gives bench.new ≡ B.gives bench.old }
-    ensures ran { B.tells → RanOnce printed (IsSome result) (job.script, job.layout) (B.place bench.old).runs
-        (B.place bench.new).runs }
+    ensures ran { B.tells → RanOnce printed (BrokeOff job.task result (logged_in (view_of seat.new).own))
+        (job.script, job.layout) (B.place bench.old).runs (B.place bench.new).runs }
     ensures cause { Counts (B.faults bench.old) (B.faults bench.new) (by_bench result) }
 {
     if !printed {

@@ -174,20 +174,23 @@ where
         → slice_get result.1.items k ≡ Some new → Breaks (Unit {0}) (Rose (B.faults old) (B.faults new))
         (own (k + 1) result.0.tale) }
 
-    // Each bench ran the tasks that its seat started, each over the clean outputs of what it needs, but for the last one where it broke.
+    // Each bench ran the tasks that its seat started, each over the clean outputs of what it needs. Only the last one may have no run, where
+    // the last entry of its seat is that it broke off.
     ensures ran { D.tells → B.tells → (o : Opening) → All (λ b. B.gives b ≡ o.gives) benches.items
         → IsRun o (seen D.story W.written state) → (k : ℕ) (old new : _) → slice_get benches.items k ≡ Some old
         → slice_get result.1.items k ≡ Some new → RanStarted o.gives state.plan (own (k + 1) result.0.tale)
         (B.place old).runs (B.place new).runs }
 
     // The lines of some front of the tale, of all of it where no fault is kept, stand whole behind what was written before, and each bench ran
-    // the scripts of just those tasks that its seat started in that front, but for the last one where it broke.
+    // the scripts of just those tasks that its seat started in that front. Only the last of these may have no run, where the last entry of its
+    // seat in the whole tale is that it broke off.
     ensures printed { (front : ℕ) × (result.0.fault ≡ None → front ≡ length result.0.tale)
         × (W.tells → (base : List ℕ) → Prints base (W.written state.sink) (tale_text state.plan.tasks state.tale)
         state.sink_failed → IsFront (base ++ tale_text result.0.plan.tasks (take front result.0.tale))
         (W.written result.0.sink)) × ((k : ℕ) (old new : _) → slice_get benches.items k ≡ Some old
         → slice_get result.1.items k ≡ Some new → B.tells
-        → RanPrinted state.plan (own (k + 1) (take front result.0.tale)) (B.place old).runs (B.place new).runs) }
+        → RanPrinted state.plan (own (k + 1) result.0.tale) (own (k + 1) (take front result.0.tale))
+        (B.place old).runs (B.place new).runs) }
 {
     run_shared::<Brand, D, B, W, R>(rt, alloc, state, benches)
 }

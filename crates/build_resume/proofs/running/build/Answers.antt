@@ -5,7 +5,7 @@ use Rattle.meta_model.specs.declared.plan.Options.{Options}
 use Rattle.meta_model.specs.declared.plan.Plan.{Plan}
 use Rattle.run_queue.specs.Keeps.{IsFront}
 use Rattle.run_workers.specs.Runs.{Runs}
-use Rattle.build_resume.specs.Benches.{AtSeats, BreaksByFault, SomeRose, started_by}
+use Rattle.build_resume.specs.Benches.{AtSeats, BreaksByFault, SomeRose, broken_at, started_by}
 use Rattle.build_resume.specs.Build.{AllClean, MayEndSo, RanJust, RanPrinted, RanStarted, WritesReport, is_unsteady}
 use Rattle.build_resume.specs.Ends.{EndsBy, bench_broke, memory_broke}
 use Rattle.build_resume.specs.Outcome.{EndsAs}
@@ -104,7 +104,7 @@ returns-in-Err-begin-clause-printed g c heard told =
     let now : List Runs = map (λ b. (g.B.Bench.place b).runs) c.unbegun.result.benches.items in
     let tale = c.unbegun.result.tale.items in
     said_nothing c.args.plan tale runs now (g.W.Sink.written c.args.sink) (g.W.Sink.written c.unbegun.result.sink) c.unbegun.ensures.tale
-    (seats_same (λ s. RanJust c.args.plan (started_by s tale)) runs now (some_mapped (λ b. (g.B.Bench.place b).runs) c.args.benches.items c.requires.bench) (ap (map (λ b. (g.B.Bench.place b).runs)) c.unbegun.ensures.benches) (just_nothing c.args.plan tale c.unbegun.ensures.tale))
+    (seats_same (λ s. RanJust c.args.plan (broken_at s tale) (started_by s tale)) runs now (some_mapped (λ b. (g.B.Bench.place b).runs) c.args.benches.items c.requires.bench) (ap (map (λ b. (g.B.Bench.place b).runs)) c.unbegun.ensures.benches) (just_nothing c.args.plan tale c.unbegun.ensures.tale))
     (subst (λ x. IsFront (g.W.Sink.written c.args.sink) (g.W.Sink.written x)) (sym c.unbegun.ensures.sink) grown)
 
 pub returns-in-Err-clause-leaves : goal.returns-in-Err-clause-leaves
@@ -149,5 +149,5 @@ returns-in-Err-clause-printed g c heard told =
     let now : List Runs = map (λ b. (g.B.Bench.place b).runs) c.unbegun-in-Err.result.benches.items in
     let tale = c.unbegun-in-Err.result.tale.items in
     said_nothing c.args.plan tale runs now (g.W.Sink.written c.args.sink) (g.W.Sink.written c.unbegun-in-Err.result.sink) c.unbegun-in-Err.ensures.tale
-    (seats_same (λ s. RanJust c.args.plan (started_by s tale)) runs now (some_mapped (λ b. (g.B.Bench.place b).runs) c.args.benches.items c.requires.bench) (ap (map (λ b. (g.B.Bench.place b).runs)) c.unbegun-in-Err.ensures.benches) (just_nothing c.args.plan tale c.unbegun-in-Err.ensures.tale))
+    (seats_same (λ s. RanJust c.args.plan (broken_at s tale) (started_by s tale)) runs now (some_mapped (λ b. (g.B.Bench.place b).runs) c.args.benches.items c.requires.bench) (ap (map (λ b. (g.B.Bench.place b).runs)) c.unbegun-in-Err.ensures.benches) (just_nothing c.args.plan tale c.unbegun-in-Err.ensures.tale))
     (subst (λ x. IsFront (g.W.Sink.written c.args.sink) (g.W.Sink.written x)) (sym c.unbegun-in-Err.ensures.sink) grown)

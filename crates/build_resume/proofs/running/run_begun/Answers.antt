@@ -7,11 +7,11 @@ use Rattle.bb_report.specs.Runs.{tale_text}
 use Rattle.run_queue.specs.Keeps.{Prints}
 use Rattle.run_queue.proofs.Steady.{steady_none}
 use Rattle.run_workers.specs.Runs.{Runs}
-use Rattle.build_resume.specs.Benches.{AtSeats, BreaksByFault, SomeBreak, SomeRose, started_by}
+use Rattle.build_resume.specs.Benches.{AtSeats, BreaksByFault, SomeBreak, SomeRose, broken_at, started_by}
 use Rattle.build_resume.specs.Build.{RanJust, RanStarted, WritesReport}
 use Rattle.build_resume.specs.Drive.{RanOn, RanSaid, SaidTo}
 use Rattle.build_resume.proofs.Begun.{ends_still, kept_still}
-use Rattle.build_resume.proofs.Benches.{at_seats, broke_before, broke_behind, just_before, last_has, others_have, ran_before, ran_behind, rose_by, some_rose, workers_weaker}
+use Rattle.build_resume.proofs.Benches.{at_seats, broke_before, broke_behind, broken_before, just_before, last_has, others_have, ran_before, ran_behind, rose_by, some_rose, workers_weaker}
 use Rattle.build_resume.proofs.Printing.{said_first}
 use Rattle.build_resume.proofs.Reports.{counts_first, prints_first}
 use Rattle.build_resume.proofs.Statuses.{wider_cause}
@@ -101,6 +101,7 @@ returns-clause-printed g c heard told =
     let base : List ℕ = g.W.Sink.written state.sink in
     let plan = c.with_workers-state.ensures.same.plan in
     let runs : g.row.B.Denot → Runs = λ b. (g.B.Bench.place b).runs in
+    let went = c.finish-plan.ensures.went in
     let said = c.with_workers-state.ensures.printed heard told c.requires.stands c.requires.faultless in
     let first = said_first runs state.plan mid.fault mid.tale c.take_last-last.new.benches.items c.with_workers-state.result.1.items (g.B.Bench.place last).runs base (g.W.Sink.written mid.sink) said in
     let to : SaidTo state.plan said.front tale (g.B.Bench.place last).runs (g.B.Bench.place now).runs base (g.W.Sink.written c.finish-plan.result.sink) =
@@ -111,9 +112,10 @@ returns-clause-printed g c heard told =
       front = to.front;
       back = to.back;
       cut = to.cut;
-      ran = at_seats runs (λ s. RanJust state.plan (started_by s to.front)) c.args.benches.items c.push_reserved.new.self.items c.take_last-last.new.benches.items c.with_workers-state.result.1.items last now c.take_last-last.ensures.items c.push_reserved.ensures.items
-          (workers_weaker (λ s a b. RanJust state.plan (started_by s said.front) (g.B.Bench.place a).runs (g.B.Bench.place b).runs) (λ s a b. RanJust state.plan (started_by s to.front) (g.B.Bench.place a).runs (g.B.Bench.place b).runs) c.take_last-last.new.benches.items c.with_workers-state.result.1.items
-          (λ s a b other r. just_before state.plan s said.front to.front to.on (g.B.Bench.place a).runs (g.B.Bench.place b).runs other to.goes to.alone r) said.ran)
+      ran = at_seats runs (λ s. RanJust state.plan (broken_at s tale) (started_by s to.front)) c.args.benches.items c.push_reserved.new.self.items c.take_last-last.new.benches.items c.with_workers-state.result.1.items last now c.take_last-last.ensures.items c.push_reserved.ensures.items
+          (workers_weaker (λ s a b. RanJust state.plan (broken_at s mid.tale) (started_by s said.front) (g.B.Bench.place a).runs (g.B.Bench.place b).runs) (λ s a b. RanJust state.plan (broken_at s tale) (started_by s to.front) (g.B.Bench.place a).runs (g.B.Bench.place b).runs) c.take_last-last.new.benches.items c.with_workers-state.result.1.items
+          (λ s a b other r. just_before state.plan s (broken_at s tale) said.front to.front to.on (g.B.Bench.place a).runs (g.B.Bench.place b).runs other to.goes to.alone
+          (broken_before state.plan s mid.tale tale went.more (started_by s said.front) (g.B.Bench.place a).runs (g.B.Bench.place b).runs other went.is went.alone r)) said.ran)
           to.ran;
       rest = to.rest;
       written = to.written_is;

@@ -5,7 +5,7 @@ use Rattle.meta_model.specs.declared.event.Logged.{Logged}
 use Rattle.meta_model.specs.declared.plan.Plan.{Plan}
 use Rattle.run_queue.specs.Keeps.{IsFront, Prints}
 use Rattle.run_workers.specs.Runs.{RanThese}
-use Rattle.build_resume.specs.Benches.{BreaksByFault, started_by}
+use Rattle.build_resume.specs.Benches.{BreaksByFault, broken_at, started_by}
 use Rattle.build_resume.specs.Build.{RanJust, RanStarted}
 use Rattle.build_resume.proofs.Begun.{just_nothing, ran_nothing}
 use Rattle.build_resume.proofs.Benches.{others_have, workers_same}
@@ -22,7 +22,7 @@ returns-then-is_empty-clause-printed g t c heard told stands faultless =
       front = state.tale;
       back = [];
       cut = sym (append-nil state.tale);
-      ran = workers_same (λ s a b. RanJust state.plan (started_by s state.tale) (g.B.Bench.place a).runs (g.B.Bench.place b).runs) c.args.benches.items c.args.benches.items refl (λ s a. just_nothing state.plan state.tale c.requires.none s (g.B.Bench.place a).runs);
+      ran = workers_same (λ s a b. RanJust state.plan (broken_at s state.tale) (started_by s state.tale) (g.B.Bench.place a).runs (g.B.Bench.place b).runs) c.args.benches.items c.args.benches.items refl (λ s a. just_nothing state.plan state.tale c.requires.none s (g.B.Bench.place a).runs);
       none = subst (λ (l : List Logged). started_by 0 l ≡ []) (sym c.requires.none) refl;
       rest = [];
       is = subst (λ (l : List Logged). g.W.Sink.written state.sink ≡ g.W.Sink.written state.sink ++ (tale_text state.plan.tasks l ++ [])) (sym c.requires.none) (sym (append-nil (g.W.Sink.written state.sink)));
@@ -66,7 +66,7 @@ returns-then-len-workers-clause-run g t c tells told gives all o same run =
       c.run_workers-state.ensures.run tells told o alike run,
       record {
         long = c.run_workers-state.ensures.benches;
-        each = λ k old new was is. let r = ran k old new was is in record { runs = r.runs; ran = r.ran; these = subst (λ (x : Gives). RanThese x c.args.state.plan (started_by (k + 1) c.run_workers-state.result.0.tale) r.runs) same r.these };
+        each = λ k old new was is. let r = ran k old new was is in record { runs = r.runs; ran = r.ran; these = subst (λ (x : Gives). RanThese x c.args.state.plan (broken_at (k + 1) c.run_workers-state.result.0.tale) (started_by (k + 1) c.run_workers-state.result.0.tale) r.runs) same r.these };
       },
     )
 

@@ -39,5 +39,5 @@ returns-clause-printed g c =
       d.lines,
       λ k old new was at u.
           let one : suc k ≡ k + 1 = omega arith in
-          subst (λ n. RanPrinted c.args.state.plan (own n (take d.printed c.run_shared.result.0.tale)) (g.B.Bench.place old).runs (g.B.Bench.place new).runs) one ((d.each k old new was at).said u),
+          subst (λ n. RanPrinted c.args.state.plan (own n c.run_shared.result.0.tale) (own n (take d.printed c.run_shared.result.0.tale)) (g.B.Bench.place old).runs (g.B.Bench.place new).runs) one ((d.each k old new was at).said u),
     )

@@ -1,0 +1,19 @@
+// Worked rows of what a run leaves: of each definition one that has it, and one that hasn't.
+ghost use Rattle.std.specs.Prelude.{[]};
+ghost use Rattle.meta_model.specs.Worked.{shell};
+ghost use Rattle.build_resume.specs.Build.{IsEachFailureTold, IsLeftByRun};
+ghost use Rattle.build_resume.specs.Worked.{empty_opening, failing_plan, failing_tale, hello_book, hello_plan, recorded_alone, stamped_alone};
+
+/// A plan whose one task fails.
+pub fn example_of_failures()
+    ensures told { IsEachFailureTold shell failing_plan failing_tale }
+    ensures untold { IsEachFailureTold shell failing_plan [] → ⊥ }
+{}
+
+/// What a crash left of a run of one task, which records one line.
+pub fn example_of_crashes()
+    // between the record and the stamp
+    ensures recorded { IsLeftByRun empty_opening hello_plan hello_book recorded_alone }
+    // a stamp that names no record lies
+    ensures stamped { IsLeftByRun empty_opening hello_plan hello_book stamped_alone → ⊥ }
+{}
