@@ -11,6 +11,7 @@ ghost use Rattle.plan_model.specs.Sound.{IsSound};
 ghost use Rattle.plan_model.specs.Spellings.{HasSpellings};
 ghost use Rattle.store_model.specs.Origins.{Book, Reading};
 ghost use Rattle.build_resume.specs.Benches.{AtSeats, BreaksByFault, SomeRose};
+ghost use Rattle.build_resume.specs.Build.{TellsDifference};
 ghost use Rattle.bitbake_top.specs.Devices.{AreUnchanged, IsUnchanged};
 ghost use Rattle.bitbake_top.specs.Headline.{Keeps, MayBegin};
 ghost use Rattle.bitbake_top.specs.Run.{Concludes, HasBuild, HasCause, IsCertain, IsRunPlan, IsUnrun, RanPrintedCall, WritesCall};
@@ -98,6 +99,7 @@ where
     ensures no_usage { result.status ≢ Status.Usage }
     ensures same_disk { result.tales.items ≡ [] → result.disk ≡ disk }
     ensures same_benches { result.tales.items ≡ [] → result.benches.items ≡ benches.items }
+    ensures differs { All (λ p. TellsDifference D.tells p (D.story result.disk) result.status) result.plans.items }
     ensures broke { All (λ tale. AtSeats (BreaksByFault tale) (map B.faults benches.items)
         (map B.faults result.benches.items)) result.tales.items }
     ensures causes { HasCause (Rose (L.faults layers) (L.faults result.layers)) (D.faults result.disk)

@@ -13,6 +13,7 @@ ghost use Rattle.read_modes.specs.Modes.{mode_text};
 ghost use Rattle.outside_traits.specs.Story.{IsFresh};
 ghost use Rattle.store_model.specs.Origins.{Book, Reading};
 ghost use Rattle.build_resume.specs.Benches.{AtSeats, BreaksByFault, SomeRose};
+ghost use Rattle.build_resume.specs.Build.{TellsDifference};
 ghost use Rattle.bitbake_top.specs.Devices.{AreUnchanged, IsUnchanged};
 ghost use Rattle.bitbake_top.specs.Headline.{Keeps, MayBegin};
 ghost use Rattle.meta_model.specs.declared.plan.Plan.{Plan};
@@ -92,7 +93,8 @@ where
         → ((result.status ≡ Status.Ok) ↔ HasBuild (L.files layers) paths request gives) }
 
     // The plan that is handed back is the request's, and each answer but a refusal hands one back. The status fits the tale: Ok comes only
-    // where nothing is left to do and no task failed, and neither Ok nor a failed task is answered where a bench broke a task off.
+    // where nothing is left to do and no task failed, and neither Ok nor a failed task is answered where a bench broke a task off; where a
+    // fault broke one off the status is that of a fault, or want of memory.
     ensures plans { (request : Request) → AskRun words.now request → L.tells → (paths : List (List ℕ))
         → IsListing [] (L.files layers) paths → All (IsRunPlan (L.files layers) paths request) result.plans.items }
     ensures found { (request : Request) → AskRun words.now request → is_refusal result.status ≡ false
@@ -190,6 +192,11 @@ where
     ensures said { AskNoRun words.now → result.status ≢ Status.Ok → result.status ≢ Status.WriteFault → W.tells
         → Says (fault_text result.status) (W.written sink) (W.written result.sink) (W.faults sink)
         (W.faults result.sink) }
+
+    // What a collision, or an output that isn't steady, tells of two that differ: the one is that of a record that is held, whatever a crash
+    // leaves; the task is one of the plan that is handed back.
+    ensures differs { (request : Request) → AskRun words.now request
+        → All (λ p. TellsDifference D.tells p (D.story result.disk) result.status) result.plans.items }
 
     // Each fault has its cause, and a task broke off since its bench failed only where the count of its seat's bench rose.
     ensures broke { (request : Request) → AskRun words.now request

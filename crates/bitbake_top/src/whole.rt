@@ -7,7 +7,7 @@ ghost use Rattle.bb_report.specs.Texts.{plan_text as text_of};
 ghost use Rattle.plan_model.specs.Sound.{AreWanted, IsSound};
 ghost use Rattle.plan_model.specs.Spellings.{HasSpellings};
 ghost use Rattle.store_model.specs.Origins.{Book, Reading};
-ghost use Rattle.build_resume.specs.Build.{AllClean, MayEndSo};
+ghost use Rattle.build_resume.specs.Build.{AllClean, MayEndSo, TellsDifference};
 ghost use Rattle.build_resume.specs.Benches.{AtSeats, BreaksByFault, SomeRose};
 ghost use Rattle.bitbake_top.specs.Devices.{AreUnchanged};
 ghost use Rattle.bitbake_top.specs.Headline.{Keeps, MayBegin};
@@ -116,6 +116,7 @@ where
     ensures printed { W.tells → B.tells → (base : List ℕ) → W.written sink ≡ base ++ text_of plan
         → RanPrintedCall result.plans.items result.tales.items (map (λ b. (B.place b).runs) benches.items)
         (map (λ b. (B.place b).runs) result.benches.items) base (W.written result.sink) }
+    ensures differs { All (λ p. TellsDifference D.tells p (D.story result.disk) result.status) result.plans.items }
     ensures broke { All (λ tale. AtSeats (BreaksByFault tale) (map B.faults benches.items)
         (map B.faults result.benches.items)) result.tales.items }
     ensures causes { (before : ℕ) → before ≤ W.faults sink
@@ -192,6 +193,7 @@ where
         (W.written sink) (W.written result.sink) }
     ensures same_disk { result.tales.items ≡ [] → result.disk ≡ disk }
     ensures same_benches { result.tales.items ≡ [] → result.benches.items ≡ benches.items }
+    ensures differs { All (λ p. TellsDifference D.tells p (D.story result.disk) result.status) result.plans.items }
     ensures broke { All (λ tale. AtSeats (BreaksByFault tale) (map B.faults benches.items)
         (map B.faults result.benches.items)) result.tales.items }
     ensures causes { MayEndSo (D.faults result.disk) (SomeRose (map B.faults benches.items)

@@ -14,6 +14,7 @@ use Rattle.build_store.specs.declared.fault.StoreFault.TheVariants as fault
 use Rattle.bb_report.specs.Runs.{has_failure}
 use Rattle.run_queue.specs.declared.fault.RunFault.{RunFault}
 use Rattle.run_queue.specs.declared.fault.RunFault.TheVariants as kept
+use Rattle.run_queue.specs.Causes.{fault_broke}
 use Rattle.run_queue.specs.Keeps.{IsRun}
 use Rattle.run_queue.specs.Opening.{Opening}
 use Rattle.run_queue.specs.Seen.{RunView, seen}
@@ -23,7 +24,7 @@ use Rattle.run_workers.specs.Runs.{RanScripts, RanThese, Runs, by_bench}
 use Rattle.build_resume.specs.Benches.{broken_at, started_by}
 use Rattle.build_resume.specs.Build.{RanJust, RanStarted}
 use Rattle.build_resume.specs.Drive.{Drove, Grows, IsHalted, RanOn, WentOn}
-use Rattle.build_resume.specs.Ends.{EndsBy, bench_broke, halt_by, is_faultless, is_plain, memory_broke, status_by, status_of}
+use Rattle.build_resume.specs.Ends.{EndsBy, bench_broke, halt_by, is_faultless, is_of_fault, is_plain, memory_broke, status_by, status_of}
 use Rattle.build_resume.specs.Outcome.{EndsAs, KeptTo}
 use Rattle.run_workers.specs.declared.worker.Halt.{Halt}
 use Rattle.run_workers.specs.declared.worker.Halt.TheVariants as halt
@@ -111,9 +112,23 @@ told_plain sink f h failed s (inr (inr is)) e = is.1
 abbrev pub Unbroken : Halt → List Logged → Type 0
 Unbroken h tale = (h ≡ halt.Finished) ⊎ (h ≡ halt.Stopped) → (bench_broke tale ≡ false) × (memory_broke tale ≡ false)
 
+store_of_fault : (f : StoreFault) → is_of_fault (status_of f) ≡ true
+store_of_fault fault.Disk = refl
+store_of_fault (fault.Collision name held given) = refl
+store_of_fault (fault.Unsteady pn task held given) = refl
+store_of_fault fault.Memory = refl
+
+-- a run that keeps a fault ends by one
+of_fault : (sink : Type 0) (f : Option RunFault) (h : Halt) (failed : Bool) (s : Status) → EndsSo sink f h failed s → (f ≡ None → ⊥) → is_of_fault s ≡ true
+of_fault sink None h failed s told some = absurd (some refl)
+of_fault sink (Some (kept.Store f)) h failed s (inl is) some = ap is_of_fault is ∙ store_of_fault f
+of_fault sink (Some kept.Write) h failed s (inl is) some = ap is_of_fault is
+of_fault sink (Some f) h failed s (inr (inl is)) some = ap is_of_fault is
+of_fault sink (Some f) h failed s (inr (inr is)) some = ap is_of_fault is.0
+
 -- how a run ended by its last state
-pub ends_as : {D W : Type 0} (sink : Type 0) (old last : RunView D W) (h : Halt) (tale : List Logged) (s : Status) → SameRun old last → tale ≡ last.tale → IsHalted last h → Unbroken h tale → EndsSo sink last.fault h (has_failure last.tale) s → EndsAs old.plan old.options tale s
-ends_as sink old last h tale s same tale_is halted unbroken told = record {
+pub ends_as : {D W : Type 0} (sink : Type 0) (old last : RunView D W) (h : Halt) (tale : List Logged) (s : Status) → SameRun old last → tale ≡ last.tale → IsHalted last h → Unbroken h tale → (last.fault ≡ None → fault_broke last.tale ≡ false) → EndsSo sink last.fault h (has_failure last.tale) s → EndsAs old.plan old.options tale s
+ends_as sink old last h tale s same tale_is halted unbroken calm told = record {
   ok = λ e.
       let by = ok_by last.fault h (has_failure last.tale) (told_ok sink last.fault h (has_failure last.tale) s told e) in
       (subst (λ (l : List Logged). IsAtEnd old.plan old.options l) (sym tale_is) (finished by.0 by.1 by.2), ap has_failure tale_is ∙ by.1);
@@ -122,6 +137,7 @@ ends_as sink old last h tale s same tale_is halted unbroken told = record {
       let by = failed_cause last.fault h (has_failure last.tale) (told_failed sink last.fault h (has_failure last.tale) s told e) in
       subst (λ (l : List Logged). IsAtEnd old.plan old.options l) (sym tale_is) (went_on by.0 by.1 (ap (λ (x : Options). x.keep_going) same.options ∙ going));
   unbroken = λ e. unbroken (plain_by last.fault h (has_failure last.tale) (told_plain sink last.fault h (has_failure last.tale) s told e));
+  by_fault = λ e. of_fault sink last.fault h (has_failure last.tale) s told (λ none. false≢true (sym (calm none) ∙ ap fault_broke (sym tale_is) ∙ e));
 }
   where
     at_end : IsHalted last halt.Finished → IsAtEnd old.plan old.options last.tale
@@ -166,9 +182,9 @@ unbroken_by h by read tale is same e =
     (ap bench_broke (sym same) ∙ calm.0, ap memory_broke (sym same) ∙ calm.1)
 
 -- how a run ended whose halt is read off the tale
-pub ends_by : {D W : Type 0} (sink : Type 0) (old last : RunView D W) (h by : Halt) (read tale : List Logged) (s : Status) → by ≡ halt_by h (bench_broke read) (memory_broke read) → read ≡ tale → SameRun old last → tale ≡ last.tale → IsHalted last h → EndsSo sink last.fault by (has_failure last.tale) s → EndsAs old.plan old.options tale s
-ends_by sink old last h by read tale s is same_tale same tale_is halted told =
-    ends_as sink old last by tale s same tale_is (subst (IsHalted last) (sym is) (halted_by last h (bench_broke read) (memory_broke read) halted)) (unbroken_by h by read tale is same_tale) told
+pub ends_by : {D W : Type 0} (sink : Type 0) (old last : RunView D W) (h by : Halt) (read tale : List Logged) (s : Status) → by ≡ halt_by h (bench_broke read) (memory_broke read) → read ≡ tale → SameRun old last → tale ≡ last.tale → IsHalted last h → (last.fault ≡ None → fault_broke last.tale ≡ false) → EndsSo sink last.fault by (has_failure last.tale) s → EndsAs old.plan old.options tale s
+ends_by sink old last h by read tale s is same_tale same tale_is halted calm told =
+    ends_as sink old last by tale s same tale_is (subst (IsHalted last) (sym is) (halted_by last h (bench_broke read) (memory_broke read) halted)) (unbroken_by h by read tale is same_tale) calm told
 
 -- ---- what was kept
 

@@ -1,8 +1,9 @@
 -- Which statuses come.
-use Rattle.std.proofs.Common.{◌≡◌, ◌∙◌, append_assoc, sym, ap, subst, refl, ℕ, arith, Bool, true, false, List, ◌++◌, Some, None, Ok, Err, inl, inr}
+use Rattle.std.proofs.Common.{◌≡◌, ◌∙◌, append_assoc, sym, ap, subst, refl, ℕ, arith, Bool, true, false, List, [], ◌++◌, Some, None, Ok, Err, inl, inr}
 use Rattle.std.specs.Prelude.{◌≢◌, ◌↔◌, Option, IfSome, OnErr, OnOk, Result, if◌then◌else◌}
 use Rattle.std.proofs.lemmas.Bool.{false≢true}
 use Rattle.outside_traits.specs.Fault.{Counts, Rose, sink_failed}
+use Rattle.outside_traits.specs.Story.{Story}
 use Rattle.outside_traits.specs.declared.fault.SinkFault.{SinkFault}
 use Rattle.meta_model.specs.declared.event.Logged.{Logged}
 use Rattle.meta_model.specs.declared.event.Status.{Status}
@@ -11,14 +12,16 @@ use Rattle.meta_model.specs.declared.plan.Plan.{Plan}
 use Rattle.bb_report.specs.Runs.{last_line, tale_text}
 use Rattle.bb_report.specs.Written.{WritesFront}
 use Rattle.bb_report.proofs.Chains.{front_then}
+use Rattle.store_model.specs.declared.signature.EquivRow.{EquivRow}
 use Rattle.build_store.specs.Faults.{IsOutside, is_disk_fault}
 use Rattle.build_store.specs.declared.fault.StoreFault.{StoreFault}
 use Rattle.build_store.specs.declared.fault.StoreFault.TheVariants as fault
 use Rattle.run_queue.specs.declared.fault.RunFault.{RunFault}
 use Rattle.run_queue.specs.declared.fault.RunFault.TheVariants as kept
-use Rattle.run_queue.specs.Keeps.{IsCause, IsFront, IsSteady, IsSteadyAnswer, IsStoreCause}
+use Rattle.run_queue.specs.Causes.{IsCause, IsStoreCause}
+use Rattle.run_queue.specs.Keeps.{IsFront, IsSteady, IsSteadyAnswer}
 use Rattle.run_queue.proofs.Printed.{front_all, front_some}
-use Rattle.build_resume.specs.Build.{MayEndSo, WritesReport, is_collision, is_unsteady}
+use Rattle.build_resume.specs.Build.{DiffersOver, MayEndSo, TellsDifference, WritesReport, is_collision, is_unsteady}
 use Rattle.build_resume.specs.Ends.{EndsBy, is_plain, status_at, status_by, status_of}
 use Rattle.run_workers.specs.declared.worker.Halt.{Halt}
 use Rattle.run_workers.specs.declared.worker.Halt.TheVariants as halt
@@ -98,28 +101,70 @@ refused_never sink (fault.Collision name held given) before now s out counts by 
 refused_never sink (fault.Unsteady pn task held given) before now s out counts by none sink_none memory = absurd out
 
 -- each cause that a run may end by is one that it met
-pub ended_cause : (disk : ℕ) (failed fails : Bool) (bench sink sinks : Type 0) (f : Option RunFault) (h : Halt) (s : Status) → IfSome f (IsCause disk failed) → (failed ≡ true → sink) → (sinks → sink) → (h ≡ halt.Bench → bench) → EndsBy sinks (status_by f h fails) s → MayEndSo disk bench sink s
-ended_cause disk failed fails bench sink sinks f h s cause write more_write broke (inl is) = subst (MayEndSo disk bench sink) (sym is) (by f h cause broke)
+pub ended_cause : (disk : ℕ) (plan : Plan) (rows : List EquivRow) (failed fails : Bool) (bench sink sinks : Type 0) (f : Option RunFault) (h : Halt) (s : Status) → IfSome f (IsCause disk plan rows failed) → (failed ≡ true → sink) → (sinks → sink) → (h ≡ halt.Bench → bench) → EndsBy sinks (status_by f h fails) s → MayEndSo disk bench sink s
+ended_cause disk plan rows failed fails bench sink sinks f h s cause write more_write broke (inl is) = subst (MayEndSo disk bench sink) (sym is) (by f h cause broke)
   where
     calm : (b : Bool) → MayEndSo disk bench sink (if b then status.TaskFailed else status.Ok)
     calm true = tt
     calm false = tt
 
-    stored : (x : StoreFault) → IsStoreCause disk x → MayEndSo disk bench sink (status_of x)
+    stored : (x : StoreFault) → IsStoreCause disk plan rows x → MayEndSo disk bench sink (status_of x)
     stored fault.Disk c = c
-    stored (fault.Collision name held given) c = c
-    stored (fault.Unsteady pn task held given) c = c
+    stored (fault.Collision name held given) c = (c.differ, c.held_name, c.given_name)
+    stored (fault.Unsteady pn task held given) c = c.differ
     stored fault.Memory c = tt
 
-    by : (x : Option RunFault) (y : Halt) → IfSome x (IsCause disk failed) → (y ≡ halt.Bench → bench) → MayEndSo disk bench sink (status_by x y fails)
+    by : (x : Option RunFault) (y : Halt) → IfSome x (IsCause disk plan rows failed) → (y ≡ halt.Bench → bench) → MayEndSo disk bench sink (status_by x y fails)
     by (Some (kept.Store x)) y c b = stored x c
     by (Some kept.Write) y c b = write c
     by None halt.Finished c b = calm fails
     by None halt.Stopped c b = calm fails
     by None halt.Memory c b = tt
     by None halt.Bench c b = b refl
-ended_cause disk failed fails bench sink sinks f h s cause write more_write broke (inr (inl is)) = subst (MayEndSo disk bench sink) (sym is) tt
-ended_cause disk failed fails bench sink sinks f h s cause write more_write broke (inr (inr is)) = subst (MayEndSo disk bench sink) (sym is.0) (more_write is.2)
+ended_cause disk plan rows failed fails bench sink sinks f h s cause write more_write broke (inr (inl is)) = subst (MayEndSo disk bench sink) (sym is) tt
+ended_cause disk plan rows failed fails bench sink sinks f h s cause write more_write broke (inr (inr is)) = subst (MayEndSo disk bench sink) (sym is.0) (more_write is.2)
+
+-- ---- two that differ
+
+-- what a fault that is kept says of two that differ its status says
+pub ended_differs : (disk : ℕ) (plan : Plan) (rows : List EquivRow) (failed fails : Bool) (sinks : Type 0) (f : Option RunFault) (h : Halt) (s : Status) → IfSome f (IsCause disk plan rows failed) → EndsBy sinks (status_by f h fails) s → DiffersOver plan rows s
+ended_differs disk plan rows failed fails sinks f h s cause (inl is) = subst (DiffersOver plan rows) (sym is) (by f h cause)
+  where
+    calm : (b : Bool) → DiffersOver plan rows (if b then status.TaskFailed else status.Ok)
+    calm true = tt
+    calm false = tt
+
+    stored : (x : StoreFault) → IsStoreCause disk plan rows x → DiffersOver plan rows (status_of x)
+    stored fault.Disk c = tt
+    stored (fault.Collision name held given) c = c
+    stored (fault.Unsteady pn task held given) c = c
+    stored fault.Memory c = tt
+
+    by : (x : Option RunFault) (y : Halt) → IfSome x (IsCause disk plan rows failed) → DiffersOver plan rows (status_by x y fails)
+    by (Some (kept.Store x)) y c = stored x c
+    by (Some kept.Write) y c = tt
+    by None halt.Finished c = calm fails
+    by None halt.Stopped c = calm fails
+    by None halt.Memory c = tt
+    by None halt.Bench c = tt
+ended_differs disk plan rows failed fails sinks f h s cause (inr (inl is)) = subst (DiffersOver plan rows) (sym is) tt
+ended_differs disk plan rows failed fails sinks f h s cause (inr (inr is)) = subst (DiffersOver plan rows) (sym is.0) tt
+
+-- of a status that says nothing of two that differ no rows are told
+pub nothing_differs : (tells : Type 0) (plan : Plan) (story : Story) (s : Status) → DiffersOver plan [] s → TellsDifference tells plan story s
+nothing_differs tells plan story s is = record { rows = []; kept = λ t image left. tt; differs = is }
+
+outside_differs : (plan : Plan) (f : StoreFault) → IsOutside f → DiffersOver plan [] (status_of f)
+outside_differs plan fault.Disk is = tt
+outside_differs plan (fault.Collision name held given) is = absurd is
+outside_differs plan (fault.Unsteady pn task held given) is = absurd is
+outside_differs plan fault.Memory is = tt
+
+-- such is one of a run whose store couldn't be opened
+pub refused_differs : (sink : Type 0) (plan : Plan) (f : StoreFault) (s : Status) → EndsBy sink (status_of f) s → IsOutside f → DiffersOver plan [] s
+refused_differs sink plan f s (inl is) out = subst (DiffersOver plan []) (sym is) (outside_differs plan f out)
+refused_differs sink plan f s (inr (inl is)) out = subst (DiffersOver plan []) (sym is) tt
+refused_differs sink plan f s (inr (inr is)) out = subst (DiffersOver plan []) (sym is.0) tt
 
 -- ---- exactly
 

@@ -19,6 +19,7 @@ use Rattle.meta_model.specs.declared.plan.PlanTask.{PlanTask}
 use Rattle.meta_model.specs.CleanBuild.{Built, Entries, Gives, clean_build, fails}
 use Rattle.plan_model.specs.Sound.{AreWanted, IsSound}
 use Rattle.plan_model.specs.Spellings.{HasSpellings}
+use Rattle.store_model.specs.declared.signature.EquivRow.{EquivRow}
 use Rattle.store_model.specs.Available.{HoldsClean, IsAvailable, object_folder, stamp_path, work_folder}
 use Rattle.store_model.specs.Origins.{Book, Line, Reading, rows_of}
 use Rattle.store_model.specs.Reuse.{MayReuse}
@@ -27,10 +28,11 @@ use Rattle.store_model.specs.Valid.{IsValid}
 use Rattle.build_store.specs.Laws.{HasLine}
 use Rattle.build_store.specs.Opening.{IsLeft, IsOpened}
 use Rattle.build_store.specs.Reopened.{HaveSameLines}
-use Rattle.build_store.specs.Sound.{IsReadable}
+use Rattle.build_store.specs.Sound.{HoldsRecords, IsReadable}
 use Rattle.bb_report.specs.Runs.{run_text, tale_text}
 use Rattle.bb_report.specs.Written.{WritesFront}
 use Rattle.run_queue.specs.Books.{book_after}
+use Rattle.run_queue.specs.Causes.{IsClashOf, IsUnsteadyOf}
 use Rattle.run_queue.specs.Courses.{IsLegalTale}
 use Rattle.run_queue.specs.Opening.{HasFolders, Opening}
 use Rattle.run_queue.specs.Own.{IsAside, IsOfNone}
@@ -225,6 +227,20 @@ MayEndSo disk bench sink (status.Collision name held given) = (held ≢ given) �
 MayEndSo disk bench sink (status.Unsteady pn task held given) = held ≢ given
 MayEndSo disk bench sink status.OutOfMemory = Unit {0}
 MayEndSo disk bench sink _ = ⊥
+
+-- What the status says of two that differ: a collision of two signatures of one digest, over these rows, and an output that isn't steady of
+-- two manifests of a task of the plan.
+abbrev pub DiffersOver : Plan → List EquivRow → Status → Type 0
+DiffersOver plan rows (status.Collision name held given) = IsClashOf rows name held given
+DiffersOver plan rows (status.Unsteady pn task held given) = IsUnsteadyOf plan rows pn task held given
+DiffersOver plan rows _ = Unit {0}
+
+-- *What is held differs from what was given*: the status says so over rows whose records are all held under `rec/`, each by its name, whatever
+-- a crash now leaves. So the one of the two is that of a stored record.
+pub record TellsDifference (tells : Type 0) (plan : Plan) (story : Story) (s : Status) : Type 0 where
+  pub rows : List EquivRow
+  pub kept : tells → HoldsRecords story rows
+  pub differs : DiffersOver plan rows s
 
 -- What was written is the text of the run, or, where the sink failed, some front of the text that some status gives.
 abbrev pub WritesReport : Type 0 → List ℕ → List ℕ → Plan → List Logged → Status → Type 0

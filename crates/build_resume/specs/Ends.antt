@@ -66,6 +66,15 @@ is_faultless status.TaskFailed = true
 is_faultless status.BenchFault = true
 is_faultless _ = false
 
+-- whether the status is that of a fault that was kept: of the store, of the sink, or want of memory
+abbrev pub is_of_fault : Status → Bool
+is_of_fault status.DiskFault = true
+is_of_fault status.WriteFault = true
+is_of_fault (status.Collision name held given) = true
+is_of_fault (status.Unsteady pn task held given) = true
+is_of_fault status.OutOfMemory = true
+is_of_fault _ = false
+
 -- How a run ends whose first cause is this one: so it does; or memory was wanting for the last line, or for the list of the tasks that
 -- failed; or nothing failed outside before, and the sink did now.
 abbrev pub EndsBy : Type 0 → Status → Status → Type 0

@@ -15,7 +15,7 @@ ghost use Rattle.run_queue.specs.Turns.{fates_of};
 ghost use Rattle.meta_model.specs.declared.event.Logged.{Logged as Entry};
 ghost use Rattle.run_workers.specs.Runs.{Runs};
 ghost use Rattle.build_resume.specs.Benches.{AtSeats, BreaksByFault, SomeBreak, SomeRose};
-ghost use Rattle.build_resume.specs.Build.{AllClean, IsEntry, Leaves, MayEndSo, RanPrinted, RanStarted, WritesReport, failed_in, is_collision, is_unsteady};
+ghost use Rattle.build_resume.specs.Build.{AllClean, IsEntry, Leaves, MayEndSo, RanPrinted, RanStarted, TellsDifference, WritesReport, failed_in, is_collision, is_unsteady};
 ghost use Rattle.build_resume.specs.Drive.{RanOn, RanSaid, SaidTo, WentOn};
 ghost use Rattle.build_resume.specs.Ends.{EndsBy, status_by};
 ghost use Rattle.build_resume.specs.Outcome.{EndsAs, KeptTo};
@@ -143,6 +143,7 @@ fn finish<D: Disk, B: Bench, W: Sink>(
     ensures cause { (before : ℕ) → Counts before (W.faults state.sink) state.sink_failed
         → MayEndSo (D.faults result.disk) (Rose (B.faults last.old) (B.faults last.new) ⊎ SomeBreak result.tale.items)
         (Rose before (W.faults result.sink)) result.status }
+    ensures differs { TellsDifference D.tells state.plan (D.story result.disk) result.status }
     ensures run { D.tells → B.tells → (o : Opening) → o.gives ≡ B.gives last.old
         → IsRun o (seen D.story W.written state) → KeptTo o state.plan state.options result.tale.items result.status
         (D.story result.disk) × RanOn (B.gives last.old) state.plan state.tale result.tale.items
@@ -186,6 +187,7 @@ where
         (W.written result.sink) state.plan result.tale.items result.status }
     ensures cause { MayEndSo (D.faults result.disk) (SomeRose (map B.faults benches.items)
         (map B.faults result.benches.items)) (Rose (W.faults state.sink) (W.faults result.sink)) result.status }
+    ensures differs { TellsDifference D.tells state.plan (D.story result.disk) result.status }
     ensures broke { AtSeats (BreaksByFault result.tale.items) (map B.faults benches.items)
         (map B.faults result.benches.items) }
     ensures run { D.tells → B.tells → (gives : Gives) → All (λ b. B.gives b ≡ gives) benches.items → (o : Opening)
@@ -304,9 +306,14 @@ where
     ensures text { W.tells → WritesReport (Rose (W.faults sink) (W.faults result.sink)) (W.written sink)
         (W.written result.sink) plan result.tale.items result.status }
 
-    // Each status has its cause, and so has each task that broke off since its bench failed.
+    // Each status has its cause, and so has each task that broke off since its bench failed. (Of one that broke off by a fault `told` says that
+    // a fault is the status.)
     ensures ends { MayEndSo (D.faults result.disk) (SomeRose (map B.faults benches.items)
         (map B.faults result.benches.items)) (Rose (W.faults sink) (W.faults result.sink)) result.status }
+
+    // What a collision, or an output that isn't steady, tells of two that differ: the one is that of a record that is held, whatever a crash
+    // leaves; the task is one of the plan.
+    ensures differs { TellsDifference D.tells plan (D.story result.disk) result.status }
     ensures broke { AtSeats (BreaksByFault result.tale.items) (map B.faults benches.items)
         (map B.faults result.benches.items) }
 {

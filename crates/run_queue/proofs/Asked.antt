@@ -13,7 +13,6 @@ use Rattle.meta_model.specs.declared.plan.PlanTask.{PlanTask}
 use Rattle.store_model.specs.declared.signature.EquivRow.{EquivRow}
 use Rattle.store_model.specs.declared.signature.SigRecord.{SigRecord}
 use Rattle.store_model.specs.Available.{IsAvailable}
-use Rattle.store_model.specs.Spelling.{name_of, signature_bytes}
 use Rattle.build_store.specs.Faults.{IsClash, is_disk_fault}
 use Rattle.build_store.specs.View.{View, signed_by}
 use Rattle.build_store.specs.declared.fault.StoreFault.{StoreFault}
@@ -26,6 +25,7 @@ use Rattle.setscene_plan.specs.View.{Follows, IsNamedBy}
 use Rattle.setscene_plan.proofs.Meanings.{Yields, current_follows, settled_yields}
 use Rattle.run_queue.specs.Asking.{Asks, Earlier, IsMet, IsUnknown, Keeps, Means, earlier_in, kept_or_meant, meant, nothing_earlier}
 use Rattle.run_queue.specs.Seen.{no_meaning}
+use Rattle.run_queue.proofs.Causing.{clash_of}
 
 -- ---- what questions leave
 
@@ -45,34 +45,34 @@ module _ {D : Type 0} (tells : Type 0) (story : D → Story) (faults : D → ℕ
   }
 
   -- one that met a fault, which is kept
-  pub asks_met : (a b : View D) (f g : Option StoreFault) (fault : StoreFault) (answer : ProbeFault) → b.rows ≡ a.rows → b.kept ≡ a.kept → (tells → Passes (story a.disk) (story b.disk) Same) → f ≡ None → IsUnknown (faults a.disk) (faults b.disk) fault → Keeps fault f g answer → Asks tells story faults a b f g
+  pub asks_met : (a b : View D) (f g : Option StoreFault) (fault : StoreFault) (answer : ProbeFault) → b.rows ≡ a.rows → b.kept ≡ a.kept → (tells → Passes (story a.disk) (story b.disk) Same) → f ≡ None → IsUnknown a.rows (faults a.disk) (faults b.disk) fault → Keeps fault f g answer → Asks tells story faults a b f g
   asks_met a b f g fault answer rows kept images none why keeps = record {
     rows = rows;
     kept = kept;
     images = images;
     stays = λ x is. absurd (some_or f x none is);
     none = λ was is. count_same fault why keeps is;
-    met = λ x was is. met_by fault why keeps x is;
+    met = λ x was is. subst (λ (r : List EquivRow). IsMet r (faults b.disk) x) (sym rows) (met_by fault why keeps x is);
   }
     where
-      count_same : (y : StoreFault) → IsUnknown (faults a.disk) (faults b.disk) y → Keeps y f g answer → g ≡ None → faults b.disk ≡ faults a.disk
+      count_same : (y : StoreFault) → IsUnknown a.rows (faults a.disk) (faults b.disk) y → Keeps y f g answer → g ≡ None → faults b.disk ≡ faults a.disk
       count_same fault_of.Disk w k is = absurd (some_or g fault_of.Disk is k.0)
       count_same (fault_of.Collision name held given) w k is = absurd (some_or g (fault_of.Collision name held given) is k.0)
       count_same (fault_of.Unsteady pn task held given) w k is = absurd w
       count_same fault_of.Memory w k is = w
 
-      met_by : (y : StoreFault) → IsUnknown (faults a.disk) (faults b.disk) y → Keeps y f g answer → (x : StoreFault) → g ≡ Some x → IsMet (faults b.disk) x
-      met_by fault_of.Disk w k x is = subst (λ (z : StoreFault). IsMet (faults b.disk) z) (same_Some fault_of.Disk x (sym k.0 ∙ is)) w
-      met_by (fault_of.Collision name held given) w k x is = subst (λ (z : StoreFault). IsMet (faults b.disk) z) (same_Some (fault_of.Collision name held given) x (sym k.0 ∙ is)) w
+      met_by : (y : StoreFault) → IsUnknown a.rows (faults a.disk) (faults b.disk) y → Keeps y f g answer → (x : StoreFault) → g ≡ Some x → IsMet a.rows (faults b.disk) x
+      met_by fault_of.Disk w k x is = subst (λ (z : StoreFault). IsMet a.rows (faults b.disk) z) (same_Some fault_of.Disk x (sym k.0 ∙ is)) w
+      met_by (fault_of.Collision name held given) w k x is = subst (λ (z : StoreFault). IsMet a.rows (faults b.disk) z) (same_Some (fault_of.Collision name held given) x (sym k.0 ∙ is)) w
       met_by (fault_of.Unsteady pn task held given) w k x is = absurd w
       met_by fault_of.Memory w k x is = absurd (some_or g x (k.0 ∙ none) is)
 
   -- why nothing is known
-  pub unknown_by : (a b : View D) (g : Option StoreFault) → Asks tells story faults a b None g → IsUnknown (faults a.disk) (faults b.disk) (unwrap_or g fault_of.Memory)
+  pub unknown_by : (a b : View D) (g : Option StoreFault) → Asks tells story faults a b None g → IsUnknown b.rows (faults a.disk) (faults b.disk) (unwrap_or g fault_of.Memory)
   unknown_by a b None asks = asks.none refl refl
   unknown_by a b (Some x) asks = by x (asks.met x refl refl)
     where
-      by : (y : StoreFault) → IsMet (faults b.disk) y → IsUnknown (faults a.disk) (faults b.disk) y
+      by : (y : StoreFault) → IsMet b.rows (faults b.disk) y → IsUnknown b.rows (faults a.disk) (faults b.disk) y
       by fault_of.Disk m = m
       by (fault_of.Collision name held given) m = m
       by (fault_of.Unsteady pn task held given) m = m
@@ -81,21 +81,13 @@ module _ {D : Type 0} (tells : Type 0) (story : D → Story) (faults : D → ℕ
 pub counts_none : (count : ℕ) (fault : StoreFault) → is_disk_fault fault ≡ false → Counts count count (is_disk_fault fault)
 counts_none count fault rests = subst (Counts count count) (sym rests) (record { later = omega arith; rose = tt; stayed = refl })
 
-pub signed_name : (sig : SigRecord) → IsNamedBy (name_of sig) (signature_bytes sig)
-signed_name sig = record { sig = sig; spelled = refl; named = refl }
-
 rose_above : (before now : ℕ) → Rose before now → 0 < now
 rose_above before now rose = omega (arith, rose)
 
 -- why a question about a signature is refused
-pub clash_unknown : (rows : List EquivRow) (name : Hash) (bytes : List ℕ) (before now : ℕ) (fault : StoreFault) → IsNamedBy name bytes → IsClash rows name bytes fault → Counts before now (is_disk_fault fault) → IsUnknown before now fault
-unfolding name_of
+pub clash_unknown : (rows : List EquivRow) (name : Hash) (bytes : List ℕ) (before now : ℕ) (fault : StoreFault) → IsNamedBy name bytes → IsClash rows name bytes fault → Counts before now (is_disk_fault fault) → IsUnknown rows before now fault
 clash_unknown rows name bytes before now fault_of.Disk named clash counts = rose_above before now counts.rose
-clash_unknown rows name bytes before now (fault_of.Collision at held given) named clash counts = (
-  clash.differ,
-  clash.held_name,
-  ap Rattle.sha2.specs.Sha256.sha256 (clash.given_is ∙ named.spelled) ∙ ap (λ (h : Hash). h.bytes) (sym (clash.name_is ∙ named.named)),
-)
+clash_unknown rows name bytes before now (fault_of.Collision at held given) named clash counts = clash_of rows name at bytes held given named clash
 clash_unknown rows name bytes before now (fault_of.Unsteady pn task held given) named clash counts = absurd clash
 clash_unknown rows name bytes before now fault_of.Memory named clash counts = counts.stayed
 

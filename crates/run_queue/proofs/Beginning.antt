@@ -146,6 +146,7 @@ begins_state count plan options store sink begun tale no_tale sound unharmed lon
       current = tt;
       unharmed = λ none. unharmed;
       heard = λ none. refl;
+      unbroken = λ none. refl;
       cause = tt;
     })
 

@@ -21,7 +21,8 @@ use Rattle.setscene_plan.proofs.Naming.{signed_is, task_at}
 use Rattle.setscene_plan.proofs.Updating.{names_current}
 use Rattle.build_store.specs.View.{View as Store}
 use Rattle.run_queue.specs.declared.fault.RunFault.{RunFault}
-use Rattle.run_queue.specs.Keeps.{IsCause, IsState, IsUpToDate}
+use Rattle.run_queue.specs.Causes.{IsCause}
+use Rattle.run_queue.specs.Keeps.{IsState, IsUpToDate}
 use Rattle.run_queue.specs.Seen.{Known, RunView, known_in}
 
 module _ (says : Says) (view : View) (kept : Replan) (ordered : AreOrdered view.plan.tasks) (is : IsCurrent says view kept) where
@@ -69,5 +70,6 @@ state_known count now s store k is none same known = record {
   current = known;
   unharmed = λ n. same ∙ is.unharmed n;
   heard = is.heard;
-  cause = subst (λ (f : Option RunFault). IfSome f (IsCause now s.sink_failed)) (sym none) tt;
+  unbroken = is.unbroken;
+  cause = subst (λ (f : Option RunFault). IfSome f (IsCause now s.plan store.rows s.sink_failed)) (sym none) tt;
 }

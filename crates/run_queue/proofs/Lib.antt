@@ -1,3 +1,4 @@
+pub mod Causing
 pub mod Notes
 pub mod Printed
 pub mod Growing

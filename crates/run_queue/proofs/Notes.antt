@@ -5,20 +5,24 @@ use Rattle.std.proofs.lemmas.Bool.{false≢true, cases_eq}
 use Rattle.meta_model.specs.declared.event.Event.{Event}
 use Rattle.meta_model.specs.declared.event.Event.TheVariants as events
 use Rattle.meta_model.specs.declared.event.Logged.{Logged}
+use Rattle.meta_model.specs.declared.plan.Plan.{Plan}
 use Rattle.meta_model.specs.declared.plan.PlanTask.{PlanTask}
 use Rattle.run_core.specs.declared.fate.Fate.{Fate}
 use Rattle.run_core.specs.declared.fate.Fate.TheVariants as fate
 use Rattle.run_core.specs.Fates.{fate_at, fate_by, fates_told, is_running, is_settled, running_count, runs_once, task_of, CanMark}
 use Rattle.run_core.specs.History.{IsInOrder, IsOrderly}
+use Rattle.store_model.specs.declared.signature.EquivRow.{EquivRow}
 use Rattle.run_core.proofs.Agreeing.{each_push}
 use Rattle.run_core.proofs.Marking.{count_after, some_here}
 use Rattle.run_core.proofs.Steps.{told_push}
 use Rattle.std.specs.Prelude.{Option, IfSome}
 use Rattle.run_queue.specs.declared.fault.RunFault.{RunFault}
 use Rattle.run_queue.specs.declared.fault.RunFault.TheVariants as ends
-use Rattle.run_queue.specs.Keeps.{HasRoom, IsCause, IsState}
+use Rattle.run_queue.specs.Causes.{IsCause, is_fault_break}
+use Rattle.run_queue.specs.Keeps.{HasRoom, IsState}
 use Rattle.run_queue.specs.Seen.{RunView}
 use Rattle.run_queue.specs.Turns.{fates_of}
+use Rattle.run_queue.proofs.Causing.{unbroken_on}
 
 -- there is room for what comes of a running task
 pub room_now : (capacity events : ℕ) (fates : List Fate) (t : ℕ) → is_running (fate_at fates t) ≡ true → HasRoom capacity events fates → events < capacity
@@ -76,14 +80,15 @@ pub fates_next : (tasks : List PlanTask) (tale : List Logged) (e : Logged) → f
 fates_next tasks tale e = told_push (length tasks) tale e
 
 -- every state keeps what it keeps
-pub noted_state : {D W : Type 0} (count : ℕ) (s : RunView D W) (e : Logged) → IsState count s → IsInOrder s.plan.tasks (fates_of s) e.seat e.event → IsState count (record s { tale = s.tale ++ e ∷ [] })
-noted_state count s e is order = record {
+pub noted_state : {D W : Type 0} (count : ℕ) (s : RunView D W) (e : Logged) → IsState count s → IsInOrder s.plan.tasks (fates_of s) e.seat e.event → (s.fault ≡ None → is_fault_break e.event ≡ false) → IsState count (record s { tale = s.tale ++ e ∷ [] })
+noted_state count s e is order calm = record {
   sound = is.sound;
   long = is.long;
   orderly = each_push (IsOrderly s.plan.tasks) s.tale e is.orderly order;
   current = is.current;
   unharmed = is.unharmed;
   heard = is.heard;
+  unbroken = λ none. unbroken_on s.tale e (is.unbroken none) (calm none);
   cause = is.cause;
 }
 
@@ -95,13 +100,13 @@ noted_room capacity tasks tale e lt runs rests room =
     (room_after capacity (length tale) (fates_told (length tasks) tale) (task_of e.event) (fate_by e.event) lt runs rests room))
 
 -- a cause stands while the sink stays failed, if it was
-cause_on : (count : ℕ) (old new : Bool) (f : RunFault) → (old ≡ true → new ≡ true) → IsCause count old f → IsCause count new f
-cause_on count old new (ends.Store f) stays is = is
-cause_on count old new ends.Write stays is = stays is
+cause_on : (count : ℕ) (plan : Plan) (rows : List EquivRow) (old new : Bool) (f : RunFault) → (old ≡ true → new ≡ true) → IsCause count plan rows old f → IsCause count plan rows new f
+cause_on count plan rows old new (ends.Store f) stays is = is
+cause_on count plan rows old new ends.Write stays is = stays is
 
-pub said_cause : (count : ℕ) (old new : Bool) (f : Option RunFault) → (old ≡ true → new ≡ true) → IfSome f (IsCause count old) → IfSome f (IsCause count new)
-said_cause count old new None stays is = is
-said_cause count old new (Some f) stays is = cause_on count old new f stays is
+pub said_cause : (count : ℕ) (plan : Plan) (rows : List EquivRow) (old new : Bool) (f : Option RunFault) → (old ≡ true → new ≡ true) → IfSome f (IsCause count plan rows old) → IfSome f (IsCause count plan rows new)
+said_cause count plan rows old new None stays is = is
+said_cause count plan rows old new (Some f) stays is = cause_on count plan rows old new f stays is
 
 -- what the sink is told changes nothing of what a state keeps but the cause of a fault
 pub said_state : {D W : Type 0} (count : ℕ) (s : RunView D W) (sink : W) (failed : Bool) → (s.sink_failed ≡ true → failed ≡ true) → (s.fault ≡ None → failed ≡ false) → IsState count s → IsState count (record s { sink = sink; sink_failed = failed })
@@ -112,7 +117,8 @@ said_state count s sink failed stays heard is = record {
   current = is.current;
   unharmed = is.unharmed;
   heard = heard;
-  cause = said_cause count s.sink_failed failed s.fault stays is.cause;
+  unbroken = is.unbroken;
+  cause = said_cause count s.plan s.store.rows s.sink_failed failed s.fault stays is.cause;
 }
 
 once_at_most : (f : Fate) → runs_once f ≤ 1

@@ -33,8 +33,6 @@ use Rattle.setscene_plan.specs.Names.{AreNamed, names_over}
 use Rattle.setscene_plan.proofs.Naming.{names_are_over, signature_gathered}
 use Rattle.std.specs.Prelude.{IfErr, IfOk, IfSome, IsSome, MatchBool, Result, Ok, Err}
 use Rattle.std.specs.Result.{IsErrAnd}
-use Rattle.sha2.specs.Sha256.{sha256}
-use Rattle.tree_model.specs.Manifest.{manifest_lines}
 use Rattle.outside_traits.specs.Fault.{Counts}
 use Rattle.outside_traits.specs.Passes.{EachNow}
 use Rattle.outside_traits.specs.Story.{Story}
@@ -42,14 +40,14 @@ use Rattle.setscene_plan.specs.declared.replan.Replan.{Replan}
 use Rattle.run_queue.specs.Seen.{no_meaning}
 use Rattle.setscene_plan.specs.Replans.{IsCurrent, names_in, unihashes_in}
 use Rattle.setscene_plan.specs.View.{View}
-use Rattle.build_store.specs.Faults.{IsClash, IsRefusal, is_disk_fault, store_failed}
+use Rattle.build_store.specs.Faults.{IsClash, store_failed}
 use Rattle.build_store.specs.declared.fault.StoreFault.{StoreFault}
-use Rattle.build_store.specs.declared.fault.StoreFault.TheVariants as fault_of
 use Rattle.build_store.specs.Publication.{AreShort, HasNoObject, IsRestored}
 use Rattle.build_store.specs.View.{IsSignatureOf}
-use Rattle.run_queue.specs.Keeps.{IsStoreCause}
+use Rattle.run_queue.specs.Causes.{IsStoreCause}
 use Rattle.run_queue.specs.Puts.{HasPutObject, IsSignedAt}
 use Rattle.run_queue.proofs.Agreement.{signed_count}
+use Rattle.run_queue.proofs.Causing.{clash_cause}
 use Rattle.run_queue.proofs.Enduring.{signed_task}
 
 -- ---- a sound plan's signatures
@@ -175,22 +173,6 @@ known_signature plan rows (Some r) t task sig s sound at current known by is =
     let sigs : s.sig ≡ sig = sym own ∙ ap (signature_by plan.tasks (unihashes_in r)) same ∙ sym (by task at) in
     λ i. record { task = same i; sig = sigs i }
 
--- Why a fault of a publication is kept: before it the disk hadn't failed.
-pub store_cause : (before count : ℕ) (rows : List EquivRow) (s : Signed) (tree : Entries) (f : StoreFault) → before ≡ 0 → Counts before count (is_disk_fault f) → IsRefusal rows s tree f → IsStoreCause count f
-unfolding name_of
-store_cause before count rows s tree fault_of.Disk none counts refused = let rose = counts.rose in omega (arith, rose, none)
-store_cause before count rows s tree (fault_of.Collision name held given) none counts refused = (
-  refused.differ,
-  refused.held_name,
-  ap sha256 refused.given_is ∙ sym (ap (λ (h : Hash). h.bytes) refused.name_is),
-)
-store_cause before count rows s tree (fault_of.Unsteady pn task held given) none counts refused =
-    let is : fault_of.Unsteady pn task held given ≡ fault_of.Unsteady s.task.id.pn s.task.id.task refused.row.manifest (manifest_lines tree) = refused.is in
-    let held_is : held ≡ refused.row.manifest = cc in
-    let given_is : given ≡ manifest_lines tree = cc in
-    λ same. refused.differ (sym held_is ∙ same ∙ given_is)
-store_cause before count rows s tree fault_of.Memory none counts refused = tt
-
 -- the task that stands at a place of a list
 pub indexed : (tasks items : List PlanTask) (t : ℕ) (x : PlanTask) → items ≡ tasks → t < length tasks → x ≡ get_or items t x → slice_get tasks t ≡ Some x
 indexed tasks items t x same lt is = slice_get-get_or tasks t x lt ∙ ap (λ (y : PlanTask). Some y) (ap (λ (l : List PlanTask). get_or l t x) (sym same) ∙ sym is)
@@ -213,20 +195,9 @@ handed_on (Err e) f P is here = subst P (sym is) here
 -- ---- a restoring
 
 -- Why a fault of a restoring is kept.
-clash_cause : (before count : ℕ) (rows : List EquivRow) (sig : SigRecord) (f : StoreFault) → before ≡ 0 → Counts before count (is_disk_fault f) → IsClash rows (name_of sig) (signature_bytes sig) f → IsStoreCause count f
-unfolding name_of
-clash_cause before count rows sig fault_of.Disk none counts refused = let rose = counts.rose in omega (arith, rose, none)
-clash_cause before count rows sig (fault_of.Collision name held given) none counts refused = (
-  refused.differ,
-  refused.held_name,
-  ap sha256 refused.given_is ∙ sym (ap (λ (h : Hash). h.bytes) refused.name_is),
-)
-clash_cause before count rows sig (fault_of.Unsteady pn task held given) none counts refused = absurd refused
-clash_cause before count rows sig fault_of.Memory none counts refused = tt
-
-pub restore_cause : (before count : ℕ) (rows : List EquivRow) (sig : SigRecord) (r : Result Bool StoreFault) → before ≡ 0 → Counts before count (store_failed r) → IfErr r (IsClash rows (name_of sig) (signature_bytes sig)) → IfErr r (IsStoreCause count)
-restore_cause before count rows sig (Ok found) none counts refused = tt
-restore_cause before count rows sig (Err f) none counts refused = clash_cause before count rows sig f none counts refused
+pub restore_cause : (before count : ℕ) (plan : Plan) (rows later : List EquivRow) (sig : SigRecord) (r : Result Bool StoreFault) → later ≡ rows → before ≡ 0 → Counts before count (store_failed r) → IfErr r (IsClash rows (name_of sig) (signature_bytes sig)) → IfErr r (IsStoreCause count plan later)
+restore_cause before count plan rows later sig (Ok found) same none counts refused = tt
+restore_cause before count plan rows later sig (Err f) same none counts refused = subst (λ (l : List EquivRow). IsStoreCause count plan l f) (sym same) (clash_cause before count plan rows sig f none counts refused)
 
 -- What is answered of a task with its signature is answered of the task of its number.
 pub put_object : (tells : Type 0) (old new : Story) (rows : List EquivRow) (tasks : List PlanTask) (t : ℕ) (x : Signed) (r : Result Bool StoreFault) → ((s : Signed) → IsSignedAt rows tasks t s → s ≡ x)

@@ -34,11 +34,11 @@ pub steady_none : (f : Option RunFault) → f ≡ None → IsSteady f
 steady_none None e = tt
 steady_none (Some f) e = absurd (let n : Some f ≡ None = e in cc)
 
-pub unknown_steady : (before now : ℕ) (f : StoreFault) → IsUnknown before now f → IsSteadyAnswer f
-unknown_steady before now fault_of.Disk is = tt
-unknown_steady before now (fault_of.Collision name held given) is = tt
-unknown_steady before now (fault_of.Unsteady pn task held given) is = is
-unknown_steady before now fault_of.Memory is = tt
+pub unknown_steady : (rows : List EquivRow) (before now : ℕ) (f : StoreFault) → IsUnknown rows before now f → IsSteadyAnswer f
+unknown_steady rows before now fault_of.Disk is = tt
+unknown_steady rows before now (fault_of.Collision name held given) is = tt
+unknown_steady rows before now (fault_of.Unsteady pn task held given) is = is
+unknown_steady rows before now fault_of.Memory is = tt
 
 pub outside_steady : (f : StoreFault) → IsOutside f → IsSteadyAnswer f
 outside_steady fault_of.Disk is = tt

@@ -1,7 +1,6 @@
 -- What a store answers of the tasks of a plan, some of which were begun.
-use Rattle.std.specs.Prelude.{◌≡◌, ◌≢◌, ◌<◌, ◌⊎◌, ℕ, Bool, List, [], Option, Some, None}
+use Rattle.std.specs.Prelude.{◌≡◌, ◌<◌, ◌⊎◌, ℕ, Bool, List, [], Option, Some, None}
 use Rattle.std.specs.List.{slice_get}
-use Rattle.sha2.specs.Sha256.{sha256}
 use Rattle.tree_model.specs.declared.hash.Hash.{Hash}
 use Rattle.outside_traits.specs.Passes.{Passes, Same}
 use Rattle.outside_traits.specs.Store.{Store}
@@ -24,6 +23,7 @@ use Rattle.setscene_plan.specs.declared.replan.Replan.{Replan}
 use Rattle.setscene_plan.specs.Replans.{avail_in, need_in, unihashes_in}
 use Rattle.setscene_plan.specs.View.{Says}
 use Rattle.sig_gen.specs.Signing.{signature_by}
+use Rattle.run_queue.specs.Causes.{IsClashOf}
 
 -- ---- what answers mean
 
@@ -78,12 +78,12 @@ kept_or_meant e tells held rows setscene tasks begun t sig there = WasKept e tas
 
 -- ---- faults
 
--- A question met this fault of a store, whose disk has failed so often now.
-abbrev pub IsMet : ℕ → StoreFault → Type 0
-IsMet now fault_of.Disk = 0 < now
-IsMet now (fault_of.Collision name held given) = (held ≢ given) × (sha256 held ≡ name.bytes) × (sha256 given ≡ name.bytes)
-IsMet now (fault_of.Unsteady pn task held given) = ⊥
-IsMet now fault_of.Memory = ⊥
+-- A question met this fault of a store, which has these rows, and whose disk has failed so often now.
+abbrev pub IsMet : List EquivRow → ℕ → StoreFault → Type 0
+IsMet rows now fault_of.Disk = 0 < now
+IsMet rows now (fault_of.Collision name held given) = IsClashOf rows name held given
+IsMet rows now (fault_of.Unsteady pn task held given) = ⊥
+IsMet rows now fault_of.Memory = ⊥
 
 -- 1 where a fault is kept
 abbrev pub fault_count : Option StoreFault → ℕ
@@ -106,11 +106,11 @@ pub record Asks {D : Type 0} (tells : Type 0) (story : D → Story) (faults : D 
   pub images : tells → Passes (story old.disk) (story new.disk) Same
   pub stays : (f : StoreFault) → before ≡ Some f → (now ≡ Some f) × (faults new.disk ≡ faults old.disk)
   pub none : before ≡ None → now ≡ None → faults new.disk ≡ faults old.disk
-  pub met : (f : StoreFault) → before ≡ None → now ≡ Some f → IsMet (faults new.disk) f
+  pub met : (f : StoreFault) → before ≡ None → now ≡ Some f → IsMet new.rows (faults new.disk) f
 
--- why nothing is known: a fault was met, or memory was wanting
-abbrev pub IsUnknown : ℕ → ℕ → StoreFault → Type 0
-IsUnknown before now fault_of.Disk = 0 < now
-IsUnknown before now (fault_of.Collision name held given) = (held ≢ given) × (sha256 held ≡ name.bytes) × (sha256 given ≡ name.bytes)
-IsUnknown before now (fault_of.Unsteady pn task held given) = ⊥
-IsUnknown before now fault_of.Memory = now ≡ before
+-- why nothing is known over these rows: a fault was met, or memory was wanting
+abbrev pub IsUnknown : List EquivRow → ℕ → ℕ → StoreFault → Type 0
+IsUnknown rows before now fault_of.Disk = 0 < now
+IsUnknown rows before now (fault_of.Collision name held given) = IsClashOf rows name held given
+IsUnknown rows before now (fault_of.Unsteady pn task held given) = ⊥
+IsUnknown rows before now fault_of.Memory = now ≡ before

@@ -69,9 +69,10 @@ module _ {D : Type 0} (tells : Type 0) (story : D → Story) (faults : D → ℕ
       none_on None e was is = second.none e is ∙ first.none was e
       none_on (Some x) e was is = absurd (some_or h x is (second.stays x e).0)
 
-      met_on : (mid : Option StoreFault) → g ≡ mid → (x : StoreFault) → f ≡ None → h ≡ Some x → IsMet (faults c.disk) x
+      met_on : (mid : Option StoreFault) → g ≡ mid → (x : StoreFault) → f ≡ None → h ≡ Some x → IsMet c.rows (faults c.disk) x
       met_on None e x was is = second.met x e is
       met_on (Some y) e x was is =
           let stays = second.stays y e in
           let same : y ≡ x = same_Some y x (sym stays.0 ∙ is) in
-          subst (λ (n : ℕ). IsMet n x) (sym stays.1) (subst (λ (z : StoreFault). IsMet (faults b.disk) z) same (first.met y was e))
+          subst (λ (r : List EquivRow). IsMet r (faults c.disk) x) (sym second.rows)
+          (subst (λ (n : ℕ). IsMet b.rows n x) (sym stays.1) (subst (λ (z : StoreFault). IsMet b.rows (faults b.disk) z) same (first.met y was e)))

@@ -2,7 +2,6 @@
 use Rattle.std.specs.Prelude.{◌≡◌, ◌≢◌, ◌⊎◌, ◌<◌, ◌≤◌, ◌+◌, ◌++◌, ℕ, Bool, true, false, List, length, Option, Some, None, IfSome, IsSome, []}
 use Rattle.std.specs.Bool.{OnTrue, OnFalse}
 use Rattle.std.specs.List.{AllByRecursion, slice_get}
-use Rattle.sha2.specs.Sha256.{sha256}
 use Rattle.tree_model.specs.declared.hash.Hash.{Hash}
 use Rattle.outside_traits.specs.Fault.{Counts}
 use Rattle.outside_traits.specs.Story.{IsImageSince, Story, moment}
@@ -39,6 +38,7 @@ use Rattle.bb_report.specs.Written.{WritesFront}
 use Rattle.run_queue.specs.declared.fault.RunFault.{RunFault}
 use Rattle.run_queue.specs.declared.fault.RunFault.TheVariants as ends
 use Rattle.run_queue.specs.Opening.{MayRun, Opening}
+use Rattle.run_queue.specs.Causes.{IsCause, fault_broke}
 use Rattle.run_queue.specs.Books.{book_after, rows_after}
 use Rattle.run_queue.specs.Courses.{IsLegalTale, IsReal}
 use Rattle.run_queue.specs.Seen.{IsBegun, Known, RunView, Seen}
@@ -54,18 +54,6 @@ pub record IsUpToDate (plan : Plan) (rows : List EquivRow) (k : Known) : Type 0 
   pub long : length k.avail ≡ length plan.tasks
   pub need : IsNeed plan k.avail k.need
   pub stored : (t : ℕ) (name : Hash) → IsIn k.need t → slice_get k.avail t ≢ Some Missing → slice_get k.names t ≡ Some name → row_at rows name ≢ None
-
--- Why a fault of the store is kept: the disk's count is above 0; two signatures that differ have the name as their digest; two
--- manifests differ; a publication wanted memory, for which nothing is asked.
-abbrev pub IsStoreCause : ℕ → StoreFault → Type 0
-IsStoreCause count fault_of.Disk = 0 < count
-IsStoreCause count (fault_of.Collision name held given) = (held ≢ given) × (sha256 held ≡ name.bytes) × (sha256 given ≡ name.bytes)
-IsStoreCause count (fault_of.Unsteady pn task held given) = held ≢ given
-IsStoreCause count fault_of.Memory = Unit {0}
-
-abbrev pub IsCause : ℕ → Bool → RunFault → Type 0
-IsCause count sink_failed (ends.Store f) = IsStoreCause count f
-IsCause count sink_failed ends.Write = sink_failed ≡ true
 
 -- the fault isn't that a task's output differs from one run to another
 abbrev pub IsSteadyAnswer : StoreFault → Type 0
@@ -89,10 +77,11 @@ pub record IsState {D W : Type 0} (count : ℕ) (s : RunView D W) : Type 0 where
   pub orderly : EachAfter (IsOrderly s.plan.tasks) s.tale
   -- what is known of the plan's tasks is up to date
   pub current : IfSome s.known (IsUpToDate s.plan s.store.rows)
-  -- while no fault is kept neither the disk has failed nor the sink, and a kept one has its cause
+  -- while no fault is kept neither the disk has failed nor the sink, and no task broke off by a fault; and a kept one has its cause
   pub unharmed : s.fault ≡ None → count ≡ 0
   pub heard : s.fault ≡ None → s.sink_failed ≡ false
-  pub cause : IfSome s.fault (IsCause count s.sink_failed)
+  pub unbroken : s.fault ≡ None → fault_broke s.tale ≡ false
+  pub cause : IfSome s.fault (IsCause count s.plan s.store.rows s.sink_failed)
 
 -- In the tale there is room for what comes of each running task.
 abbrev pub HasRoom : ℕ → ℕ → List Fate → Type 0

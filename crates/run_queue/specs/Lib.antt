@@ -5,6 +5,7 @@ pub mod Seen
 pub mod Outputs
 pub mod Own
 pub mod Stands
+pub mod Causes
 pub mod Keeps
 pub mod Turns
 pub mod Laws

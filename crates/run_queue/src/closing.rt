@@ -15,7 +15,8 @@ ghost use Rattle.build_store.specs.View.{SameBooks};
 ghost use Rattle.task_worker.specs.Jobs.{IsGiven};
 ghost use Rattle.run_queue.specs.Opening.{Opening};
 ghost use Rattle.run_queue.specs.Asking.{earlier_in, kept_or_meant};
-ghost use Rattle.run_queue.specs.Keeps.{IsCause, IsRun, IsSteady, IsSteadyAnswer, IsStoreCause, KeepsCount, KeepsFront, PrintsOn};
+ghost use Rattle.run_queue.specs.Causes.{IsCause, IsOfGiven, IsStoreCause, IsStoreOfGiven};
+ghost use Rattle.run_queue.specs.Keeps.{IsRun, IsSteady, IsSteadyAnswer, KeepsCount, KeepsFront, PrintsOn};
 ghost use Rattle.run_queue.specs.Puts.{HasPut, IsCleanOutput, IsSignedAt, Puts};
 ghost use Rattle.run_queue.specs.Seen.{no_meaning, seen};
 ghost use Rattle.run_queue.specs.Turns.{Ends, IsCleanJob, IsGivenBy, RestsAfterFault, RunsUnder, SameRun};
@@ -77,7 +78,8 @@ fn publish_in<D: Disk>(
     ensures known { OnOk result (IsSome replan.now) }
     ensures refused_rows { OnErr result (store.new.rows ≡ store.old.rows) }
     ensures unlooked { replan.now ≡ None → store.new ≡ store.old }
-    ensures cause { IfErr result (IsStoreCause (D.faults store.new.disk)) }
+    ensures cause { IfErr result (IsStoreCause (D.faults store.new.disk) plan.now store.new.rows) }
+    ensures given { IfErr result (IsStoreOfGiven plan.now.tasks task (givens.Tree tree.now manifest.now)) }
     ensures steady { (IsSome replan.now → (s : Signed) → IsSignedAt store.old.rows plan.now.tasks task s
         → IsAgreed store.old.rows s tree.now) → IfErr result IsSteadyAnswer }
     ensures unharmed { OnOk result (D.faults store.new.disk ≡ 0) }
@@ -117,7 +119,8 @@ fn resettle<D: Disk>(
         setscene plan.now.tasks begun.now) (record { plan = plan.now; rows = store.old.rows }) made)) }
     ensures nothing_new { replan.old ≡ None → replan.new ≡ None }
     ensures unharmed { fault.new ≡ None → D.faults store.new.disk ≡ 0 }
-    ensures cause { (failed : Bool) → IfSome fault.new (IsCause (D.faults store.new.disk) failed) }
+    ensures cause { (failed : Bool) → IfSome fault.new (IsCause (D.faults store.new.disk) plan.now store.new.rows
+        failed) }
     ensures steady { IsSteady fault.new }
     ensures same { SameBooks store.old store.new }
     ensures images { D.tells → Passes (D.story store.old.disk) (D.story store.new.disk) Same }
@@ -150,6 +153,8 @@ impl<D: Disk, W: Sink> RunState<D, W> {
         requires short { AreShort tree.now }
         requires listed { manifest.now ≡ manifest_lines tree.now }
         ensures ends { Ends number task (givens.Tree tree.now manifest.now) self.old self.new result }
+        ensures given { IfSome self.new.fault (IsOfGiven self.old.plan.tasks task
+            (givens.Tree tree.now manifest.now)) }
         ensures same { SameRun self.old self.new }
         ensures sink { KeepsCount W.faults self.old self.new }
         ensures text { W.tells → PrintsOn W.written self.old self.new }
@@ -207,6 +212,8 @@ impl<D: Disk, W: Sink> RunState<D, W> {
         requires runs { RunsUnder self.old job.task number }
         requires given { IsGiven given }
         ensures ends { Ends number job.task given self.old self.new result }
+        ensures given { self.old.fault ≡ None
+            → IfSome self.new.fault (IsOfGiven self.old.plan.tasks job.task given) }
         ensures same { SameRun self.old self.new }
         ensures rests { RestsAfterFault self.old self.new }
         ensures sink { KeepsCount W.faults self.old self.new }

@@ -184,8 +184,8 @@ fn ask_all<D: Disk>(asking: &mut Asking<D, Brand>, plan: &Plan) -> Result<Replan
         (record { plan = plan.now; rows = asking.old.store.now.rows }) made) }
     ensures names { IfOk result (λ made. names_in made ≡ names_over asking.old.store.now.rows plan.now.tasks) }
     ensures fine { OnOk result (asking.new.fault.now ≡ None) }
-    ensures refused { IsUnknown (D.faults asking.old.store.now.disk) (D.faults asking.new.store.now.disk)
-        (unwrap_or asking.new.fault.now StoreFault.Memory) }
+    ensures refused { IsUnknown asking.new.store.now.rows (D.faults asking.old.store.now.disk)
+        (D.faults asking.new.store.now.disk) (unwrap_or asking.new.fault.now StoreFault.Memory) }
     ensures asks { Asks D.tells D.story D.faults asking.old.store.now asking.new.store.now None asking.new.fault.now }
     ensures same_store { asking.new.store.ghost_name ≡ asking.old.store.ghost_name }
     ensures same_fault { asking.new.fault.ghost_name ≡ asking.old.fault.ghost_name }
@@ -213,8 +213,8 @@ fn ask_changed<D: Disk, E: Before>(
         asking.old.store.now.rows asking.old.setscene plan.now.tasks asking.old.begun.now)
         (record { plan = plan.now; rows = asking.old.store.now.rows }) known.new) }
     ensures fine { OnOk result (asking.new.fault.now ≡ None) }
-    ensures refused { IsUnknown (D.faults asking.old.store.now.disk) (D.faults asking.new.store.now.disk)
-        (unwrap_or asking.new.fault.now StoreFault.Memory) }
+    ensures refused { IsUnknown asking.new.store.now.rows (D.faults asking.old.store.now.disk)
+        (D.faults asking.new.store.now.disk) (unwrap_or asking.new.fault.now StoreFault.Memory) }
     ensures asks { Asks D.tells D.story D.faults asking.old.store.now asking.new.store.now None asking.new.fault.now }
     ensures same_store { asking.new.store.ghost_name ≡ asking.old.store.ghost_name }
     ensures same_fault { asking.new.fault.ghost_name ≡ asking.old.fault.ghost_name }
@@ -236,7 +236,7 @@ pub(crate) fn known_of<D: Disk>(
     ensures current { IfOk result (λ made. IsCurrent (meant D.tells (D.story store.old.disk).held store.old.rows
         setscene plan.now.tasks begun.now) (record { plan = plan.now; rows = store.old.rows }) made) }
     ensures names { IfOk result (λ made. names_in made ≡ names_over store.old.rows plan.now.tasks) }
-    ensures refused { IfErr result (IsUnknown (D.faults store.old.disk) (D.faults store.new.disk)) }
+    ensures refused { IfErr result (IsUnknown store.new.rows (D.faults store.old.disk) (D.faults store.new.disk)) }
     ensures fine { OnOk result (D.faults store.new.disk ≡ D.faults store.old.disk) }
 
     // Whatever it answers.
@@ -277,7 +277,7 @@ fn settled_by<D: Disk, E: Before>(
     requires settled { IsSettled no_meaning (record { plan = plan.now; rows = store.old.rows }) task known }
     ensures current { IfOk result (λ made. IsCurrent (kept_or_meant E.earlier D.tells (D.story store.old.disk).held
         store.old.rows setscene plan.now.tasks begun.now) (record { plan = plan.now; rows = store.old.rows }) made) }
-    ensures refused { IfErr result (IsUnknown (D.faults store.old.disk) (D.faults store.new.disk)) }
+    ensures refused { IfErr result (IsUnknown store.new.rows (D.faults store.old.disk) (D.faults store.new.disk)) }
     ensures fine { OnOk result (D.faults store.new.disk ≡ D.faults store.old.disk) }
     ensures same { SameBooks store.old store.new }
     ensures images { D.tells → Passes (D.story store.old.disk) (D.story store.new.disk) Same }
@@ -318,7 +318,7 @@ pub(crate) fn known_after<D: Disk>(
     ensures current { IfOk result (λ made. IsCurrent (kept_or_meant (earlier_in known) D.tells
         (D.story store.old.disk).held store.old.rows setscene plan.now.tasks begun.now)
         (record { plan = plan.now; rows = store.old.rows }) made) }
-    ensures refused { IfErr result (IsUnknown (D.faults store.old.disk) (D.faults store.new.disk)) }
+    ensures refused { IfErr result (IsUnknown store.new.rows (D.faults store.old.disk) (D.faults store.new.disk)) }
     ensures fine { OnOk result (D.faults store.new.disk ≡ D.faults store.old.disk) }
 
     // Whatever it answers.

@@ -9,7 +9,8 @@ ghost use Rattle.build_store.specs.View.{SameBooks};
 ghost use Rattle.run_core.specs.Fates.{IsFree};
 ghost use Rattle.run_core.specs.declared.fate.Next.TheVariants as next;
 ghost use Rattle.run_queue.specs.Opening.{Opening};
-ghost use Rattle.run_queue.specs.Keeps.{IsRun, IsSteady, IsSteadyAnswer, IsStoreCause, KeepsCount, KeepsFront, PrintsOn};
+ghost use Rattle.run_queue.specs.Causes.{IsStoreCause};
+ghost use Rattle.run_queue.specs.Keeps.{IsRun, IsSteady, IsSteadyAnswer, KeepsCount, KeepsFront, PrintsOn};
 ghost use Rattle.run_queue.specs.Puts.{HasPutObject, IsSignedAt, PutsObject};
 ghost use Rattle.run_queue.specs.Seen.{no_meaning, seen};
 ghost use Rattle.run_queue.specs.Turns.{MayDo, RestoresTo, SameRun, fates_of};
@@ -50,7 +51,7 @@ fn restore_in<D: Disk>(
     requires unharmed { D.faults store.old.disk ≡ 0 }
     ensures restored { IfOk result (λ found. (s : Signed) → IsSignedAt store.old.rows plan.now.tasks task s
         → HasPutObject D.tells (D.story store.old.disk) (D.story store.new.disk) store.old.rows s found) }
-    ensures cause { IfErr result (IsStoreCause (D.faults store.new.disk)) }
+    ensures cause { IfErr result (IsStoreCause (D.faults store.new.disk) plan.now store.new.rows) }
     ensures steady { IfErr result IsSteadyAnswer }
     ensures unharmed { OnOk result (D.faults store.new.disk ≡ 0) }
 

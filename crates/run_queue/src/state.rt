@@ -7,6 +7,8 @@ ghost use Rattle.run_core.specs.declared.fate.Fate.TheVariants.{Waiting};
 ghost use Rattle.plan_model.specs.Sound.{IsSound};
 ghost use Rattle.run_queue.specs.Opening.{Opening, MayRun};
 ghost use Rattle.run_queue.specs.Seen.{seen};
+ghost use Rattle.build_store.specs.Sound.{HoldsRecords};
+ghost use Rattle.run_queue.specs.Causes.{is_fault_break};
 ghost use Rattle.run_queue.specs.Keeps.{Begun, IsFront, IsOpening, IsRun, IsState, IsSteady, KeepsCount, KeepsFront, Prints, PrintsOn};
 ghost use Rattle.bb_report.specs.Runs.{event_line};
 ghost use Rattle.run_queue.specs.Turns.{Marks, MarksAt, Notes, RunsUnder, SameButSink, SameRun, fates_of};
@@ -189,9 +191,10 @@ impl<D: Disk, W: Sink> RunState<D, W> {
         }
     }
 
-    /// The job of the seat of a number couldn't be done. One turn: it marks that the task broke.
+    /// The job of the seat of a number couldn't be done. One turn: it marks that the task broke, by a fault only where one is kept.
     pub fn broke(&mut self, alloc: Global, number: u32, job: Job, cut: Cut)
         requires runs { RunsUnder self.old job.task number }
+        requires fault { cut ≡ Cut.Fault → IsSome self.old.fault }
         ensures marks { Marks number (events.Broke job.task cut) self.old.tale self.new.tale }
         ensures same { SameRun self.old self.new }
         ensures store { self.new.store ≡ self.old.store }
@@ -215,6 +218,7 @@ impl<D: Disk, W: Sink> RunState<D, W> {
         requires order { IsInOrder self.old.plan.tasks (fates_of self.old) number event }
         requires runs { is_running (fate_at (fates_of self.old) (task_of event)) ≡ true }
         requires rests { is_running (fate_by event) ≡ false }
+        requires unbroken { self.old.fault ≡ None → is_fault_break event ≡ false }
         ensures notes { Notes number event self.old self.new }
         ensures moment { D.tells → MarksAt (D.story self.old.store.disk) number event self.old.tale self.new.tale }
         ensures fault { IsSome self.old.fault → self.new.fault ≡ self.old.fault }
@@ -303,10 +307,11 @@ impl<D: Disk, W: Sink> RunState<D, W> {
         let _plan = &self.plan;
     }
 
-    /// What is left of a run. No memory.
+    /// What is left of a run. The disk holds the records of all rows, whatever a crash leaves. No memory.
     pub fn into_parts(self) -> RunParts<D, W>
         ensures plan { result.plan ≡ self.plan }
         ensures disk { result.disk ≡ self.store.disk }
+        ensures records { D.tells → HoldsRecords (D.story result.disk) self.store.rows }
         ensures sink { result.sink ≡ self.sink }
         ensures tale { result.tale.items ≡ self.tale }
         ensures fault { result.fault ≡ self.fault }

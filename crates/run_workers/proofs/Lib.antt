@@ -1,4 +1,5 @@
 mod Telling
+mod Unprinted
 mod Sinces
 mod Handing
 mod Turning

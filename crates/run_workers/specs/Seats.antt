@@ -1,5 +1,6 @@
 -- What a seat knows of a run, by its own record, and how a turn changes it.
 use Rattle.std.specs.Prelude.{◌≡◌, ◌⊎◌, ℕ, IsSome, List, [], ◌∷◌, ◌++◌, Bool, true, false, not, Option, Some, None, Result, Ok, Err, All}
+use Rattle.std.specs.List.{list_all}
 use Rattle.meta_model.specs.declared.event.Cut.{Cut}
 use Rattle.meta_model.specs.declared.event.Cut.TheVariants as cut
 use Rattle.meta_model.specs.declared.event.Event.{Event}
@@ -31,6 +32,10 @@ HoldsNone n mine = (t : ℕ) → last_of n (logged_in mine) ≡ Some (events.Sta
 -- it has the job of this task in hand
 abbrev pub Holds : ℕ → ℕ → List Told → Type 0
 Holds t n mine = last_of n (logged_in mine) ≡ Some (events.Started t n)
+
+-- one of these entries hadn't been printed behind the turn that marked it
+abbrev pub HasUnprinted : List Told → Type 0
+HasUnprinted mine = list_all (λ e. e.printed) mine ≡ false
 
 -- no record has a job in hand
 abbrev pub NoneHold : List (Record Told) → Type 0

@@ -8,7 +8,7 @@ ghost use Rattle.run_queue.specs.Turns.{IsCleanJob, IsGivenBy, fates_of};
 ghost use Rattle.task_worker.specs.Jobs.{IsGiven};
 ghost use Rattle.turn_lock.specs.Seats.{view_of, seats_of, HasAllNumbers, IsFree, IsSeatOf};
 ghost use Rattle.turn_lock.specs.Views.{first_view, records_of};
-ghost use Rattle.run_workers.specs.Seats.{BreakAdds, ClaimAdds, EndAdds, HandsClean, HandsScript, Holds, HoldsNone, NoneHold, Turned};
+ghost use Rattle.run_workers.specs.Seats.{BreakAdds, ClaimAdds, EndAdds, HandsClean, HandsScript, HasUnprinted, Holds, HoldsNone, NoneHold, Turned};
 ghost use Rattle.run_workers.specs.Left.{IsLeft};
 ghost use Rattle.run_workers.specs.declared.shared.Told.{Told as Entry};
 
@@ -107,7 +107,7 @@ pub(crate) fn ended<K: Began, D: Disk, W: Sink, R: Wait>(
     ended
 }
 
-/// One turn: the seat's job couldn't be done.
+/// One turn: the seat's job couldn't be done. It broke by a fault only where an entry of the seat hadn't been printed.
 pub(crate) fn broke<K: Began, D: Disk, W: Sink, R: Wait>(
     rt: &R,
     alloc: Global,
@@ -119,6 +119,7 @@ pub(crate) fn broke<K: Began, D: Disk, W: Sink, R: Wait>(
     requires queue { IsSeatOf queue.now seat.old }
     requires free { IsFree seat.old }
     requires holds { Holds job.task (view_of seat.old).number (view_of seat.old).own }
+    requires unprinted { cut ≡ Cut.Fault → HasUnprinted (view_of seat.old).own }
     ensures queue { IsSeatOf queue.now seat.new }
     ensures free { IsFree seat.new }
     ensures breaks { (added : List Entry) × BreakAdds (view_of seat.old).number job.task cut added

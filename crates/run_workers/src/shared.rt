@@ -1,5 +1,5 @@
 // The state that seats hand on.
-ghost use Rattle.std.specs.Prelude.{◌≡◌, ◌≤◌, [], List, None, length, true};
+ghost use Rattle.std.specs.Prelude.{◌≡◌, ◌≤◌, [], IsSome, List, None, length, true};
 ghost use Rattle.meta_model.specs.declared.event.Event.TheVariants as events;
 ghost use Rattle.run_core.specs.Fates.{IsFree};
 ghost use Rattle.run_core.specs.History.{EachAfter, IsOrderly};
@@ -166,9 +166,10 @@ impl<K: Began, D: Disk, W: Sink> Shared<K, D, W> {
         goes_on(ended, self.state.has_fault())
     }
 
-    /// A job on the state broke.
+    /// A job on the state broke, by a fault only where one is kept.
     pub(crate) fn broke(&mut self, alloc: Global, number: u32, job: Job, cut: Cut)
         requires runs { RunsUnder self.old.state job.task number }
+        requires fault { cut ≡ Cut.Fault → IsSome self.old.state.fault }
         ensures adds { (added : List Entry) × Adds number (tale_of self.old) (tale_of self.new) added
             × BreakAdds number job.task cut added }
     {

@@ -1,12 +1,12 @@
 // One worker of a run.
-ghost use Rattle.std.specs.Prelude.{◌≡◌, ◌≤◌, [], List, None, Some, true};
+ghost use Rattle.std.specs.Prelude.{◌≡◌, ◌≤◌, [], List, None, Some, false, true};
 ghost use Rattle.outside_traits.specs.Fault.{Counts};
 ghost use Rattle.run_queue.specs.Opening.{Opening};
 ghost use Rattle.run_queue.specs.Keeps.{IsRun};
 ghost use Rattle.run_queue.specs.Turns.{IsCleanJob};
 ghost use Rattle.turn_lock.specs.Seats.{view_of, IsFree, IsSeatOf};
 ghost use Rattle.run_workers.specs.Runs.{by_bench};
-ghost use Rattle.run_workers.specs.Seats.{Holds, HoldsNone, IsSameSeat};
+ghost use Rattle.run_workers.specs.Seats.{HasUnprinted, Holds, HoldsNone, IsSameSeat};
 ghost use Rattle.run_workers.specs.Told.{logged_in};
 ghost use Rattle.run_workers.specs.Worked.{BrokeOff, Closes, IsWorked, RanOnce, Worked};
 
@@ -50,6 +50,7 @@ fn do_claimed<K: Began, D: Disk, B: Bench, W: Sink, R: Wait>(
     requires queue { IsSeatOf queue.now seat.old }
     requires free { IsFree seat.old }
     requires holds { Holds job.task (view_of seat.old).number (view_of seat.old).own }
+    requires unprinted { printed ≡ false → HasUnprinted (view_of seat.old).own }
     requires gives { K.alike → B.tells × (B.gives bench.old ≡ K.gives) }
     requires clean { D.tells → K.alike → (o : Opening) → o.gives ≡ K.gives → IsRun o K.first
         → IsCleanJob o K.first job }

@@ -1,6 +1,6 @@
 use Rattle.std.proofs.Common.{refl, subst}
 use Rattle.meta_model.specs.declared.plan.Plan.{Plan}
-use Rattle.build_resume.specs.Build.{AllClean}
+use Rattle.build_resume.specs.Build.{AllClean, TellsDifference}
 use Rattle.run_plan.proofs.OnePlan.{plan_of_words_is_wanted}
 use Rattle.bitbake_top.specs.Run.{IsRunPlan}
 use Rattle.bitbake_top.proofs.Begun.{all_of_none, all_of_one, found_one, one_plan, refused_cause, refused_found, refused_not_ok, refused_steady, run_cause, run_is_built, run_is_read, unrun_fails, unrun_is_built, unrun_of_run, unrun_told}
@@ -81,3 +81,6 @@ returns-in-Err-clause-text g c told = unbegun_text _ _ _ _ _ c.new-in-Err.result
 
 pub returns-in-Err-clause-broke : goal.returns-in-Err-clause-broke
 returns-in-Err-clause-broke g c = unbegun_broke c.new-in-Err.result.items _ _ c.new-in-Err.ensures.items
+
+pub returns-in-Err-clause-differs : goal.returns-in-Err-clause-differs
+returns-in-Err-clause-differs g c = all_of_none (λ (p : Plan). TellsDifference g.D.Disk.tells p (g.D.Disk.story c.args.disk) c.refuse.result) c.new.result.items c.new.ensures.items

@@ -1,8 +1,9 @@
-use Rattle.std.proofs.Common.{◌∙◌, ap, subst, ◌∷◌, [], ℕ, List, map}
+use Rattle.std.proofs.Common.{◌∙◌, ap, subst, inl, ◌∷◌, [], ℕ, List, map}
+use Rattle.meta_model.specs.declared.plan.Plan.{Plan}
 use Rattle.run_workers.specs.Runs.{Runs}
-use Rattle.build_resume.specs.Build.{RanPrinted}
+use Rattle.build_resume.specs.Build.{RanPrinted, TellsDifference}
 use Rattle.build_resume.proofs.Statuses.{wider_cause}
-use Rattle.bitbake_top.proofs.Begun.{certain_ample, certain_apart}
+use Rattle.bitbake_top.proofs.Begun.{all_of_one, certain_ample, certain_apart}
 use Rattle.bitbake_top.proofs.Devices.{none_rose, rose_from}
 use Rattle.bitbake_top.proofs.Kept.{as_entry, begun_broke, begun_keeps, one_behind}
 use Rattle.bitbake_top.proofs.Written.{begun_text, printed_one}
@@ -61,3 +62,9 @@ pub returns-clause-causes : goal.returns-clause-causes
 returns-clause-causes g c before lt =
     wider_cause (g.D.Disk.faults c.build-plan.result.disk) _ _ _ _ c.build-plan.result.status (λ rose. rose)
     (rose_from before (g.W.Sink.faults c.args.sink) (g.W.Sink.faults c.build-plan.result.sink) lt) c.build-plan.ensures.ends
+
+pub returns-clause-differs : goal.returns-clause-differs
+returns-clause-differs g c =
+    all_of_one (Unit {0}) (λ (p : Plan). TellsDifference g.D.Disk.tells p (g.D.Disk.story c.build-plan.result.disk) c.build-plan.result.status) c.args.plan c.push_reserved.new.self.items
+    (inl (one_behind c.args.room.plans.items c.push_reserved.new.self.items c.build-plan.result.plan c.requires.none.0 c.push_reserved.ensures.items ∙ ap (λ p. p ∷ []) c.build-plan.ensures.plan))
+    c.build-plan.ensures.differs

@@ -1,6 +1,9 @@
-use Rattle.std.proofs.Common.{◌≡◌, ◌∙◌, refl, subst, ℕ, List}
+use Rattle.std.proofs.Common.{◌≡◌, ◌∙◌, inl, refl, subst, ℕ, List}
 use Rattle.meta_model.specs.declared.event.Status.TheVariants as status
-use Rattle.bitbake_top.proofs.Begun.{refused_not_ok, refused_steady}
+use Rattle.meta_model.specs.declared.plan.Plan.{Plan}
+use Rattle.build_resume.specs.Build.{TellsDifference}
+use Rattle.build_resume.proofs.Statuses.{nothing_differs}
+use Rattle.bitbake_top.proofs.Begun.{all_of_none, all_of_one, refused_not_ok, refused_steady}
 use Rattle.bitbake_top.proofs.Devices.{rose_from}
 use Rattle.bitbake_top.proofs.Kept.{one_behind, unbegun_broke, unbegun_keeps}
 use Rattle.bitbake_top.proofs.Written.{plan_front}
@@ -34,3 +37,13 @@ returns-in-Ok-clause-broke g c = unbegun_broke c.in-Ok.field-0.room.tales.items 
 
 pub returns-clause-broke : goal.returns-clause-broke
 returns-clause-broke g c = unbegun_broke c.new-in-Err.result.items _ _ c.new-in-Err.ensures.items
+
+pub returns-in-Ok-clause-differs : goal.returns-in-Ok-clause-differs
+returns-in-Ok-clause-differs g c =
+    let story = g.D.Disk.story c.args.disk in
+    all_of_one (Unit {0}) (λ (p : Plan). TellsDifference g.D.Disk.tells p story status.WriteFault) c.args.plan c.push_reserved.new.self.items
+    (inl (one_behind c.in-Ok.field-0.room.plans.items c.push_reserved.new.self.items c.args.plan c.in-Ok.ensures.none.0 c.push_reserved.ensures.items))
+    (nothing_differs g.D.Disk.tells c.args.plan story status.WriteFault tt)
+
+pub returns-clause-differs : goal.returns-clause-differs
+returns-clause-differs g c = all_of_none (λ (p : Plan). TellsDifference g.D.Disk.tells p (g.D.Disk.story c.args.disk) c.refuse.result) c.new-in-Err-2.result.items c.new-in-Err-2.ensures.items

@@ -3,10 +3,12 @@ use Rattle.outside_traits.specs.Fault.{Rose}
 use Rattle.meta_model.specs.declared.event.Status.TheVariants as status
 use Rattle.meta_model.specs.declared.plan.Options.{Options}
 use Rattle.meta_model.specs.declared.plan.Plan.{Plan}
+use Rattle.std.proofs.lemmas.Bool.{false≢true}
+use Rattle.run_queue.specs.Causes.{fault_broke}
 use Rattle.run_queue.specs.Keeps.{IsFront}
 use Rattle.run_workers.specs.Runs.{Runs}
 use Rattle.build_resume.specs.Benches.{AtSeats, BreaksByFault, SomeRose, broken_at, started_by}
-use Rattle.build_resume.specs.Build.{AllClean, MayEndSo, RanJust, RanPrinted, RanStarted, WritesReport, is_unsteady}
+use Rattle.build_resume.specs.Build.{AllClean, DiffersOver, MayEndSo, RanJust, RanPrinted, RanStarted, TellsDifference, WritesReport, is_unsteady}
 use Rattle.build_resume.specs.Ends.{EndsBy, bench_broke, memory_broke}
 use Rattle.build_resume.specs.Outcome.{EndsAs}
 use Rattle.build_resume.proofs.Begun.{just_nothing, ran_nothing}
@@ -14,7 +16,7 @@ use Rattle.build_resume.proofs.Benches.{broke_nothing, seats_same, some_mapped}
 use Rattle.build_resume.proofs.Built.{WasOpened, as_begun, built_complete, built_leaves, is_opening, may_run, opening, unbegun_leaves}
 use Rattle.build_resume.proofs.Printing.{grew, said_nothing}
 use Rattle.build_resume.proofs.Reports.{reports_as}
-use Rattle.build_resume.proofs.Statuses.{ended_exactly, memory_ends, refused_ends, refused_never, refused_steady}
+use Rattle.build_resume.proofs.Statuses.{ended_exactly, memory_ends, nothing_differs, refused_differs, refused_ends, refused_never, refused_steady}
 use Rattle.build_resume.proofs.running.build.Goals as goal
 
 pub returns-in-Ok-begin-clause-leaves : goal.returns-in-Ok-begin-clause-leaves
@@ -87,7 +89,7 @@ returns-in-Err-begin-clause-leaves g c tells told gives all reading book entry =
 pub returns-in-Err-begin-clause-told : goal.returns-in-Err-begin-clause-told
 returns-in-Err-begin-clause-told g c =
     let ends = (memory_ends c.unbegun.result.status (c.unbegun.ensures.status ∙ c.end_wanting-status.ensures.ends)) in
-    record { ok = λ e. absurd (ends.0 e); failed = λ e. absurd (ends.1 e); went_on = λ e. absurd (ends.1 e); unbroken = λ e. (ap bench_broke c.unbegun.ensures.tale, ap memory_broke c.unbegun.ensures.tale) }
+    record { ok = λ e. absurd (ends.0 e); failed = λ e. absurd (ends.1 e); went_on = λ e. absurd (ends.1 e); unbroken = λ e. (ap bench_broke c.unbegun.ensures.tale, ap memory_broke c.unbegun.ensures.tale); by_fault = λ e. absurd (false≢true (sym (ap fault_broke c.unbegun.ensures.tale) ∙ e)) }
 
 pub returns-in-Err-begin-clause-broke : goal.returns-in-Err-begin-clause-broke
 returns-in-Err-begin-clause-broke g c =
@@ -122,7 +124,7 @@ pub returns-in-Err-clause-told : goal.returns-in-Err-clause-told
 returns-in-Err-clause-told g c =
     let sink : Type 0 = Rose (g.W.Sink.faults c.args.sink) (g.W.Sink.faults c.tell_end-status.new.sink) in
     let ends = refused_ends sink c.in-Err.field-0.fault c.tell_end-status.result (subst (λ x. EndsBy sink x c.tell_end-status.result) c.status_of_store.ensures c.tell_end-status.ensures.ends) c.in-Err.ensures.fault in
-    record { ok = λ e. absurd (ends.0 (sym c.unbegun-in-Err.ensures.status ∙ e)); failed = λ e. absurd (ends.1 (sym c.unbegun-in-Err.ensures.status ∙ e)); went_on = λ e. absurd (ends.1 (sym c.unbegun-in-Err.ensures.status ∙ e)); unbroken = λ e. (ap bench_broke c.unbegun-in-Err.ensures.tale, ap memory_broke c.unbegun-in-Err.ensures.tale) }
+    record { ok = λ e. absurd (ends.0 (sym c.unbegun-in-Err.ensures.status ∙ e)); failed = λ e. absurd (ends.1 (sym c.unbegun-in-Err.ensures.status ∙ e)); went_on = λ e. absurd (ends.1 (sym c.unbegun-in-Err.ensures.status ∙ e)); unbroken = λ e. (ap bench_broke c.unbegun-in-Err.ensures.tale, ap memory_broke c.unbegun-in-Err.ensures.tale); by_fault = λ e. absurd (false≢true (sym (ap fault_broke c.unbegun-in-Err.ensures.tale) ∙ e)) }
 
 pub returns-in-Err-clause-broke : goal.returns-in-Err-clause-broke
 returns-in-Err-clause-broke g c =
@@ -151,3 +153,19 @@ returns-in-Err-clause-printed g c heard told =
     said_nothing c.args.plan tale runs now (g.W.Sink.written c.args.sink) (g.W.Sink.written c.unbegun-in-Err.result.sink) c.unbegun-in-Err.ensures.tale
     (seats_same (λ s. RanJust c.args.plan (broken_at s tale) (started_by s tale)) runs now (some_mapped (λ b. (g.B.Bench.place b).runs) c.args.benches.items c.requires.bench) (ap (map (λ b. (g.B.Bench.place b).runs)) c.unbegun-in-Err.ensures.benches) (just_nothing c.args.plan tale c.unbegun-in-Err.ensures.tale))
     (subst (λ x. IsFront (g.W.Sink.written c.args.sink) (g.W.Sink.written x)) (sym c.unbegun-in-Err.ensures.sink) grown)
+
+pub returns-in-Ok-begin-clause-differs : goal.returns-in-Ok-begin-clause-differs
+returns-in-Ok-begin-clause-differs g c =
+    subst (λ (p : Plan). TellsDifference g.D.Disk.tells p (g.D.Disk.story c.run_begun.result.disk) c.run_begun.result.status) c.in-Ok-begin.ensures.begun.plan_is c.run_begun.ensures.differs
+
+pub returns-in-Err-begin-clause-differs : goal.returns-in-Err-begin-clause-differs
+returns-in-Err-begin-clause-differs g c =
+    nothing_differs g.D.Disk.tells c.args.plan (g.D.Disk.story c.unbegun.result.disk) c.unbegun.result.status
+    (subst (DiffersOver c.args.plan []) (sym (c.unbegun.ensures.status ∙ c.end_wanting-status.ensures.ends)) tt)
+
+pub returns-in-Err-clause-differs : goal.returns-in-Err-clause-differs
+returns-in-Err-clause-differs g c =
+    let sink : Type 0 = Rose (g.W.Sink.faults c.args.sink) (g.W.Sink.faults c.tell_end-status.new.sink) in
+    nothing_differs g.D.Disk.tells c.args.plan (g.D.Disk.story c.unbegun-in-Err.result.disk) c.unbegun-in-Err.result.status
+    (subst (DiffersOver c.args.plan []) (sym c.unbegun-in-Err.ensures.status)
+    (refused_differs sink c.args.plan c.in-Err.field-0.fault c.tell_end-status.result (subst (λ x. EndsBy sink x c.tell_end-status.result) c.status_of_store.ensures c.tell_end-status.ensures.ends) c.in-Err.ensures.fault))

@@ -4,12 +4,15 @@ use Rattle.outside_traits.specs.Fault.{Counts, Rose}
 use Rattle.meta_model.specs.declared.event.Logged.{Logged}
 use Rattle.meta_model.specs.declared.plan.Plan.{Plan}
 use Rattle.bb_report.specs.Runs.{has_failure, tale_text}
-use Rattle.run_queue.specs.Keeps.{IsCause, IsFront, IsSteady, Prints}
+use Rattle.build_store.specs.Sound.{HoldsRecords}
+use Rattle.run_queue.specs.Causes.{IsCause}
+use Rattle.run_queue.specs.Keeps.{IsFront, IsSteady, Prints}
+use Rattle.build_resume.specs.Build.{DiffersOver}
 use Rattle.build_resume.specs.Ends.{is_faultless}
 use Rattle.build_resume.proofs.Begun.{EndsSo, ends_by, kept_to, none_kept, ran_on, went_on}
 use Rattle.build_resume.proofs.Reports.{reports_as, rose_from, rose_on}
 use Rattle.build_resume.proofs.Printing.{grew, said_last}
-use Rattle.build_resume.proofs.Statuses.{ended_cause, ended_steady}
+use Rattle.build_resume.proofs.Statuses.{ended_cause, ended_differs, ended_steady}
 use Rattle.build_resume.specs.Benches.{SomeBreak}
 use Rattle.run_workers.specs.Runs.{by_bench}
 use Rattle.run_workers.specs.declared.worker.Halt.TheVariants as halts
@@ -23,7 +26,7 @@ returns-clause-ends g c =
     let told : EndsSo sink c.drive-halt.new.state.fault by (has_failure c.drive-halt.new.state.tale) c.conclude.result.status =
     subst (λ f. EndsSo sink f by (has_failure c.drive-halt.new.state.tale) c.conclude.result.status) parts.fault
     (subst (λ (l : List Logged). EndsSo sink c.into_parts-parts.result.fault by (has_failure l) c.conclude.result.status) parts.tale c.conclude.ensures.status) in
-    ends_by sink c.args.state c.drive-halt.new.state c.drive-halt.result by c.as_slice.result.now c.conclude.result.tale.items c.conclude.result.status c.halt_of_run-halt.ensures.is (c.as_slice.ensures.value ∙ sym c.conclude.ensures.tale) c.drive-halt.ensures.same (c.conclude.ensures.tale ∙ parts.tale) c.drive-halt.ensures.halted told
+    ends_by sink c.args.state c.drive-halt.new.state c.drive-halt.result by c.as_slice.result.now c.conclude.result.tale.items c.conclude.result.status c.halt_of_run-halt.ensures.is (c.as_slice.ensures.value ∙ sym c.conclude.ensures.tale) c.drive-halt.ensures.same (c.conclude.ensures.tale ∙ parts.tale) c.drive-halt.ensures.halted c.kept.ensures.unbroken told
 
 pub returns-clause-went : goal.returns-clause-went
 returns-clause-went g c =
@@ -86,16 +89,32 @@ returns-clause-cause g c before counts =
     let risen : Counts before (g.W.Sink.faults c.into_parts-parts.result.sink) c.into_parts-parts.result.sink_failed =
     subst (λ x. Counts before (g.W.Sink.faults x) c.into_parts-parts.result.sink_failed) (sym parts.sink) (subst (λ (b : Bool). Counts before (g.W.Sink.faults last.sink) b) (sym parts.sink_failed) counted) in
     let write : c.into_parts-parts.result.sink_failed ≡ true → Rose before (g.W.Sink.faults c.conclude.result.sink) = λ e. rose_on before (g.W.Sink.faults c.into_parts-parts.result.sink) (g.W.Sink.faults c.conclude.result.sink) (subst (Counts before (g.W.Sink.faults c.into_parts-parts.result.sink)) e risen).rose c.conclude.ensures.later in
-    let cause = subst (λ x. IfSome c.into_parts-parts.result.fault (IsCause (g.D.Disk.faults x) c.into_parts-parts.result.sink_failed)) (sym c.conclude.ensures.disk)
-    (subst (λ x. IfSome c.into_parts-parts.result.fault (IsCause (g.D.Disk.faults x) c.into_parts-parts.result.sink_failed)) (sym parts.disk)
-    (subst (λ (b : Bool). IfSome c.into_parts-parts.result.fault (IsCause (g.D.Disk.faults last.store.disk) b)) (sym parts.sink_failed)
-    (subst (λ f. IfSome f (IsCause (g.D.Disk.faults last.store.disk) last.sink_failed)) (sym parts.fault) c.kept.ensures.cause))) in
+    let rows = last.store.rows in
+    let cause = subst (λ x. IfSome c.into_parts-parts.result.fault (IsCause (g.D.Disk.faults x) last.plan rows c.into_parts-parts.result.sink_failed)) (sym c.conclude.ensures.disk)
+    (subst (λ x. IfSome c.into_parts-parts.result.fault (IsCause (g.D.Disk.faults x) last.plan rows c.into_parts-parts.result.sink_failed)) (sym parts.disk)
+    (subst (λ (b : Bool). IfSome c.into_parts-parts.result.fault (IsCause (g.D.Disk.faults last.store.disk) last.plan rows b)) (sym parts.sink_failed)
+    (subst (λ f. IfSome f (IsCause (g.D.Disk.faults last.store.disk) last.plan rows last.sink_failed)) (sym parts.fault) c.kept.ensures.cause))) in
     let broke : c.halt_of_run-halt.result ≡ halts.Bench → Rose (g.B.Bench.faults c.args.last.now) (g.B.Bench.faults c.drive-halt.new.bench) ⊎ SomeBreak c.conclude.result.tale.items = λ e. elim (c.halt_of_run-halt.ensures.bench e) [
       | inl alone ↦ inl (subst (Counts (g.B.Bench.faults c.args.last.now) (g.B.Bench.faults c.drive-halt.new.bench)) (ap (λ h. by_bench (Some h)) alone) c.drive-halt.ensures.cause).rose
       | inr some ↦ inr (subst (λ (l : List Logged). SomeBreak l) (c.as_slice.ensures.value ∙ sym c.conclude.ensures.tale) some)
     ] in
-    ended_cause (g.D.Disk.faults c.conclude.result.disk) c.into_parts-parts.result.sink_failed (has_failure c.into_parts-parts.result.tale.items) (Rose (g.B.Bench.faults c.args.last.now) (g.B.Bench.faults c.drive-halt.new.bench) ⊎ SomeBreak c.conclude.result.tale.items) (Rose before (g.W.Sink.faults c.conclude.result.sink)) sinks
+    ended_cause (g.D.Disk.faults c.conclude.result.disk) last.plan rows c.into_parts-parts.result.sink_failed (has_failure c.into_parts-parts.result.tale.items) (Rose (g.B.Bench.faults c.args.last.now) (g.B.Bench.faults c.drive-halt.new.bench) ⊎ SomeBreak c.conclude.result.tale.items) (Rose before (g.W.Sink.faults c.conclude.result.sink)) sinks
     c.into_parts-parts.result.fault c.halt_of_run-halt.result c.conclude.result.status cause write (λ e. elim e [
       | inl failed ↦ write failed
       | inr rose ↦ rose_from before (g.W.Sink.faults c.into_parts-parts.result.sink) (g.W.Sink.faults c.conclude.result.sink) risen.later rose
     ]) broke c.conclude.ensures.status
+
+pub returns-clause-differs : goal.returns-clause-differs
+returns-clause-differs g c =
+    let parts = c.into_parts-parts.ensures in
+    let last = c.drive-halt.new.state in
+    let rows = last.store.rows in
+    let status = c.conclude.result.status in
+    let sinks : Type 0 = (c.into_parts-parts.result.sink_failed ≡ true) ⊎ Rose (g.W.Sink.faults c.into_parts-parts.result.sink) (g.W.Sink.faults c.conclude.result.sink) in
+    let cause = subst (λ f. IfSome f (IsCause (g.D.Disk.faults last.store.disk) last.plan rows last.sink_failed)) (sym parts.fault) c.kept.ensures.cause in
+    record {
+      rows = rows;
+      kept = λ tells. subst (λ x. HoldsRecords (g.D.Disk.story x) rows) (sym c.conclude.ensures.disk) (parts.records tells);
+      differs = subst (λ (p : Plan). DiffersOver p rows status) c.drive-halt.ensures.same.plan
+          (ended_differs (g.D.Disk.faults last.store.disk) last.plan rows last.sink_failed (has_failure c.into_parts-parts.result.tale.items) sinks c.into_parts-parts.result.fault c.halt_of_run-halt.result status cause c.conclude.ensures.status);
+    }

@@ -8,7 +8,7 @@ use Rattle.run_queue.specs.Keeps.{Prints}
 use Rattle.run_queue.proofs.Steady.{steady_none}
 use Rattle.run_workers.specs.Runs.{Runs}
 use Rattle.build_resume.specs.Benches.{AtSeats, BreaksByFault, SomeBreak, SomeRose, broken_at, started_by}
-use Rattle.build_resume.specs.Build.{RanJust, RanStarted, WritesReport}
+use Rattle.build_resume.specs.Build.{RanJust, RanStarted, TellsDifference, WritesReport}
 use Rattle.build_resume.specs.Drive.{RanOn, RanSaid, SaidTo}
 use Rattle.build_resume.proofs.Begun.{ends_still, kept_still}
 use Rattle.build_resume.proofs.Benches.{at_seats, broke_before, broke_behind, broken_before, just_before, last_has, others_have, ran_before, ran_behind, rose_by, some_rose, workers_weaker}
@@ -69,6 +69,10 @@ returns-clause-cause g c =
       | inr b ↦ broke b
     ])
     (λ rose. rose) (c.finish-plan.ensures.cause (g.W.Sink.faults state.sink) (c.with_workers-state.ensures.sink (g.W.Sink.faults state.sink) counts))
+
+pub returns-clause-differs : goal.returns-clause-differs
+returns-clause-differs g c =
+    subst (λ (p : Plan). TellsDifference g.D.Disk.tells p (g.D.Disk.story c.finish-plan.result.disk) c.finish-plan.result.status) c.with_workers-state.ensures.same.plan c.finish-plan.ensures.differs
 
 pub returns-clause-run : goal.returns-clause-run
 returns-clause-run g c tells told gives all o same run =

@@ -1,16 +1,20 @@
-use Rattle.std.proofs.Common.{◌≡◌, sym, subst, ◌⊎◌}
+use Rattle.std.proofs.Common.{◌≡◌, sym, subst, ◌⊎◌, List}
 use Rattle.std.specs.Prelude.{Result}
 use Rattle.tree_model.specs.declared.hash.Hash.{Hash}
 use Rattle.outside_traits.specs.Fault.{Counts}
 use Rattle.build_store.specs.Faults.{store_failed}
 use Rattle.build_store.specs.declared.fault.StoreFault.{StoreFault}
-use Rattle.run_queue.specs.Keeps.{IsSteadyAnswer, IsStoreCause}
+use Rattle.task_worker.specs.declared.given.Given.TheVariants as givens
+use Rattle.run_queue.specs.Causes.{IsStoreCause, IsStoreOfGiven}
+use Rattle.run_queue.specs.Keeps.{IsSteadyAnswer}
+use Rattle.store_model.specs.declared.signature.EquivRow.{EquivRow}
 use Rattle.store_model.specs.Signatures.{Signed}
 use Rattle.build_store.specs.Publication.{IsAgreed, line_for, publication}
 use Rattle.build_store.specs.Sound.{IsReadable}
 use Rattle.build_store.specs.View.{signed_by}
-use Rattle.run_queue.specs.Puts.{HasPut, Puts}
-use Rattle.run_queue.proofs.OwnSignature.{handed_on, indexed, known_is, known_signature, signed_here, store_cause}
+use Rattle.run_queue.specs.Puts.{HasPut, IsSignedAt, Puts}
+use Rattle.run_queue.proofs.Causing.{refusal_given, store_cause}
+use Rattle.run_queue.proofs.OwnSignature.{handed_on, indexed, known_is, known_signature, signed_here}
 use Rattle.run_queue.proofs.Placing.{has_place}
 use Rattle.run_queue.proofs.Steady.{refusal_steady}
 use Rattle.run_queue.proofs.closing.publish_in.Goals as goal
@@ -36,10 +40,19 @@ publish-requires-clause-named g c =
 
 pub returns-in_err-_unihash-clause-cause : goal.returns-in_err-_unihash-clause-cause
 returns-in_err-_unihash-clause-cause g c =
+    let plan = c.args.plan.now in
+    let rows = c.args.store.now.rows in
+    let count = g.D.Disk.faults c.publish.new.self.disk in
+    let task = c.index-as_slice-task.result in
+    let at = indexed plan.tasks c.as_slice.result.now c.args.task task c.as_slice.ensures c.requires.task c.index-as_slice-task.is in
+    let x = signed_here rows plan.tasks c.args.task c.requires.task in
+    let same = known_signature plan rows c.args.replan.now c.args.task task c.in_ok-sig.sig x.0 c.requires.sound at c.requires.current c.in_ok-sig.ensures.known c.in_ok-sig.ensures.is x.1 in
+    let signed = subst (λ (y : Signed). IsSignedAt rows plan.tasks c.args.task y) same x.1 in
     let f = c.in_err-_unihash.field-0.0 in
-    let counts = subst (λ (r : Result Hash StoreFault). Counts (g.D.Disk.faults c.args.store.now.disk) (g.D.Disk.faults c.publish.new.self.disk) (store_failed r)) c.in_err-_unihash.was c.publish.ensures.cause in
-    handed_on c.from_residual-in_err-_unihash.result f (IsStoreCause (g.D.Disk.faults c.publish.new.self.disk)) c.from_residual-in_err-_unihash.ensures.1
-    (store_cause (g.D.Disk.faults c.args.store.now.disk) (g.D.Disk.faults c.publish.new.self.disk) c.args.store.now.rows (signed_by c.index-as_slice-task.result c.in_ok-sig.sig) c.args.tree.now f c.requires.unharmed counts c.in_err-_unihash.ensures.refused)
+    let counts = subst (λ (r : Result Hash StoreFault). Counts (g.D.Disk.faults c.args.store.now.disk) count (store_failed r)) c.in_err-_unihash.was c.publish.ensures.cause in
+    handed_on c.from_residual-in_err-_unihash.result f (IsStoreCause count plan c.publish.new.self.rows) c.from_residual-in_err-_unihash.ensures.1
+    (subst (λ (l : List EquivRow). IsStoreCause count plan l f) (sym c.in_err-_unihash.ensures.refused_rows)
+    (store_cause (g.D.Disk.faults c.args.store.now.disk) count plan rows c.args.task (signed_by task c.in_ok-sig.sig) c.args.tree.now f signed c.requires.unharmed counts c.in_err-_unihash.ensures.refused))
 
 pub returns-in_err-_unihash-clause-puts : goal.returns-in_err-_unihash-clause-puts
 returns-in_err-_unihash-clause-puts g c s is =
@@ -95,3 +108,12 @@ returns-in_err-_unihash-clause-steady g c agrees =
     let f = c.in_err-_unihash.field-0.0 in
     handed_on c.from_residual-in_err-_unihash.result f IsSteadyAnswer c.from_residual-in_err-_unihash.ensures.1
     (refusal_steady c.args.store.now.rows (signed_by task c.in_ok-sig.sig) c.args.tree.now f agreed c.in_err-_unihash.ensures.refused)
+
+pub returns-in_err-_unihash-clause-given : goal.returns-in_err-_unihash-clause-given
+returns-in_err-_unihash-clause-given g c =
+    let tasks = c.args.plan.now.tasks in
+    let task = c.index-as_slice-task.result in
+    let at = indexed tasks c.as_slice.result.now c.args.task task c.as_slice.ensures c.requires.task c.index-as_slice-task.is in
+    let f = c.in_err-_unihash.field-0.0 in
+    handed_on c.from_residual-in_err-_unihash.result f (IsStoreOfGiven tasks c.args.task (givens.Tree c.args.tree.now c.args.manifest.now)) c.from_residual-in_err-_unihash.ensures.1
+    (refusal_given tasks c.args.store.now.rows c.args.task (signed_by task c.in_ok-sig.sig) c.args.tree.now c.args.manifest.now f at c.requires.listed c.in_err-_unihash.ensures.refused)

@@ -28,7 +28,7 @@ returns-clause-restored g c =
     c.restore.ensures.restored
 
 pub returns-clause-cause : goal.returns-clause-cause
-returns-clause-cause g c = restore_cause (g.D.Disk.faults c.args.store.now.disk) (g.D.Disk.faults c.restore.new.self.disk) c.args.store.now.rows c.in_ok-sig.sig c.restore.result c.requires.unharmed c.restore.ensures.cause c.restore.ensures.refused
+returns-clause-cause g c = restore_cause (g.D.Disk.faults c.args.store.now.disk) (g.D.Disk.faults c.restore.new.self.disk) c.args.plan.now c.args.store.now.rows c.restore.new.self.rows c.in_ok-sig.sig c.restore.result c.restore.ensures.same.rows c.requires.unharmed c.restore.ensures.cause c.restore.ensures.refused
 
 pub returns-clause-puts : goal.returns-clause-puts
 returns-clause-puts g c s is =

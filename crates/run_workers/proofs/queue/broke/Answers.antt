@@ -7,6 +7,7 @@ use Rattle.run_queue.specs.Turns.{fates_of}
 use Rattle.turn_lock.specs.Seats.{view_of}
 use Rattle.run_workers.specs.Seats.{BreakAdds, tale_of}
 use Rattle.run_workers.proofs.Turning.{runs_by_own, own_of, turned}
+use Rattle.run_workers.proofs.Unprinted.{faulty_by}
 use Rattle.run_workers.proofs.queue.broke.Goals as goal
 
 pub broke-requires : goal.broke-requires
@@ -17,6 +18,7 @@ broke-requires g c =
     record {
       runs = subst (λ n. fate_at (fates_of s.state) c.args.job.task ≡ Running n) (sym (c.number.ensures ∙ ap (λ x. x.number) c.begin-story.ensures.turn.1))
           (runs_by_own (fates_of s.state) s.state.tale s.printed v.own v.number law (own_of v (tale_of s) c.begin-story.ensures.records) c.args.job.task c.requires.holds);
+      fault = λ cut. faulty_by g.D.Disk.tells g.W.Sink.tells g.K.Began.alike g.D.Disk.story g.W.Sink.written g.W.Sink.faults g.K.Began.first g.K.Began.faults g.K.Began.gives s.state s.printed s.whole v.number v.own c.kept.ensures.since (own_of v (tale_of s) c.begin-story.ensures.records) (c.requires.unprinted cut);
     }
 
 pub returns-clause-breaks : goal.returns-clause-breaks

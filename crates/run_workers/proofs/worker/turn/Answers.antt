@@ -4,13 +4,22 @@ use Rattle.run_queue.specs.declared.state.Claim.{Claim}
 use Rattle.turn_lock.specs.Seats.{view_of}
 use Rattle.run_workers.specs.declared.shared.Told.{Told}
 use Rattle.run_workers.specs.declared.worker.Halt.TheVariants as halts
-use Rattle.run_workers.specs.Seats.{AddsBy, Entry, IsCleanClaim, IsScripted}
+use Rattle.run_workers.specs.Seats.{AddsBy, Entry, HasUnprinted, IsCleanClaim, IsScripted}
 use Rattle.run_workers.specs.Worked.{Closes, Worked}
 use Rattle.run_workers.proofs.Working.{quiet_settled, worked_job, worked_on}
+use Rattle.run_workers.proofs.Unprinted.{unprinted_here}
 use Rattle.run_workers.proofs.worker.turn.Goals as goal
 
 pub do_claimed-requires-clause-clean : goal.do_claimed-requires-clause-clean
 do_claimed-requires-clause-clean g c t u o is run = subst (λ (x : Claim). IsCleanClaim o g.K.Began.first x) c.in-Run.is (c.in-Ok.ensures.clean t u o is run)
+
+pub do_claimed-requires-clause-unprinted : goal.do_claimed-requires-clause-unprinted
+do_claimed-requires-clause-unprinted g c is =
+    let v = view_of c.args.seat.now in
+    let claims = c.in-Ok.ensures.claims in
+    let printed = c.in-Ok.field-0.printed in
+    let entry : Entry v.number printed (events.Started c.in-Run.job.task v.number) claims.0 = subst (λ (x : Claim). AddsBy v.number printed x claims.0) c.in-Run.is claims.1 in
+    subst HasUnprinted (sym (claims.2.mine ∙ ap (λ l. v.own ++ l) entry.is)) (unprinted_here v.own _ is)
 
 pub returns-in-Run-clause-worked : goal.returns-in-Run-clause-worked
 returns-in-Run-clause-worked g c old w =

@@ -1,7 +1,8 @@
 use Rattle.std.proofs.Common.{◌≡◌, ◌∙◌, sym, ap, refl, slice_get, Some, inr}
 use Rattle.std.proofs.lemmas.Option.{same_Some}
 use Rattle.meta_model.specs.declared.plan.Plan.{Plan}
-use Rattle.run_queue.proofs.Asked.{asks_met, clash_unknown, signed_name, told_here}
+use Rattle.run_queue.proofs.Asked.{asks_met, clash_unknown, told_here}
+use Rattle.run_queue.proofs.Causing.{signed_name}
 use Rattle.run_queue.proofs.probe.AskingProbe.avail.Goals as goal
 
 pub returns-in-Ok-clause-told : goal.returns-in-Ok-clause-told

@@ -4,8 +4,12 @@ use Rattle.bb_report.specs.Runs.{tale_text}
 use Rattle.run_queue.specs.Keeps.{IsRun}
 use Rattle.run_queue.specs.Seen.{Seen, seen}
 use Rattle.run_queue.proofs.Breaking.{broke_run}
+use Rattle.run_queue.proofs.Causing.{cut_unbroken}
 use Rattle.run_queue.proofs.Unsettled.{behind, noted_text, was_none}
 use Rattle.run_queue.proofs.state.RunState.broke.Goals as goal
+
+pub note-requires-clause-unbroken : goal.note-requires-clause-unbroken
+note-requires-clause-unbroken g c = cut_unbroken c.args.job.task c.args.cut c.args.self.now.fault c.requires.fault
 
 pub returns-clause-run : goal.returns-clause-run
 returns-clause-run g c tells o run =

@@ -1,5 +1,5 @@
-use Rattle.std.proofs.Common.{set, ◌≡◌, sym, ap, subst, refl, ℕ, ◌<◌, List, length, Option, Some, None, arith}
-use Rattle.std.specs.Prelude.{IfSome}
+use Rattle.std.proofs.Common.{set, ◌≡◌, ◌∙◌, sym, ap, subst, refl, ℕ, ◌<◌, List, length, Option, Some, None, arith}
+use Rattle.std.specs.Prelude.{IfSome, IsSome}
 use Rattle.std.specs.Option.{option_map}
 use Rattle.std.proofs.lemmas.List.{length-set}
 use Rattle.meta_model.specs.declared.event.Avail.{Avail}
@@ -14,11 +14,14 @@ use Rattle.run_core.proofs.Steps.{count_told}
 use Rattle.setscene_plan.specs.declared.replan.Replan.{Replan}
 use Rattle.setscene_plan.specs.Replans.{IsCurrent}
 use Rattle.build_store.specs.Publication.{publication}
+use Rattle.task_worker.specs.declared.given.Given.TheVariants as givens
+use Rattle.run_queue.specs.Causes.{IsOfGiven, IsStoreOfGiven}
 use Rattle.run_queue.specs.Keeps.{IsRun}
 use Rattle.run_queue.specs.Puts.{IsCleanOutput}
 use Rattle.run_queue.specs.Seen.{RunView, known_in, no_meaning, seen}
 use Rattle.run_queue.specs.Turns.{fates_of}
 use Rattle.run_queue.proofs.Breaking.{running_within}
+use Rattle.run_queue.proofs.Causing.{steady_given}
 use Rattle.run_queue.proofs.OwnSignature.{view_of}
 use Rattle.run_queue.proofs.Resettling.{current_anyway, made_by, settled_put, state_after}
 use Rattle.run_queue.specs.Asking.{earlier_in, kept_or_meant}
@@ -173,3 +176,22 @@ returns-in-Err-clause-steady g c tells o run output =
     let k = some_current i.plan i.store.rows i.replan known c.self.invariant.3.current in
     agreed o (seen g.D.Disk.story g.W.Sink.written old) k.0 c.args.task c.args.number c.args.tree.now before none c.self.invariant.3.orderly k.1 lt runs clean x is) in
     c.note-in-Err.ensures.steady (c.keep-in-Err.ensures.steady answer (steady_none i.fault none))
+
+pub returns-in-Ok-clause-given : goal.returns-in-Ok-clause-given
+returns-in-Ok-clause-given g c =
+    steady_given c.args.self.now.plan.tasks c.args.task (givens.Tree c.args.tree.now c.args.manifest.now) c.note.new.self.fault (c.note.ensures.steady c.resettle.ensures.steady)
+
+pub returns-in-Err-Memory-clause-given : goal.returns-in-Err-Memory-clause-given
+returns-in-Err-Memory-clause-given g c =
+    let V : Type 0 = RunView g.row.D.Denot g.row.W.Denot in
+    let kept = c.keep.ensures.first (subst (λ (v : V). v.fault ≡ None) (sym c.self.view_is) c.requires.faultless) in
+    let stays = c.note-in-Err-Memory.ensures.fault (subst (λ f. IsSome f) (sym kept) refl) ∙ kept in
+    subst (λ (f : Option RunFault). IfSome f (IsOfGiven c.args.self.now.plan.tasks c.args.task (givens.Tree c.args.tree.now c.args.manifest.now))) (sym stays) tt
+
+pub returns-in-Err-clause-given : goal.returns-in-Err-clause-given
+returns-in-Err-clause-given g c =
+    let V : Type 0 = RunView g.row.D.Denot g.row.W.Denot in
+    let kept = c.keep-in-Err.ensures.first (subst (λ (v : V). v.fault ≡ None) (sym c.self.view_is) c.requires.faultless) in
+    let stays = c.note-in-Err.ensures.fault (subst (λ f. IsSome f) (sym kept) refl) ∙ kept in
+    subst (λ (f : Option RunFault). IfSome f (IsOfGiven c.args.self.now.plan.tasks c.args.task (givens.Tree c.args.tree.now c.args.manifest.now))) (sym stays)
+    (subst (λ (v : V). IsStoreOfGiven v.plan.tasks c.args.task (givens.Tree c.args.tree.now c.args.manifest.now) c.in-Err.fault) c.self.view_is c.in-Err.ensures.given)

@@ -1,13 +1,17 @@
-use Rattle.std.proofs.Common.{subst, refl}
+use Rattle.std.proofs.Common.{sym, subst, refl}
+use Rattle.std.specs.Prelude.{IfSome}
 use Rattle.meta_model.specs.declared.event.Cut.TheVariants as cuts
 use Rattle.meta_model.specs.declared.event.Why.TheVariants as why
 use Rattle.plan_model.specs.Sound.{IsSound}
 use Rattle.task_worker.specs.declared.given.Given.{Given}
 use Rattle.task_worker.specs.declared.given.Given.TheVariants as given
 use Rattle.task_worker.specs.Jobs.{IsGiven}
+use Rattle.run_queue.specs.Causes.{IsOfGiven}
 use Rattle.run_queue.specs.Seen.{RunView}
 use Rattle.run_queue.specs.Turns.{IsGivenBy}
+use Rattle.run_queue.proofs.Causing.{steady_given}
 use Rattle.run_queue.proofs.OwnSignature.{within_short}
+use Rattle.run_queue.proofs.Steady.{steady_none}
 use Rattle.run_queue.proofs.Turning.{broken_seen, failed_seen, output_of}
 use Rattle.run_queue.proofs.state.RunState.ended.Goals as goal
 
@@ -44,3 +48,15 @@ returns-in-Tree-clause-steady g c tells o run is_given job held =
     let sound = subst (λ (v : V). IsSound v.plan) c.self.view_is c.self.invariant.3.sound in
     let tree = subst (λ (x : Given). IsGivenBy o.gives c.args.job x) c.in-Tree.is is_given in
     c.end_tree.ensures.steady tells o run (output_of g.D.Disk.story g.W.Sink.written o c.args.self.now c.args.job c.in-Tree.tree c.in-Tree.manifest sound job tree)
+
+pub returns-in-Tree-clause-given : goal.returns-in-Tree-clause-given
+returns-in-Tree-clause-given g c none =
+    subst (λ (x : Given). IfSome c.end_tree.new.self.fault (IsOfGiven c.args.self.now.plan.tasks c.args.job.task x)) (sym c.in-Tree.is) c.end_tree.ensures.given
+
+pub returns-in-Fails-clause-given : goal.returns-in-Fails-clause-given
+returns-in-Fails-clause-given g c none =
+    steady_given c.args.self.now.plan.tasks c.args.job.task c.args.given c.note-in-Fails.new.self.fault (c.note-in-Fails.ensures.steady (steady_none c.args.self.now.fault none))
+
+pub returns-clause-given : goal.returns-clause-given
+returns-clause-given g c none =
+    steady_given c.args.self.now.plan.tasks c.args.job.task c.args.given c.note-in-TooLarge.new.self.fault (c.note-in-TooLarge.ensures.steady (steady_none c.args.self.now.fault none))

@@ -1,10 +1,11 @@
-use Rattle.std.proofs.Common.{◌≡◌, ◌∙◌, sym, ap, subst, ℕ, ◌<◌, List, ◌++◌, ◌∷◌, [], length, true, arith}
+use Rattle.std.proofs.Common.{◌≡◌, ◌∙◌, sym, ap, subst, ℕ, ◌<◌, List, ◌++◌, ◌∷◌, [], length, true, false, None, arith}
 use Rattle.std.proofs.Common.{vec_capacity}
 use Rattle.meta_model.specs.declared.event.Logged.{Logged}
 use Rattle.run_core.specs.declared.fate.Fate.{Fate}
 use Rattle.run_core.specs.Fates.{fate_at, fates_by, fates_told, is_running, task_of}
 use Rattle.run_core.specs.History.{IsInOrder}
 use Rattle.run_core.proofs.Steps.{count_told}
+use Rattle.run_queue.specs.Causes.{is_fault_break}
 use Rattle.run_queue.specs.Keeps.{HasRoom, IsState}
 use Rattle.run_queue.specs.Seen.{RunView}
 use Rattle.run_queue.specs.Turns.{fates_of}
@@ -33,7 +34,7 @@ invariant_of-self g c =
       c.mark.ensures ∙ ap (λ (f : List Fate). fates_by f c.args.event) c.self.invariant.1 ∙ sym (fates_next tasks tale entry) ∙ ap (fates_told (length tasks)) (sym c.push_reserved.ensures.items),
       c.self.invariant.2,
       subst (λ (l : List Logged). IsState (g.D.Disk.faults c.self.inside.store.disk) (record { plan = c.self.inside.plan; options = c.self.inside.options; store = c.self.inside.store; sink = c.self.inside.sink; sink_failed = c.self.inside.sink_failed; fault = c.self.inside.fault; tale = l; begun = c.self.inside.begun.items; known = Rattle.std.specs.Option.option_map Rattle.run_queue.specs.Seen.known_in c.self.inside.replan })) (sym c.push_reserved.ensures.items)
-          (noted_state (g.D.Disk.faults c.self.inside.store.disk) _ entry c.self.invariant.3 order),
+          (noted_state (g.D.Disk.faults c.self.inside.store.disk) _ entry c.self.invariant.3 order (λ none. subst (λ (v : V). v.fault ≡ None → is_fault_break c.args.event ≡ false) (sym c.self.view_is) c.requires.unbroken none)),
     )
 
 pub say-requires : goal.say-requires

@@ -8,6 +8,7 @@ use Rattle.run_core.proofs.Steps.{count_told}
 use Rattle.run_queue.specs.Keeps.{HasRoom, IsState}
 use Rattle.run_queue.specs.Seen.{RunView}
 use Rattle.run_queue.specs.Turns.{fates_of}
+use Rattle.run_queue.proofs.Causing.{waiting_unbroken}
 use Rattle.run_queue.proofs.Notes.{behind_room, fates_next, noted_state, task_within}
 use Rattle.run_queue.proofs.state.RunState.note_waiting.Goals as goal
 
@@ -31,7 +32,7 @@ invariant_of-self-2 g c =
       c.mark.ensures ∙ ap (λ (f : List Fate). fates_by f c.args.event) c.self.invariant.1 ∙ sym (fates_next tasks tale entry) ∙ ap (fates_told (length tasks)) (sym pushed),
       c.self.invariant.2,
       subst (λ (l : List Logged). IsState (g.D.Disk.faults c.self.inside.store.disk) (record { plan = c.self.inside.plan; options = c.self.inside.options; store = c.self.inside.store; sink = c.self.inside.sink; sink_failed = c.self.inside.sink_failed; fault = c.self.inside.fault; tale = l; begun = c.self.inside.begun.items; known = Rattle.std.specs.Option.option_map Rattle.run_queue.specs.Seen.known_in c.self.inside.replan })) (sym pushed)
-          (noted_state (g.D.Disk.faults c.self.inside.store.disk) _ entry c.self.invariant.3 order),
+          (noted_state (g.D.Disk.faults c.self.inside.store.disk) _ entry c.self.invariant.3 order (λ none. waiting_unbroken (fates_told (length tasks) tale) c.args.event order.can rests)),
     )
 
 pub say-requires : goal.say-requires

@@ -1,0 +1,148 @@
+-- A fault that is kept has its cause, and a task that breaks off by one had one kept.
+use Rattle.std.proofs.Common.{◌≡◌, ◌∙◌, sym, ap, subst, refl, ℕ, ◌<◌, arith, Bool, true, false, List, [], ◌∷◌, ◌++◌, Option, Some, None}
+use Rattle.std.specs.Prelude.{IfSome, IsSome, ◌||◌}
+use Rattle.std.specs.List.{slice_get}
+use Rattle.std.proofs.lemmas.Bool.{false≢true}
+use Rattle.std.proofs.lemmas.List.Folds.{list_any-append}
+use Rattle.sha2.specs.Sha256.{sha256}
+use Rattle.tree_model.specs.Manifest.{manifest_lines}
+use Rattle.tree_model.specs.declared.hash.Hash.{Hash}
+use Rattle.tree_model.specs.declared.manifest.ManifestLine.{ManifestLine}
+use Rattle.outside_traits.specs.Fault.{Counts}
+use Rattle.meta_model.specs.CleanBuild.{Entries}
+use Rattle.meta_model.specs.declared.event.Cut.{Cut}
+use Rattle.meta_model.specs.declared.event.Cut.TheVariants as cut
+use Rattle.meta_model.specs.declared.event.Event.{Event}
+use Rattle.meta_model.specs.declared.event.Event.TheVariants as events
+use Rattle.meta_model.specs.declared.event.Logged.{Logged}
+use Rattle.meta_model.specs.declared.plan.Plan.{Plan}
+use Rattle.meta_model.specs.declared.plan.PlanTask.{PlanTask}
+use Rattle.run_core.specs.declared.fate.Fate.{Fate}
+use Rattle.run_core.specs.Fates.{CanMark, fate_at, is_running, task_of}
+use Rattle.store_model.specs.declared.signature.EquivRow.{EquivRow}
+use Rattle.store_model.specs.declared.signature.SigRecord.{SigRecord}
+use Rattle.store_model.specs.Rows.{row_at}
+use Rattle.store_model.specs.Signatures.{Signed}
+use Rattle.store_model.specs.Spelling.{name_of, signature_bytes}
+use Rattle.setscene_plan.specs.View.{IsNamedBy}
+use Rattle.build_store.specs.Faults.{IsClash, IsCollision, IsRefusal, IsUnsteady, is_disk_fault}
+use Rattle.build_store.specs.declared.fault.StoreFault.{StoreFault}
+use Rattle.build_store.specs.declared.fault.StoreFault.TheVariants as fault_of
+use Rattle.task_worker.specs.declared.given.Given.{Given}
+use Rattle.task_worker.specs.declared.given.Given.TheVariants as givens
+use Rattle.run_queue.specs.declared.fault.RunFault.{RunFault}
+use Rattle.run_queue.specs.declared.fault.RunFault.TheVariants as ends
+use Rattle.run_queue.specs.Asking.{IsUnknown}
+use Rattle.run_queue.specs.Causes.{IsClashOf, IsOfGiven, IsStoreCause, IsStoreOfGiven, IsUnsteadyOf, fault_broke, is_fault_break}
+use Rattle.run_queue.specs.Keeps.{IsSteady}
+use Rattle.run_queue.specs.Puts.{IsSignedAt}
+
+-- ---- of the store
+
+-- the name of a signature is that of its bytes
+pub signed_name : (sig : SigRecord) → IsNamedBy (name_of sig) (signature_bytes sig)
+signed_name sig = record { sig = sig; spelled = refl; named = refl }
+
+-- what a collision is where the name is that of a signature
+pub clash_of : (rows : List EquivRow) (at name : Hash) (bytes held given : List ℕ) → IsNamedBy at bytes → IsCollision rows at bytes name held given → IsClashOf rows name held given
+unfolding name_of
+clash_of rows at name bytes held given named clash = record {
+  row = clash.row;
+  is_row = ap (row_at rows) clash.name_is ∙ clash.is_row;
+  held_is = clash.held_is;
+  sig = named.sig;
+  given_is = clash.given_is ∙ named.spelled;
+  name_is = clash.name_is ∙ named.named;
+  differ = clash.differ;
+  held_name = clash.held_name;
+  given_name = ap sha256 (clash.given_is ∙ named.spelled) ∙ ap (λ (h : Hash). h.bytes) (sym (clash.name_is ∙ named.named));
+}
+
+-- what an output that differs is where the signature is a task's own
+unsteady_of : (plan : Plan) (rows : List EquivRow) (number : ℕ) (s : Signed) (tree : Entries) (pn task : List ℕ) (held given : List ManifestLine) → IsSignedAt rows plan.tasks number s → IsUnsteady rows s tree (fault_of.Unsteady pn task held given) → IsUnsteadyOf plan rows pn task held given
+unsteady_of plan rows number s tree pn task held given signed refused =
+    let is : fault_of.Unsteady pn task held given ≡ fault_of.Unsteady s.task.id.pn s.task.id.task refused.row.manifest (manifest_lines tree) = refused.is in
+    let pn_is : pn ≡ s.task.id.pn = cc in
+    let task_is : task ≡ s.task.id.task = cc in
+    let held_is : held ≡ refused.row.manifest = cc in
+    let given_is : given ≡ manifest_lines tree = cc in
+    record {
+      number = number;
+      signed = s;
+      is_signed = signed;
+      pn_is = pn_is;
+      task_is = task_is;
+      row = refused.row;
+      is_row = refused.is_row;
+      same = refused.same;
+      held_is = held_is;
+      tree = tree;
+      given_is = given_is;
+      differ = λ same. refused.differ (sym held_is ∙ same ∙ given_is);
+    }
+
+-- Why a fault of a publication is kept: before it the disk hadn't failed.
+pub store_cause : (before count : ℕ) (plan : Plan) (rows : List EquivRow) (number : ℕ) (s : Signed) (tree : Entries) (f : StoreFault) → IsSignedAt rows plan.tasks number s → before ≡ 0 → Counts before count (is_disk_fault f) → IsRefusal rows s tree f → IsStoreCause count plan rows f
+store_cause before count plan rows number s tree fault_of.Disk signed none counts refused = let rose = counts.rose in omega (arith, rose, none)
+store_cause before count plan rows number s tree (fault_of.Collision name held given) signed none counts refused = clash_of rows (name_of s.sig) name (signature_bytes s.sig) held given (signed_name s.sig) refused
+store_cause before count plan rows number s tree (fault_of.Unsteady pn task held given) signed none counts refused = unsteady_of plan rows number s tree pn task held given signed refused
+store_cause before count plan rows number s tree fault_of.Memory signed none counts refused = tt
+
+-- Why a fault of a restoring is kept.
+pub clash_cause : (before count : ℕ) (plan : Plan) (rows : List EquivRow) (sig : SigRecord) (f : StoreFault) → before ≡ 0 → Counts before count (is_disk_fault f) → IsClash rows (name_of sig) (signature_bytes sig) f → IsStoreCause count plan rows f
+clash_cause before count plan rows sig fault_of.Disk none counts refused = let rose = counts.rose in omega (arith, rose, none)
+clash_cause before count plan rows sig (fault_of.Collision name held given) none counts refused = clash_of rows (name_of sig) name (signature_bytes sig) held given (signed_name sig) refused
+clash_cause before count plan rows sig (fault_of.Unsteady pn task held given) none counts refused = absurd refused
+clash_cause before count plan rows sig fault_of.Memory none counts refused = tt
+
+-- What a fault of a publication carries: its task's PN and name, and the manifest of what was given.
+pub refusal_given : (tasks : List PlanTask) (rows : List EquivRow) (number : ℕ) (s : Signed) (tree : Entries) (manifest : List ManifestLine) (f : StoreFault) → slice_get tasks number ≡ Some s.task → manifest ≡ manifest_lines tree → IsRefusal rows s tree f → IsStoreOfGiven tasks number (givens.Tree tree manifest) f
+refusal_given tasks rows number s tree manifest fault_of.Disk at listed refused = tt
+refusal_given tasks rows number s tree manifest (fault_of.Collision name held given) at listed refused = tt
+refusal_given tasks rows number s tree manifest (fault_of.Unsteady pn task held given) at listed refused =
+    let is : fault_of.Unsteady pn task held given ≡ fault_of.Unsteady s.task.id.pn s.task.id.task refused.row.manifest (manifest_lines tree) = refused.is in
+    let pn_is : pn ≡ s.task.id.pn = cc in
+    let task_is : task ≡ s.task.id.task = cc in
+    let same : manifest ≡ given = cc in
+    (record { task = s.task; is_task = at; pn_is = pn_is; name_is = task_is }, (tree, ap (givens.Tree tree) same))
+refusal_given tasks rows number s tree manifest fault_of.Memory at listed refused = tt
+
+-- a fault that isn't that an output isn't steady carries nothing of it
+pub steady_given : (tasks : List PlanTask) (number : ℕ) (g : Given) (f : Option RunFault) → IsSteady f → IfSome f (IsOfGiven tasks number g)
+steady_given tasks number g None is = tt
+steady_given tasks number g (Some (ends.Store fault_of.Disk)) is = tt
+steady_given tasks number g (Some (ends.Store (fault_of.Collision name held given))) is = tt
+steady_given tasks number g (Some (ends.Store (fault_of.Unsteady pn task held given))) is = absurd is
+steady_given tasks number g (Some (ends.Store fault_of.Memory)) is = tt
+steady_given tasks number g (Some ends.Write) is = tt
+
+-- Why a fault is kept by which nothing is known.
+pub unknown_cause : (plan : Plan) (rows : List EquivRow) (before now : ℕ) (f : StoreFault) → IsUnknown rows before now f → IsStoreCause now plan rows f
+unknown_cause plan rows before now fault_of.Disk is = is
+unknown_cause plan rows before now (fault_of.Collision name held given) is = is
+unknown_cause plan rows before now (fault_of.Unsteady pn task held given) is = absurd is
+unknown_cause plan rows before now fault_of.Memory is = tt
+
+-- ---- tasks that break off
+
+-- a task breaks off by a fault only where one is kept
+pub cut_unbroken : (t : ℕ) (c : Cut) (f : Option RunFault) → (c ≡ cut.Fault → IsSome f) → f ≡ None → is_fault_break (events.Broke t c) ≡ false
+cut_unbroken t cut.Fault f kept none = absurd (false≢true (subst (λ x. IsSome x) none (kept refl)))
+cut_unbroken t cut.Memory f kept none = refl
+cut_unbroken t cut.Bench f kept none = refl
+
+-- a task that doesn't run doesn't break off
+pub waiting_unbroken : (fates : List Fate) (e : Event) → CanMark fates e → is_running (fate_at fates (task_of e)) ≡ false → is_fault_break e ≡ false
+waiting_unbroken fates (events.Found t) can waits = refl
+waiting_unbroken fates (events.Restored t) can waits = refl
+waiting_unbroken fates (events.Started t seat) can waits = refl
+waiting_unbroken fates (events.Ended t) can waits = refl
+waiting_unbroken fates (events.Failed t why) can waits = refl
+waiting_unbroken fates (events.Broke t c) can waits = absurd (false≢true (sym waits ∙ can.1))
+
+-- none did with one more entry that says no such thing
+pub unbroken_on : (tale : List Logged) (e : Logged) → fault_broke tale ≡ false → is_fault_break e.event ≡ false → fault_broke (tale ++ e ∷ []) ≡ false
+unbroken_on tale e before here =
+    list_any-append (λ l. is_fault_break l.event) tale (e ∷ [])
+    ∙ ap (λ b. b || (is_fault_break e.event || false)) before
+    ∙ ap (λ b. b || false) here
