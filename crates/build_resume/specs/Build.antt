@@ -228,15 +228,15 @@ MayEndSo disk bench sink (status.Unsteady pn task held given) = held ≢ given
 MayEndSo disk bench sink status.OutOfMemory = Unit {0}
 MayEndSo disk bench sink _ = ⊥
 
--- What the status says of two that differ: a collision of two signatures of one digest, over these rows, and an output that isn't steady of
--- two manifests of a task of the plan.
+-- What the status says of two that differ, over these rows: a collision of two signatures of one digest, that of a row and that of a task of
+-- the plan; and an output that isn't steady of two manifests of a task of the plan.
 abbrev pub DiffersOver : Plan → List EquivRow → Status → Type 0
-DiffersOver plan rows (status.Collision name held given) = IsClashOf rows name held given
+DiffersOver plan rows (status.Collision name held given) = IsClashOf plan rows name held given
 DiffersOver plan rows (status.Unsteady pn task held given) = IsUnsteadyOf plan rows pn task held given
 DiffersOver plan rows _ = Unit {0}
 
 -- *What is held differs from what was given*: the status says so over rows whose records are all held under `rec/`, each by its name, whatever
--- a crash now leaves. So the one of the two is that of a stored record.
+-- a crash now leaves. So the one of the two is that of a stored record, and the other is of a task of the plan.
 pub record TellsDifference (tells : Type 0) (plan : Plan) (story : Story) (s : Status) : Type 0 where
   pub rows : List EquivRow
   pub kept : tells → HoldsRecords story rows

@@ -21,7 +21,7 @@ use Rattle.setscene_plan.specs.declared.probe.ProbeFault.{ProbeFault}
 use Rattle.sig_gen.specs.Signing.{signature_by}
 use Rattle.setscene_plan.specs.declared.replan.Replan.{Replan}
 use Rattle.setscene_plan.specs.Replans.{IsCurrent, IsSettled, avail_in, need_in, unihashes_in}
-use Rattle.setscene_plan.specs.View.{Follows, IsNamedBy}
+use Rattle.setscene_plan.specs.View.{Follows, IsNamedFor}
 use Rattle.setscene_plan.proofs.Meanings.{Yields, current_follows, settled_yields}
 use Rattle.run_queue.specs.Asking.{Asks, Earlier, IsMet, IsUnknown, Keeps, Means, earlier_in, kept_or_meant, meant, nothing_earlier}
 use Rattle.run_queue.specs.Seen.{no_meaning}
@@ -32,9 +32,9 @@ use Rattle.run_queue.proofs.Causing.{clash_of}
 some_or : {A : Type 0} (x : Option A) (y : A) → x ≡ None → x ≡ Some y → ⊥
 some_or x y none some = let e : None ≡ Some y = sym none ∙ some in cc
 
-module _ {D : Type 0} (tells : Type 0) (story : D → Story) (faults : D → ℕ) where
+module _ {D : Type 0} (plan : Plan) (tells : Type 0) (story : D → Story) (faults : D → ℕ) where
   -- a question that nothing was in the way of
-  pub asks_fine : (a b : View D) (f : Option StoreFault) → b.rows ≡ a.rows → b.kept ≡ a.kept → (tells → Passes (story a.disk) (story b.disk) Same) → faults b.disk ≡ faults a.disk → Asks tells story faults a b f f
+  pub asks_fine : (a b : View D) (f : Option StoreFault) → b.rows ≡ a.rows → b.kept ≡ a.kept → (tells → Passes (story a.disk) (story b.disk) Same) → faults b.disk ≡ faults a.disk → Asks plan tells story faults a b f f
   asks_fine a b f rows kept images count = record {
     rows = rows;
     kept = kept;
@@ -45,34 +45,34 @@ module _ {D : Type 0} (tells : Type 0) (story : D → Story) (faults : D → ℕ
   }
 
   -- one that met a fault, which is kept
-  pub asks_met : (a b : View D) (f g : Option StoreFault) (fault : StoreFault) (answer : ProbeFault) → b.rows ≡ a.rows → b.kept ≡ a.kept → (tells → Passes (story a.disk) (story b.disk) Same) → f ≡ None → IsUnknown a.rows (faults a.disk) (faults b.disk) fault → Keeps fault f g answer → Asks tells story faults a b f g
+  pub asks_met : (a b : View D) (f g : Option StoreFault) (fault : StoreFault) (answer : ProbeFault) → b.rows ≡ a.rows → b.kept ≡ a.kept → (tells → Passes (story a.disk) (story b.disk) Same) → f ≡ None → IsUnknown plan a.rows (faults a.disk) (faults b.disk) fault → Keeps fault f g answer → Asks plan tells story faults a b f g
   asks_met a b f g fault answer rows kept images none why keeps = record {
     rows = rows;
     kept = kept;
     images = images;
     stays = λ x is. absurd (some_or f x none is);
     none = λ was is. count_same fault why keeps is;
-    met = λ x was is. subst (λ (r : List EquivRow). IsMet r (faults b.disk) x) (sym rows) (met_by fault why keeps x is);
+    met = λ x was is. subst (λ (r : List EquivRow). IsMet plan r (faults b.disk) x) (sym rows) (met_by fault why keeps x is);
   }
     where
-      count_same : (y : StoreFault) → IsUnknown a.rows (faults a.disk) (faults b.disk) y → Keeps y f g answer → g ≡ None → faults b.disk ≡ faults a.disk
+      count_same : (y : StoreFault) → IsUnknown plan a.rows (faults a.disk) (faults b.disk) y → Keeps y f g answer → g ≡ None → faults b.disk ≡ faults a.disk
       count_same fault_of.Disk w k is = absurd (some_or g fault_of.Disk is k.0)
       count_same (fault_of.Collision name held given) w k is = absurd (some_or g (fault_of.Collision name held given) is k.0)
       count_same (fault_of.Unsteady pn task held given) w k is = absurd w
       count_same fault_of.Memory w k is = w
 
-      met_by : (y : StoreFault) → IsUnknown a.rows (faults a.disk) (faults b.disk) y → Keeps y f g answer → (x : StoreFault) → g ≡ Some x → IsMet a.rows (faults b.disk) x
-      met_by fault_of.Disk w k x is = subst (λ (z : StoreFault). IsMet a.rows (faults b.disk) z) (same_Some fault_of.Disk x (sym k.0 ∙ is)) w
-      met_by (fault_of.Collision name held given) w k x is = subst (λ (z : StoreFault). IsMet a.rows (faults b.disk) z) (same_Some (fault_of.Collision name held given) x (sym k.0 ∙ is)) w
+      met_by : (y : StoreFault) → IsUnknown plan a.rows (faults a.disk) (faults b.disk) y → Keeps y f g answer → (x : StoreFault) → g ≡ Some x → IsMet plan a.rows (faults b.disk) x
+      met_by fault_of.Disk w k x is = subst (λ (z : StoreFault). IsMet plan a.rows (faults b.disk) z) (same_Some fault_of.Disk x (sym k.0 ∙ is)) w
+      met_by (fault_of.Collision name held given) w k x is = subst (λ (z : StoreFault). IsMet plan a.rows (faults b.disk) z) (same_Some (fault_of.Collision name held given) x (sym k.0 ∙ is)) w
       met_by (fault_of.Unsteady pn task held given) w k x is = absurd w
       met_by fault_of.Memory w k x is = absurd (some_or g x (k.0 ∙ none) is)
 
   -- why nothing is known
-  pub unknown_by : (a b : View D) (g : Option StoreFault) → Asks tells story faults a b None g → IsUnknown b.rows (faults a.disk) (faults b.disk) (unwrap_or g fault_of.Memory)
+  pub unknown_by : (a b : View D) (g : Option StoreFault) → Asks plan tells story faults a b None g → IsUnknown plan b.rows (faults a.disk) (faults b.disk) (unwrap_or g fault_of.Memory)
   unknown_by a b None asks = asks.none refl refl
   unknown_by a b (Some x) asks = by x (asks.met x refl refl)
     where
-      by : (y : StoreFault) → IsMet b.rows (faults b.disk) y → IsUnknown b.rows (faults a.disk) (faults b.disk) y
+      by : (y : StoreFault) → IsMet plan b.rows (faults b.disk) y → IsUnknown plan b.rows (faults a.disk) (faults b.disk) y
       by fault_of.Disk m = m
       by (fault_of.Collision name held given) m = m
       by (fault_of.Unsteady pn task held given) m = m
@@ -85,11 +85,11 @@ rose_above : (before now : ℕ) → Rose before now → 0 < now
 rose_above before now rose = omega (arith, rose)
 
 -- why a question about a signature is refused
-pub clash_unknown : (rows : List EquivRow) (name : Hash) (bytes : List ℕ) (before now : ℕ) (fault : StoreFault) → IsNamedBy name bytes → IsClash rows name bytes fault → Counts before now (is_disk_fault fault) → IsUnknown rows before now fault
-clash_unknown rows name bytes before now fault_of.Disk named clash counts = rose_above before now counts.rose
-clash_unknown rows name bytes before now (fault_of.Collision at held given) named clash counts = clash_of rows name at bytes held given named clash
-clash_unknown rows name bytes before now (fault_of.Unsteady pn task held given) named clash counts = absurd clash
-clash_unknown rows name bytes before now fault_of.Memory named clash counts = counts.stayed
+pub clash_unknown : (plan : Plan) (rows : List EquivRow) (name : Hash) (bytes : List ℕ) (before now : ℕ) (fault : StoreFault) → IsNamedFor (record { plan = plan; rows = rows }) name bytes → IsClash rows name bytes fault → Counts before now (is_disk_fault fault) → IsUnknown plan rows before now fault
+clash_unknown plan rows name bytes before now fault_of.Disk named clash counts = rose_above before now counts.rose
+clash_unknown plan rows name bytes before now (fault_of.Collision at held given) named clash counts = clash_of plan rows name at bytes held given named clash
+clash_unknown plan rows name bytes before now (fault_of.Unsteady pn task held given) named clash counts = absurd clash
+clash_unknown plan rows name bytes before now fault_of.Memory named clash counts = counts.stayed
 
 -- what a store answers of a task that wasn't begun
 pub told_here : (tells : Type 0) (held : Store) (rows : List EquivRow) (setscene : Bool) (own task : PlanTask) (sig : SigRecord) (before : Option Avail) (there : Avail) → before ≡ None → own ≡ task → (tells → IsAvailable held rows setscene (signed_by own sig) there) → Means tells held rows setscene task sig before there

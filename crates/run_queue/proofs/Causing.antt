@@ -24,7 +24,7 @@ use Rattle.store_model.specs.declared.signature.SigRecord.{SigRecord}
 use Rattle.store_model.specs.Rows.{row_at}
 use Rattle.store_model.specs.Signatures.{Signed}
 use Rattle.store_model.specs.Spelling.{name_of, signature_bytes}
-use Rattle.setscene_plan.specs.View.{IsNamedBy}
+use Rattle.setscene_plan.specs.View.{IsAskedOf, IsNamedFor}
 use Rattle.build_store.specs.Faults.{IsClash, IsCollision, IsRefusal, IsUnsteady, is_disk_fault}
 use Rattle.build_store.specs.declared.fault.StoreFault.{StoreFault}
 use Rattle.build_store.specs.declared.fault.StoreFault.TheVariants as fault_of
@@ -39,18 +39,24 @@ use Rattle.run_queue.specs.Puts.{IsSignedAt}
 
 -- ---- of the store
 
--- the name of a signature is that of its bytes
-pub signed_name : (sig : SigRecord) → IsNamedBy (name_of sig) (signature_bytes sig)
-signed_name sig = record { sig = sig; spelled = refl; named = refl }
+-- the name and the bytes of the signature of a task of the plan
+pub signed_name : (plan : Plan) (rows : List EquivRow) (number : ℕ) (s : Signed) → IsSignedAt rows plan.tasks number s → IsNamedFor (record { plan = plan; rows = rows }) (name_of s.sig) (signature_bytes s.sig)
+signed_name plan rows number s is = record { number = number; signed = s; is_signed = is; spelled = refl; named = refl }
 
--- what a collision is where the name is that of a signature
-pub clash_of : (rows : List EquivRow) (at name : Hash) (bytes held given : List ℕ) → IsNamedBy at bytes → IsCollision rows at bytes name held given → IsClashOf rows name held given
+-- the same of the signature for which an output is asked
+pub asked_name : (plan : Plan) (rows : List EquivRow) (number : ℕ) (sig : SigRecord) → IsAskedOf (record { plan = plan; rows = rows }) number sig → IsNamedFor (record { plan = plan; rows = rows }) (name_of sig) (signature_bytes sig)
+asked_name plan rows number sig asked = record { number = number; signed = asked.signed; is_signed = asked.is_signed; spelled = ap signature_bytes asked.is; named = ap name_of asked.is }
+
+-- what a collision is where the name is that of the signature of a task of the plan
+pub clash_of : (plan : Plan) (rows : List EquivRow) (at name : Hash) (bytes held given : List ℕ) → IsNamedFor (record { plan = plan; rows = rows }) at bytes → IsCollision rows at bytes name held given → IsClashOf plan rows name held given
 unfolding name_of
-clash_of rows at name bytes held given named clash = record {
+clash_of plan rows at name bytes held given named clash = record {
   row = clash.row;
   is_row = ap (row_at rows) clash.name_is ∙ clash.is_row;
   held_is = clash.held_is;
-  sig = named.sig;
+  number = named.number;
+  signed = named.signed;
+  is_signed = named.is_signed;
   given_is = clash.given_is ∙ named.spelled;
   name_is = clash.name_is ∙ named.named;
   differ = clash.differ;
@@ -84,16 +90,16 @@ unsteady_of plan rows number s tree pn task held given signed refused =
 -- Why a fault of a publication is kept: before it the disk hadn't failed.
 pub store_cause : (before count : ℕ) (plan : Plan) (rows : List EquivRow) (number : ℕ) (s : Signed) (tree : Entries) (f : StoreFault) → IsSignedAt rows plan.tasks number s → before ≡ 0 → Counts before count (is_disk_fault f) → IsRefusal rows s tree f → IsStoreCause count plan rows f
 store_cause before count plan rows number s tree fault_of.Disk signed none counts refused = let rose = counts.rose in omega (arith, rose, none)
-store_cause before count plan rows number s tree (fault_of.Collision name held given) signed none counts refused = clash_of rows (name_of s.sig) name (signature_bytes s.sig) held given (signed_name s.sig) refused
+store_cause before count plan rows number s tree (fault_of.Collision name held given) signed none counts refused = clash_of plan rows (name_of s.sig) name (signature_bytes s.sig) held given (signed_name plan rows number s signed) refused
 store_cause before count plan rows number s tree (fault_of.Unsteady pn task held given) signed none counts refused = unsteady_of plan rows number s tree pn task held given signed refused
 store_cause before count plan rows number s tree fault_of.Memory signed none counts refused = tt
 
 -- Why a fault of a restoring is kept.
-pub clash_cause : (before count : ℕ) (plan : Plan) (rows : List EquivRow) (sig : SigRecord) (f : StoreFault) → before ≡ 0 → Counts before count (is_disk_fault f) → IsClash rows (name_of sig) (signature_bytes sig) f → IsStoreCause count plan rows f
-clash_cause before count plan rows sig fault_of.Disk none counts refused = let rose = counts.rose in omega (arith, rose, none)
-clash_cause before count plan rows sig (fault_of.Collision name held given) none counts refused = clash_of rows (name_of sig) name (signature_bytes sig) held given (signed_name sig) refused
-clash_cause before count plan rows sig (fault_of.Unsteady pn task held given) none counts refused = absurd refused
-clash_cause before count plan rows sig fault_of.Memory none counts refused = tt
+pub clash_cause : (before count : ℕ) (plan : Plan) (rows : List EquivRow) (number : ℕ) (s : Signed) (f : StoreFault) → IsSignedAt rows plan.tasks number s → before ≡ 0 → Counts before count (is_disk_fault f) → IsClash rows (name_of s.sig) (signature_bytes s.sig) f → IsStoreCause count plan rows f
+clash_cause before count plan rows number s fault_of.Disk signed none counts refused = let rose = counts.rose in omega (arith, rose, none)
+clash_cause before count plan rows number s (fault_of.Collision name held given) signed none counts refused = clash_of plan rows (name_of s.sig) name (signature_bytes s.sig) held given (signed_name plan rows number s signed) refused
+clash_cause before count plan rows number s (fault_of.Unsteady pn task held given) signed none counts refused = absurd refused
+clash_cause before count plan rows number s fault_of.Memory signed none counts refused = tt
 
 -- What a fault of a publication carries: its task's PN and name, and the manifest of what was given.
 pub refusal_given : (tasks : List PlanTask) (rows : List EquivRow) (number : ℕ) (s : Signed) (tree : Entries) (manifest : List ManifestLine) (f : StoreFault) → slice_get tasks number ≡ Some s.task → manifest ≡ manifest_lines tree → IsRefusal rows s tree f → IsStoreOfGiven tasks number (givens.Tree tree manifest) f
@@ -117,7 +123,7 @@ steady_given tasks number g (Some (ends.Store fault_of.Memory)) is = tt
 steady_given tasks number g (Some ends.Write) is = tt
 
 -- Why a fault is kept by which nothing is known.
-pub unknown_cause : (plan : Plan) (rows : List EquivRow) (before now : ℕ) (f : StoreFault) → IsUnknown rows before now f → IsStoreCause now plan rows f
+pub unknown_cause : (plan : Plan) (rows : List EquivRow) (before now : ℕ) (f : StoreFault) → IsUnknown plan rows before now f → IsStoreCause now plan rows f
 unknown_cause plan rows before now fault_of.Disk is = is
 unknown_cause plan rows before now (fault_of.Collision name held given) is = is
 unknown_cause plan rows before now (fault_of.Unsteady pn task held given) is = absurd is

@@ -1,15 +1,12 @@
 -- The signature of a task by what is known of a plan's tasks is its own, and has one spelling.
 use Rattle.std.proofs.Common.{◌≡◌, ◌∙◌, sym, ap, subst, refl, ℕ, zero, suc, ◌<◌, ◌≤◌, arith, Bool, true, false, List, [], ◌∷◌, ◌++◌, length, get_or, map, All, Option, Some, None, inl, inr, ◌⊎◌}
 use Rattle.std.specs.Prelude.{◌||◌, slice_index_or}
-use Rattle.std.specs.Option.{option_map}
 use Rattle.std.specs.List.{AllByRecursion, list_any, slice_get}
 use Rattle.std.proofs.lemmas.Bool.{false≢true}
 use Rattle.std.proofs.lemmas.Bool.Decides.{Decides-ltb}
 use Rattle.std.proofs.lemmas.List.{map-append}
-use Rattle.std.proofs.lemmas.List.Elements.{recursion_from_All}
-use Rattle.std.proofs.lemmas.Option.{slice_get-get_or, slice_get-map, slice_get_within}
+use Rattle.std.proofs.lemmas.Option.{slice_get-get_or}
 use Rattle.tree_model.specs.declared.entry.Entry.{Entry}
-use Rattle.tree_model.specs.declared.hash.Hash.{Hash}
 use Rattle.meta_model.specs.declared.plan.Plan.{Plan}
 use Rattle.meta_model.specs.declared.plan.PlanTask.{PlanTask}
 use Rattle.meta_model.specs.CleanBuild.{Entries, exceeds, is_beyond, is_long, output_limit}
@@ -23,14 +20,12 @@ use Rattle.store_model.specs.Premises.{AreSoundFrom}
 use Rattle.store_model.specs.Signatures.{Signed, signature, signatures, signed_from}
 use Rattle.store_model.specs.Spelled.{IsSpelled}
 use Rattle.store_model.specs.Spelling.{name_of, signature_bytes}
-use Rattle.store_model.specs.Unihashes.{hashed}
-use Rattle.store_model.proofs.Hashing.{signature_by_unihashes}
 use Rattle.store_model.proofs.Ordered.{each_append}
 use Rattle.store_model.proofs.Soundness.{sound_plan_is_sound}
 use Rattle.store_model.proofs.Spelled.{signature_is_spelled}
-use Rattle.sig_gen.specs.Signing.{hashed_at, paired, signature_by}
-use Rattle.setscene_plan.specs.Names.{AreNamed, names_over}
-use Rattle.setscene_plan.proofs.Naming.{names_are_over, signature_gathered}
+use Rattle.sig_gen.specs.Signing.{signature_by}
+use Rattle.setscene_plan.specs.Names.{AreNamed}
+use Rattle.setscene_plan.proofs.Naming.{signed_at, signed_is}
 use Rattle.std.specs.Prelude.{IfErr, IfOk, IfSome, IsSome, MatchBool, Result, Ok, Err}
 use Rattle.std.specs.Result.{IsErrAnd}
 use Rattle.outside_traits.specs.Fault.{Counts}
@@ -46,7 +41,6 @@ use Rattle.build_store.specs.Publication.{AreShort, HasNoObject, IsRestored}
 use Rattle.build_store.specs.View.{IsSignatureOf}
 use Rattle.run_queue.specs.Causes.{IsStoreCause}
 use Rattle.run_queue.specs.Puts.{HasPutObject, IsSignedAt}
-use Rattle.run_queue.proofs.Agreement.{signed_count}
 use Rattle.run_queue.proofs.Causing.{clash_cause}
 use Rattle.run_queue.proofs.Enduring.{signed_task}
 
@@ -80,46 +74,6 @@ ordered plan sound t = by (slice_get plan.tasks t) refl
     by : (x : Option PlanTask) → slice_get plan.tasks t ≡ x → All (λ d. d < t) (deps_in (slice_get plan.tasks t))
     by None e = subst (λ (o : Option PlanTask). All (λ d. d < t) (deps_in o)) (sym e) (λ k d lt. absurd (omega arith))
     by (Some task) e = subst (λ (o : Option PlanTask). All (λ d. d < t) (deps_in o)) (sym e) (sound.tasks t task e).below
-
--- ---- by unihashes
-
-pub signed_here : (rows : List EquivRow) (tasks : List PlanTask) (t : ℕ) → t < length tasks → (s : Signed) × (slice_get (signatures rows tasks) t ≡ Some s)
-signed_here rows tasks t lt = found (signatures rows tasks) t (let c = signed_count rows tasks in omega (arith, c, lt))
-  where
-    found : (xs : List Signed) (n : ℕ) → n < length xs → (s : Signed) × (slice_get xs n ≡ Some s)
-    found [] n lt = absurd (omega (arith, lt))
-    found (x ∷ xs) zero lt = (x, refl)
-    found (x ∷ xs) (suc n) lt = found xs n (omega (arith, lt))
-
--- Where names and unihashes are those over the rows, the signature by them is the task's own.
-pub own_signature : (rows : List EquivRow) (tasks : List PlanTask) (names unihashes : List Hash) → AreOrdered tasks → AreNamed rows tasks names unihashes → (t : ℕ) (s : Signed) → slice_get (signatures rows tasks) t ≡ Some s → signature_by tasks unihashes s.task ≡ s.sig
-own_signature rows tasks names unihashes order are t s is =
-    signature_gathered tasks unihashes s.task (slice_get (map (hashed rows) (signatures rows tasks))) (recursion_from_All (λ d. hashed_at tasks unihashes d ≡ slice_get (map (hashed rows) (signatures rows tasks)) d) s.task.deps (λ k d inside. hashed_is (get_or s.task.deps k d) (below k d inside)))
-    ∙ sym (signature_by_unihashes rows tasks t s is below)
-  where
-    lt : t < length tasks
-    lt = let c = signed_count rows tasks in let w = slice_get_within (signatures rows tasks) t s is in omega (arith, c, w)
-
-    task_here : (n : ℕ) (x : Signed) → slice_get (signatures rows tasks) n ≡ Some x → slice_get tasks n ≡ Some x.task
-    task_here n x here =
-        let w = slice_get_within (signatures rows tasks) n x here in
-        let c = signed_count rows tasks in
-        let at = slice_get-get_or tasks n x.task (omega (arith, c, w)) in
-        at ∙ ap (λ (y : PlanTask). Some y) (sym (signed_task rows tasks n x (get_or tasks n x.task) here at))
-
-    below : All (λ d. d < t) s.task.deps
-    below = subst (λ (o : Option PlanTask). All (λ d. d < t) (deps_in o)) (task_here t s is) (order t)
-
-    names_are : names ≡ names_over rows tasks
-    names_are = names_are_over rows tasks names unihashes order are
-
-    hashed_is : (d : ℕ) → d < t → hashed_at tasks unihashes d ≡ slice_get (map (hashed rows) (signatures rows tasks)) d
-    hashed_is d lower =
-        let x = signed_here rows tasks d (omega (arith, lt, lower)) in
-        let name : slice_get names d ≡ Some (name_of x.0.sig) = ap (λ (l : List Hash). slice_get l d) names_are ∙ slice_get-map (λ (y : Signed). name_of y.sig) (signatures rows tasks) d ∙ ap (option_map (λ (y : Signed). name_of y.sig)) x.1 in
-        let unihash = are.hashed d (name_of x.0.sig) name in
-        (λ i. paired (task_here d x.0 x.1 i) (unihash i))
-        ∙ sym (slice_get-map (hashed rows) (signatures rows tasks) d ∙ ap (option_map (hashed rows)) x.1)
 
 -- ---- outputs within the limits
 
@@ -169,7 +123,7 @@ known_signature plan rows None t task sig s sound at current known by is = absur
 known_signature plan rows (Some r) t task sig s sound at current known by is =
     let are : AreNamed rows plan.tasks (names_in r) (unihashes_in r) = record { long = current.made.long; wide = current.made.wide; named = current.made.named; hashed = current.hashed } in
     let same = signed_task rows plan.tasks t s task is at in
-    let own = own_signature rows plan.tasks (names_in r) (unihashes_in r) (ordered plan sound) are t s is in
+    let own = signed_is rows plan.tasks (names_in r) (unihashes_in r) (ordered plan sound) are t s is in
     let sigs : s.sig ≡ sig = sym own ∙ ap (signature_by plan.tasks (unihashes_in r)) same ∙ sym (by task at) in
     λ i. record { task = same i; sig = sigs i }
 
@@ -180,7 +134,7 @@ indexed tasks items t x same lt is = slice_get-get_or tasks t x lt ∙ ap (λ (y
 -- So it can be published.
 pub known_is : (plan : Plan) (rows : List EquivRow) (replan : Option Replan) (t : ℕ) (task : PlanTask) (sig : SigRecord) → IsSound plan → t < length plan.tasks → slice_get plan.tasks t ≡ Some task → IfSome replan (IsCurrent no_meaning (view_of plan rows)) → IsSome replan → IsBy plan t sig replan → IsSpelled sig × IsSignatureOf task sig
 known_is plan rows replan t task sig sound lt at current known by =
-    let x = signed_here rows plan.tasks t lt in
+    let x = signed_at rows plan.tasks t lt in
     let same = known_signature plan rows replan t task sig x.0 sound at current known by x.1 in
     let own = is_own plan rows t x.0 sound x.1 in (
       subst (λ (s : Signed). IsSpelled s.sig) same own.spelled,
@@ -195,9 +149,9 @@ handed_on (Err e) f P is here = subst P (sym is) here
 -- ---- a restoring
 
 -- Why a fault of a restoring is kept.
-pub restore_cause : (before count : ℕ) (plan : Plan) (rows later : List EquivRow) (sig : SigRecord) (r : Result Bool StoreFault) → later ≡ rows → before ≡ 0 → Counts before count (store_failed r) → IfErr r (IsClash rows (name_of sig) (signature_bytes sig)) → IfErr r (IsStoreCause count plan later)
-restore_cause before count plan rows later sig (Ok found) same none counts refused = tt
-restore_cause before count plan rows later sig (Err f) same none counts refused = subst (λ (l : List EquivRow). IsStoreCause count plan l f) (sym same) (clash_cause before count plan rows sig f none counts refused)
+pub restore_cause : (before count : ℕ) (plan : Plan) (rows later : List EquivRow) (number : ℕ) (s : Signed) (r : Result Bool StoreFault) → IsSignedAt rows plan.tasks number s → later ≡ rows → before ≡ 0 → Counts before count (store_failed r) → IfErr r (IsClash rows (name_of s.sig) (signature_bytes s.sig)) → IfErr r (IsStoreCause count plan later)
+restore_cause before count plan rows later number s (Ok found) signed same none counts refused = tt
+restore_cause before count plan rows later number s (Err f) signed same none counts refused = subst (λ (l : List EquivRow). IsStoreCause count plan l f) (sym same) (clash_cause before count plan rows number s f signed none counts refused)
 
 -- What is answered of a task with its signature is answered of the task of its number.
 pub put_object : (tells : Type 0) (old new : Story) (rows : List EquivRow) (tasks : List PlanTask) (t : ℕ) (x : Signed) (r : Result Bool StoreFault) → ((s : Signed) → IsSignedAt rows tasks t s → s ≡ x)

@@ -33,7 +33,8 @@ use Rattle.run_queue.specs.Causes.{IsCause}
 use Rattle.run_queue.specs.Keeps.{IsState, IsUpToDate}
 use Rattle.run_queue.specs.Seen.{RunView, known_in, no_meaning}
 use Rattle.run_queue.proofs.Known.{own_signature, own_task, sound_ordered, up_to_date}
-use Rattle.run_queue.proofs.OwnSignature.{signed_here, view_of}
+use Rattle.run_queue.proofs.OwnSignature.{view_of}
+use Rattle.setscene_plan.proofs.Naming.{signed_at}
 
 -- ---- one row more
 
@@ -103,7 +104,7 @@ pub settled_put : (plan : Plan) (rows later : List EquivRow) (t : ℕ) (replan :
     → IfSome replan (IsSettled no_meaning (view_of plan later) t)
 settled_put plan rows later t None tree sound lt current put = tt
 settled_put plan rows later t (Some known) tree sound lt current put =
-    let x = signed_here rows plan.tasks t lt in
+    let x = signed_at rows plan.tasks t lt in
     settles no_meaning (view_of plan rows) later t known current
     (subst (λ (r : List EquivRow). AreSettling (view_of plan rows) r t known) (sym (put x.0 x.1)) (settling_with plan rows t known tree sound current x.0 x.1))
 

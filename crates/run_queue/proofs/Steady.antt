@@ -4,6 +4,7 @@ use Rattle.std.specs.Prelude.{IfErr, Option}
 use Rattle.tree_model.specs.declared.hash.Hash.{Hash}
 use Rattle.tree_model.specs.Manifest.{manifest_lines}
 use Rattle.meta_model.specs.CleanBuild.{Entries}
+use Rattle.meta_model.specs.declared.plan.Plan.{Plan}
 use Rattle.run_core.specs.declared.fate.Fate.TheVariants as fate
 use Rattle.run_core.specs.Fates.{fate_at, fates_told}
 use Rattle.run_core.specs.History.{EachAfter, IsOrderly}
@@ -34,11 +35,11 @@ pub steady_none : (f : Option RunFault) → f ≡ None → IsSteady f
 steady_none None e = tt
 steady_none (Some f) e = absurd (let n : Some f ≡ None = e in cc)
 
-pub unknown_steady : (rows : List EquivRow) (before now : ℕ) (f : StoreFault) → IsUnknown rows before now f → IsSteadyAnswer f
-unknown_steady rows before now fault_of.Disk is = tt
-unknown_steady rows before now (fault_of.Collision name held given) is = tt
-unknown_steady rows before now (fault_of.Unsteady pn task held given) is = is
-unknown_steady rows before now fault_of.Memory is = tt
+pub unknown_steady : (plan : Plan) (rows : List EquivRow) (before now : ℕ) (f : StoreFault) → IsUnknown plan rows before now f → IsSteadyAnswer f
+unknown_steady plan rows before now fault_of.Disk is = tt
+unknown_steady plan rows before now (fault_of.Collision name held given) is = tt
+unknown_steady plan rows before now (fault_of.Unsteady pn task held given) is = is
+unknown_steady plan rows before now fault_of.Memory is = tt
 
 pub outside_steady : (f : StoreFault) → IsOutside f → IsSteadyAnswer f
 outside_steady fault_of.Disk is = tt

@@ -59,7 +59,7 @@ use Rattle.run_queue.proofs.Concluding.{ended_run, ended_there, fault_run, fault
 use Rattle.run_queue.proofs.Enduring.{signed_task}
 use Rattle.run_queue.proofs.Growing.{course_of_front}
 use Rattle.run_queue.proofs.Jobs.{end_may_come, given_is_clean, says}
-use Rattle.run_queue.proofs.OwnSignature.{signed_here}
+use Rattle.setscene_plan.proofs.Naming.{signed_at}
 use Rattle.run_queue.proofs.Passed.{same_now}
 use Rattle.run_queue.proofs.Putting.{Begins, book_now, durable_now, may_now, more_begun, readable_more}
 use Rattle.run_queue.proofs.Recorded.{IsPut, put_line}
@@ -99,7 +99,7 @@ ready o s k t seat tree run faultless orderly now lt runs output = record {
     may = may_now o s run faultless now.clear
 
     x : (sg : Signed) × (slice_get (signatures s.rows s.plan.tasks) t ≡ Some sg)
-    x = signed_here s.rows s.plan.tasks t lt
+    x = signed_at s.rows s.plan.tasks t lt
 
     is_sg : slice_get (signatures (rows_of (book_now o s)) s.plan.tasks) t ≡ Some x.0
     is_sg = subst (λ (r : List EquivRow). slice_get (signatures r s.plan.tasks) t ≡ Some x.0) run.rows x.1

@@ -7,6 +7,7 @@ use Rattle.outside_traits.specs.Store.{Store}
 use Rattle.outside_traits.specs.Story.{Story}
 use Rattle.meta_model.specs.declared.event.Avail.{Avail}
 use Rattle.meta_model.specs.declared.event.Avail.TheVariants.{Missing}
+use Rattle.meta_model.specs.declared.plan.Plan.{Plan}
 use Rattle.meta_model.specs.declared.plan.PlanTask.{PlanTask}
 use Rattle.run_core.specs.Need.{IsIn}
 use Rattle.store_model.specs.declared.signature.EquivRow.{EquivRow}
@@ -78,12 +79,12 @@ kept_or_meant e tells held rows setscene tasks begun t sig there = WasKept e tas
 
 -- ---- faults
 
--- A question met this fault of a store, which has these rows, and whose disk has failed so often now.
-abbrev pub IsMet : List EquivRow → ℕ → StoreFault → Type 0
-IsMet rows now fault_of.Disk = 0 < now
-IsMet rows now (fault_of.Collision name held given) = IsClashOf rows name held given
-IsMet rows now (fault_of.Unsteady pn task held given) = ⊥
-IsMet rows now fault_of.Memory = ⊥
+-- A question on the tasks of a plan met this fault of a store, which has these rows, and whose disk has failed so often now.
+abbrev pub IsMet : Plan → List EquivRow → ℕ → StoreFault → Type 0
+IsMet plan rows now fault_of.Disk = 0 < now
+IsMet plan rows now (fault_of.Collision name held given) = IsClashOf plan rows name held given
+IsMet plan rows now (fault_of.Unsteady pn task held given) = ⊥
+IsMet plan rows now fault_of.Memory = ⊥
 
 -- 1 where a fault is kept
 abbrev pub fault_count : Option StoreFault → ℕ
@@ -99,18 +100,19 @@ Keeps fault_of.Memory old new answer = (new ≡ old) × (answer ≡ probe.Memory
 
 -- ---- what questions leave
 
--- Questions leave a store's rows and kept signatures, and where the disk tells what it holds; and the first fault that they meet is kept.
-pub record Asks {D : Type 0} (tells : Type 0) (story : D → Story) (faults : D → ℕ) (old new : View D) (before now : Option StoreFault) : Type 0 where
+-- Questions on the tasks of a plan leave a store's rows and kept signatures, and where the disk tells what it holds; and the first fault that
+-- they meet is kept.
+pub record Asks {D : Type 0} (plan : Plan) (tells : Type 0) (story : D → Story) (faults : D → ℕ) (old new : View D) (before now : Option StoreFault) : Type 0 where
   pub rows : new.rows ≡ old.rows
   pub kept : new.kept ≡ old.kept
   pub images : tells → Passes (story old.disk) (story new.disk) Same
   pub stays : (f : StoreFault) → before ≡ Some f → (now ≡ Some f) × (faults new.disk ≡ faults old.disk)
   pub none : before ≡ None → now ≡ None → faults new.disk ≡ faults old.disk
-  pub met : (f : StoreFault) → before ≡ None → now ≡ Some f → IsMet new.rows (faults new.disk) f
+  pub met : (f : StoreFault) → before ≡ None → now ≡ Some f → IsMet plan new.rows (faults new.disk) f
 
--- why nothing is known over these rows: a fault was met, or memory was wanting
-abbrev pub IsUnknown : List EquivRow → ℕ → ℕ → StoreFault → Type 0
-IsUnknown rows before now fault_of.Disk = 0 < now
-IsUnknown rows before now (fault_of.Collision name held given) = IsClashOf rows name held given
-IsUnknown rows before now (fault_of.Unsteady pn task held given) = ⊥
-IsUnknown rows before now fault_of.Memory = now ≡ before
+-- why nothing is known of a plan's tasks over these rows: a fault was met, or memory was wanting
+abbrev pub IsUnknown : Plan → List EquivRow → ℕ → ℕ → StoreFault → Type 0
+IsUnknown plan rows before now fault_of.Disk = 0 < now
+IsUnknown plan rows before now (fault_of.Collision name held given) = IsClashOf plan rows name held given
+IsUnknown plan rows before now (fault_of.Unsteady pn task held given) = ⊥
+IsUnknown plan rows before now fault_of.Memory = now ≡ before

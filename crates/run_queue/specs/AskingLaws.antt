@@ -7,6 +7,7 @@ use Rattle.outside_traits.specs.Store.{Store}
 use Rattle.outside_traits.specs.Story.{Story, moment}
 use Rattle.outside_traits.proofs.Calls.{then_same}
 use Rattle.meta_model.specs.declared.event.Avail.{Avail}
+use Rattle.meta_model.specs.declared.plan.Plan.{Plan}
 use Rattle.meta_model.specs.declared.plan.PlanTask.{PlanTask}
 use Rattle.store_model.specs.declared.signature.EquivRow.{EquivRow}
 use Rattle.store_model.specs.declared.signature.SigRecord.{SigRecord}
@@ -44,8 +45,8 @@ same_story s = record { later = le_refl (moment s); held = refl; now = λ image 
 some_or : {A : Type 0} (x : Option A) (y : A) → x ≡ None → x ≡ Some y → ⊥
 some_or x y none some = none-some y (sym none ∙ some)
 
-module _ {D : Type 0} (tells : Type 0) (story : D → Story) (faults : D → ℕ) where
-  pub asks_itself : (v : View D) (f : Option StoreFault) → Asks tells story faults v v f f
+module _ {D : Type 0} (plan : Plan) (tells : Type 0) (story : D → Story) (faults : D → ℕ) where
+  pub asks_itself : (v : View D) (f : Option StoreFault) → Asks plan tells story faults v v f f
   asks_itself v f = record {
     rows = refl;
     kept = refl;
@@ -55,8 +56,8 @@ module _ {D : Type 0} (tells : Type 0) (story : D → Story) (faults : D → ℕ
     met = λ x none some. absurd (some_or f x none some);
   }
 
-  pub asks_on : (a b c : View D) (f g h : Option StoreFault) → Asks tells story faults a b f g → Asks tells story faults b c g h → Asks tells story faults a c f h
-  asks_on a b c f g h first second = record {
+  asks_more : (a b c : View D) (f g h : Option StoreFault) → Asks plan tells story faults a b f g → Asks plan tells story faults b c g h → Asks plan tells story faults a c f h
+  asks_more a b c f g h first second = record {
     rows = second.rows ∙ first.rows;
     kept = second.kept ∙ first.kept;
     images = λ t. then_same (first.images t) (second.images t);
@@ -69,10 +70,14 @@ module _ {D : Type 0} (tells : Type 0) (story : D → Story) (faults : D → ℕ
       none_on None e was is = second.none e is ∙ first.none was e
       none_on (Some x) e was is = absurd (some_or h x is (second.stays x e).0)
 
-      met_on : (mid : Option StoreFault) → g ≡ mid → (x : StoreFault) → f ≡ None → h ≡ Some x → IsMet c.rows (faults c.disk) x
+      met_on : (mid : Option StoreFault) → g ≡ mid → (x : StoreFault) → f ≡ None → h ≡ Some x → IsMet plan c.rows (faults c.disk) x
       met_on None e x was is = second.met x e is
       met_on (Some y) e x was is =
           let stays = second.stays y e in
           let same : y ≡ x = same_Some y x (sym stays.0 ∙ is) in
-          subst (λ (r : List EquivRow). IsMet r (faults c.disk) x) (sym second.rows)
-          (subst (λ (n : ℕ). IsMet b.rows n x) (sym stays.1) (subst (λ (z : StoreFault). IsMet b.rows (faults b.disk) z) same (first.met y was e)))
+          subst (λ (r : List EquivRow). IsMet plan r (faults c.disk) x) (sym second.rows)
+          (subst (λ (n : ℕ). IsMet plan b.rows n x) (sym stays.1) (subst (λ (z : StoreFault). IsMet plan b.rows (faults b.disk) z) same (first.met y was e)))
+
+  -- questions go on, on the tasks of one plan
+  pub asks_on : (other : Plan) (a b c : View D) (f g h : Option StoreFault) → other ≡ plan → Asks plan tells story faults a b f g → Asks other tells story faults b c g h → Asks plan tells story faults a c f h
+  asks_on other a b c f g h same first second = asks_more a b c f g h first (subst (λ (p : Plan). Asks p tells story faults b c g h) same second)

@@ -13,7 +13,6 @@ use Rattle.meta_model.specs.declared.event.Logged.{Logged}
 use Rattle.meta_model.specs.declared.plan.Plan.{Plan}
 use Rattle.meta_model.specs.declared.plan.PlanTask.{PlanTask}
 use Rattle.store_model.specs.declared.signature.EquivRow.{EquivRow}
-use Rattle.store_model.specs.declared.signature.SigRecord.{SigRecord}
 use Rattle.store_model.specs.Rows.{row_at}
 use Rattle.store_model.specs.Signatures.{Signed, signatures}
 use Rattle.store_model.specs.Spelling.{name_of, signature_bytes}
@@ -26,15 +25,17 @@ use Rattle.run_queue.specs.declared.fault.RunFault.TheVariants as ends
 
 -- ---- of the store
 
--- Two signatures that differ have one digest, which is the name: the row of the name has the one, and the other one was looked for by the
--- name.
-pub record IsClashOf (rows : List EquivRow) (name : Hash) (held given : List ℕ) : Type 0 where
+-- Two signatures that differ have one digest, which is the name: over the rows the row of the name has the one, and the other one is that of
+-- a task of the plan, whose name it is.
+pub record IsClashOf (plan : Plan) (rows : List EquivRow) (name : Hash) (held given : List ℕ) : Type 0 where
   pub row : EquivRow
   pub is_row : row_at rows name ≡ Some row
   pub held_is : held ≡ row.sig
-  pub sig : SigRecord
-  pub given_is : given ≡ signature_bytes sig
-  pub name_is : name ≡ name_of sig
+  pub number : ℕ
+  pub signed : Signed
+  pub is_signed : slice_get (signatures rows plan.tasks) number ≡ Some signed
+  pub given_is : given ≡ signature_bytes signed.sig
+  pub name_is : name ≡ name_of signed.sig
   pub differ : held ≢ given
   pub held_name : sha256 held ≡ name.bytes
   pub given_name : sha256 given ≡ name.bytes
@@ -59,7 +60,7 @@ pub record IsUnsteadyOf (plan : Plan) (rows : List EquivRow) (pn task : List ℕ
 -- another; a publication wanted memory, for which nothing is asked.
 abbrev pub IsStoreCause : ℕ → Plan → List EquivRow → StoreFault → Type 0
 IsStoreCause count plan rows fault_of.Disk = 0 < count
-IsStoreCause count plan rows (fault_of.Collision name held given) = IsClashOf rows name held given
+IsStoreCause count plan rows (fault_of.Collision name held given) = IsClashOf plan rows name held given
 IsStoreCause count plan rows (fault_of.Unsteady pn task held given) = IsUnsteadyOf plan rows pn task held given
 IsStoreCause count plan rows fault_of.Memory = Unit {0}
 

@@ -110,7 +110,7 @@ impl<D: Disk, E: Before> Probe for Asking<'_, D, E> {
     ghost Stays = { λ a b.
         (b.plan.now ≡ a.plan.now) × (b.begun.now ≡ a.begun.now) × (b.setscene ≡ a.setscene)
         × (b.store.ghost_name ≡ a.store.ghost_name) × (b.fault.ghost_name ≡ a.fault.ghost_name)
-        × Asks D.tells D.story D.faults a.store.now b.store.now a.fault.now b.fault.now };
+        × Asks a.plan.now D.tells D.story D.faults a.store.now b.store.now a.fault.now b.fault.now };
 
     ghost asked = { λ p. 0 };
 
@@ -152,7 +152,7 @@ impl<D: Disk, E: Before> Probe for Asking<'_, D, E> {
     }
 
     ghost stays_itself = { λ p.
-        (refl, refl, refl, refl, refl, asks_itself D.tells D.story D.faults p.store.now p.fault.now) };
+        (refl, refl, refl, refl, refl, asks_itself p.plan.now D.tells D.story D.faults p.store.now p.fault.now) };
 
     ghost stays_on = { λ a b c first second. (
       second.0 ∙ first.0,
@@ -160,8 +160,8 @@ impl<D: Disk, E: Before> Probe for Asking<'_, D, E> {
       second.2 ∙ first.2,
       second.3 ∙ first.3,
       second.4 ∙ first.4,
-      asks_on D.tells D.story D.faults a.store.now b.store.now c.store.now a.fault.now b.fault.now c.fault.now
-          first.5 second.5,
+      asks_on a.plan.now D.tells D.story D.faults b.plan.now a.store.now b.store.now c.store.now a.fault.now
+          b.fault.now c.fault.now first.0 first.5 second.5,
     ) };
 
     ghost says_stays = { λ a b stays. kept_or_meant_follows E.earlier D.tells
@@ -184,9 +184,10 @@ fn ask_all<D: Disk>(asking: &mut Asking<D, Brand>, plan: &Plan) -> Result<Replan
         (record { plan = plan.now; rows = asking.old.store.now.rows }) made) }
     ensures names { IfOk result (λ made. names_in made ≡ names_over asking.old.store.now.rows plan.now.tasks) }
     ensures fine { OnOk result (asking.new.fault.now ≡ None) }
-    ensures refused { IsUnknown asking.new.store.now.rows (D.faults asking.old.store.now.disk)
+    ensures refused { IsUnknown asking.old.plan.now asking.new.store.now.rows (D.faults asking.old.store.now.disk)
         (D.faults asking.new.store.now.disk) (unwrap_or asking.new.fault.now StoreFault.Memory) }
-    ensures asks { Asks D.tells D.story D.faults asking.old.store.now asking.new.store.now None asking.new.fault.now }
+    ensures asks { Asks asking.old.plan.now D.tells D.story D.faults asking.old.store.now asking.new.store.now None
+        asking.new.fault.now }
     ensures same_store { asking.new.store.ghost_name ≡ asking.old.store.ghost_name }
     ensures same_fault { asking.new.fault.ghost_name ≡ asking.old.fault.ghost_name }
 {
@@ -213,9 +214,10 @@ fn ask_changed<D: Disk, E: Before>(
         asking.old.store.now.rows asking.old.setscene plan.now.tasks asking.old.begun.now)
         (record { plan = plan.now; rows = asking.old.store.now.rows }) known.new) }
     ensures fine { OnOk result (asking.new.fault.now ≡ None) }
-    ensures refused { IsUnknown asking.new.store.now.rows (D.faults asking.old.store.now.disk)
+    ensures refused { IsUnknown asking.old.plan.now asking.new.store.now.rows (D.faults asking.old.store.now.disk)
         (D.faults asking.new.store.now.disk) (unwrap_or asking.new.fault.now StoreFault.Memory) }
-    ensures asks { Asks D.tells D.story D.faults asking.old.store.now asking.new.store.now None asking.new.fault.now }
+    ensures asks { Asks asking.old.plan.now D.tells D.story D.faults asking.old.store.now asking.new.store.now None
+        asking.new.fault.now }
     ensures same_store { asking.new.store.ghost_name ≡ asking.old.store.ghost_name }
     ensures same_fault { asking.new.fault.ghost_name ≡ asking.old.fault.ghost_name }
 {
@@ -236,7 +238,8 @@ pub(crate) fn known_of<D: Disk>(
     ensures current { IfOk result (λ made. IsCurrent (meant D.tells (D.story store.old.disk).held store.old.rows
         setscene plan.now.tasks begun.now) (record { plan = plan.now; rows = store.old.rows }) made) }
     ensures names { IfOk result (λ made. names_in made ≡ names_over store.old.rows plan.now.tasks) }
-    ensures refused { IfErr result (IsUnknown store.new.rows (D.faults store.old.disk) (D.faults store.new.disk)) }
+    ensures refused { IfErr result (IsUnknown plan.now store.new.rows (D.faults store.old.disk)
+        (D.faults store.new.disk)) }
     ensures fine { OnOk result (D.faults store.new.disk ≡ D.faults store.old.disk) }
 
     // Whatever it answers.
@@ -277,7 +280,8 @@ fn settled_by<D: Disk, E: Before>(
     requires settled { IsSettled no_meaning (record { plan = plan.now; rows = store.old.rows }) task known }
     ensures current { IfOk result (λ made. IsCurrent (kept_or_meant E.earlier D.tells (D.story store.old.disk).held
         store.old.rows setscene plan.now.tasks begun.now) (record { plan = plan.now; rows = store.old.rows }) made) }
-    ensures refused { IfErr result (IsUnknown store.new.rows (D.faults store.old.disk) (D.faults store.new.disk)) }
+    ensures refused { IfErr result (IsUnknown plan.now store.new.rows (D.faults store.old.disk)
+        (D.faults store.new.disk)) }
     ensures fine { OnOk result (D.faults store.new.disk ≡ D.faults store.old.disk) }
     ensures same { SameBooks store.old store.new }
     ensures images { D.tells → Passes (D.story store.old.disk) (D.story store.new.disk) Same }
@@ -318,7 +322,8 @@ pub(crate) fn known_after<D: Disk>(
     ensures current { IfOk result (λ made. IsCurrent (kept_or_meant (earlier_in known) D.tells
         (D.story store.old.disk).held store.old.rows setscene plan.now.tasks begun.now)
         (record { plan = plan.now; rows = store.old.rows }) made) }
-    ensures refused { IfErr result (IsUnknown store.new.rows (D.faults store.old.disk) (D.faults store.new.disk)) }
+    ensures refused { IfErr result (IsUnknown plan.now store.new.rows (D.faults store.old.disk)
+        (D.faults store.new.disk)) }
     ensures fine { OnOk result (D.faults store.new.disk ≡ D.faults store.old.disk) }
 
     // Whatever it answers.

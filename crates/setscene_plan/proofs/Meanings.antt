@@ -54,6 +54,7 @@ others_follow says other view unihashes need avail changed follows is t member =
 pub askable_follows : (says other : Says) (view : View) (replan : Replan) → Follows says other → IsAskable says view replan → IsAskable other view replan
 askable_follows says other view replan follows is = record {
   wide = is.wide;
+  over = is.over;
   need = is.need;
   long = is.long;
   within = is.within;

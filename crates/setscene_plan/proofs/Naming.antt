@@ -10,11 +10,12 @@ use Rattle.meta_model.specs.declared.plan.PlanTask.{PlanTask}
 use Rattle.run_core.specs.Need.{AreOrdered, deps_in}
 use Rattle.store_model.specs.declared.signature.EquivRow.{EquivRow}
 use Rattle.store_model.specs.Signatures.{Signed, signature, signatures, signed_from}
+use Rattle.store_model.specs.Rows.{uni}
 use Rattle.store_model.specs.Spelling.{name_of}
 use Rattle.store_model.specs.Unihashes.{Hashed, hashed, signature_of}
 use Rattle.store_model.proofs.Hashing.{signature_by_unihashes}
 use Rattle.sig_gen.specs.Signing.{hashed_at, paired, signature_by}
-use Rattle.setscene_plan.specs.Names.{AreNamed, NamesAreOver, names_over}
+use Rattle.setscene_plan.specs.Names.{AreNamed, IsHashed, IsNamed, NamesAreOver, names_over, unihashes_over}
 
 -- ---- a signature depends on the unihashes of what its task needs alone
 
@@ -64,58 +65,91 @@ none_past [] n e = omega arith
 none_past (x ∷ xs) zero e = absurd (cc)
 none_past (x ∷ xs) (suc n) e = omega (arith, none_past xs n e)
 
-module _ (rows : List EquivRow) (tasks : List PlanTask) (names unihashes : List Hash) (ordered : AreOrdered tasks) (are : AreNamed rows tasks names unihashes) where
-  abbrev All_signed : List Signed
-  All_signed = signatures rows tasks
+signed_count : (rows : List EquivRow) (tasks : List PlanTask) → length (signatures rows tasks) ≡ length tasks
+signed_count rows tasks = sym (length-map (signatures rows tasks) (λ (s : Signed). s.task)) ∙ ap (λ l. length l) (signed_tasks rows [] tasks)
 
-  pub task_at : (n : ℕ) (s : Signed) → slice_get All_signed n ≡ Some s → slice_get tasks n ≡ Some s.task
-  task_at n s is =
-      sym (ap (λ l. slice_get l n) (signed_tasks rows [] tasks)) ∙ slice_get-map (λ (x : Signed). x.task) All_signed n ∙ ap (λ o. option_map (λ (x : Signed). x.task) o) is
+-- each task of a plan is signed
+pub signed_at : (rows : List EquivRow) (tasks : List PlanTask) (n : ℕ) → n < length tasks → (s : Signed) × (slice_get (signatures rows tasks) n ≡ Some s)
+signed_at rows tasks n lt = elim (some_at (signatures rows tasks) n) [
+  | inl none ↦ absurd (omega (arith, lt, signed_count rows tasks, none_past (signatures rows tasks) n none))
+  | inr found ↦ found
+]
 
-  -- the names of all tasks before a place are those of their signatures
-  abbrev NamedBefore : ℕ → Type 0
-  NamedBefore n = (m : ℕ) → m < n → (x : Signed) → slice_get All_signed m ≡ Some x → slice_get names m ≡ Some (name_of x.sig)
+pub signed_task : (rows : List EquivRow) (tasks : List PlanTask) (n : ℕ) (s : Signed) → slice_get (signatures rows tasks) n ≡ Some s → slice_get tasks n ≡ Some s.task
+signed_task rows tasks n s is =
+    sym (ap (λ l. slice_get l n) (signed_tasks rows [] tasks)) ∙ slice_get-map (λ (x : Signed). x.task) (signatures rows tasks) n ∙ ap (λ o. option_map (λ (x : Signed). x.task) o) is
 
-  hashed_is : (n : ℕ) (s : Signed) → slice_get All_signed n ≡ Some s → NamedBefore n → (d : ℕ) → d < n → hashed_at tasks unihashes d ≡ slice_get (map (hashed rows) All_signed) d
-  hashed_is n s is earlier d lower = elim (some_at All_signed d) [
-    | inl none ↦
-        let long : length All_signed ≤ d = none_past All_signed d none in
-        let has : n < length All_signed = slice_get_within All_signed n s is in
-        absurd (omega (arith, long, has, lower))
-    | inr found ↦
-        let name = earlier d lower found.0 found.1 in
-        let unihash = are.hashed d (name_of found.0.sig) name in
-        (λ i. paired (task_at d found.0 found.1 i) (unihash i))
-        ∙ sym (slice_get-map (hashed rows) All_signed d ∙ ap (λ o. option_map (hashed rows) o) found.1)
-  ]
+-- a list that has of each task what is made of its signature is what is made of all signatures
+over_all : (rows : List EquivRow) (tasks : List PlanTask) (f : Signed → Hash) (items : List Hash) → length items ≡ length tasks → ((n : ℕ) (s : Signed) → slice_get (signatures rows tasks) n ≡ Some s → slice_get items n ≡ Some (f s)) → items ≡ map f (signatures rows tasks)
+over_all rows tasks f items wide each = same_items items (map f (signatures rows tasks)) (λ n. by n (some_at (signatures rows tasks) n))
+  where
+    by : (n : ℕ) → (slice_get (signatures rows tasks) n ≡ None) ⊎ ((s : Signed) × (slice_get (signatures rows tasks) n ≡ Some s)) → slice_get items n ≡ slice_get (map f (signatures rows tasks)) n
+    by n (inl none) =
+        let past = none_past (signatures rows tasks) n none in
+        slice_get_past items n (omega (arith, past, signed_count rows tasks, wide))
+        ∙ sym (slice_get-map f (signatures rows tasks) n ∙ ap (λ o. option_map f o) none)
+    by n (inr found) = each n found.0 found.1 ∙ sym (slice_get-map f (signatures rows tasks) n ∙ ap (λ o. option_map f o) found.1)
 
-  sig_is : (n : ℕ) (s : Signed) → slice_get All_signed n ≡ Some s → NamedBefore n → signature_by tasks unihashes s.task ≡ s.sig
-  sig_is n s is earlier =
-      signature_gathered tasks unihashes s.task (slice_get (map (hashed rows) All_signed)) (recursion_from_All (λ d. hashed_at tasks unihashes d ≡ slice_get (map (hashed rows) All_signed) d) s.task.deps (λ k d inside. hashed_is n s is earlier (get_or s.task.deps k d) (below k d inside)))
+-- ---- by unihashes
+
+module _ (rows : List EquivRow) (tasks : List PlanTask) (unihashes : List Hash) (ordered : AreOrdered tasks) where
+  abbrev Everything : List Signed
+  Everything = signatures rows tasks
+
+  -- the tasks before a place have the unihashes of their signatures' names
+  abbrev HashedBefore : ℕ → Type 0
+  HashedBefore n = (d : ℕ) → d < n → (x : Signed) → slice_get Everything d ≡ Some x → slice_get unihashes d ≡ Some (uni rows (name_of x.sig))
+
+  hashed_is : (n : ℕ) (s : Signed) → slice_get Everything n ≡ Some s → HashedBefore n → (d : ℕ) → d < n → hashed_at tasks unihashes d ≡ slice_get (map (hashed rows) Everything) d
+  hashed_is n s is before d lower =
+      let has : n < length Everything = slice_get_within Everything n s is in
+      let found = signed_at rows tasks d (omega (arith, has, lower, signed_count rows tasks)) in
+      let unihash = before d lower found.0 found.1 in
+      (λ i. paired (signed_task rows tasks d found.0 found.1 i) (unihash i))
+      ∙ sym (slice_get-map (hashed rows) Everything d ∙ ap (λ o. option_map (hashed rows) o) found.1)
+
+  -- So the signature of the task at the place is its own.
+  sig_is : (n : ℕ) (s : Signed) → slice_get Everything n ≡ Some s → HashedBefore n → signature_by tasks unihashes s.task ≡ s.sig
+  sig_is n s is before =
+      signature_gathered tasks unihashes s.task (slice_get (map (hashed rows) Everything)) (recursion_from_All (λ d. hashed_at tasks unihashes d ≡ slice_get (map (hashed rows) Everything) d) s.task.deps (λ k d inside. hashed_is n s is before (get_or s.task.deps k d) (below k d inside)))
       ∙ sym (signature_by_unihashes rows tasks n s is below)
     where
       below : All (λ d. d < n) s.task.deps
-      below = subst (λ o. All (λ d. d < n) (deps_in o)) (task_at n s is) (ordered n)
+      below = subst (λ o. All (λ d. d < n) (deps_in o)) (signed_task rows tasks n s is) (ordered n)
 
-  named_below : (k n : ℕ) → n < k → (s : Signed) → slice_get All_signed n ≡ Some s → slice_get names n ≡ Some (name_of s.sig)
-  named_below zero n lt s is = absurd (omega (arith, lt))
-  named_below (suc k) n lt s is = are.named n s.task (task_at n s is) ∙ ap (λ g. Some (name_of g)) (sig_is n s is (λ m lower. named_below k m (omega (arith, lower, lt))))
+  -- the signature of a task by the unihashes over the rows is its own
+  pub signed_over : unihashes ≡ unihashes_over rows tasks → (n : ℕ) (s : Signed) → slice_get Everything n ≡ Some s → signature_by tasks unihashes s.task ≡ s.sig
+  signed_over over n s is = sig_is n s is (λ d lower x at.
+      ap (λ us. slice_get us d) over ∙ slice_get-map (λ (y : Signed). uni rows (name_of y.sig)) Everything d ∙ ap (λ o. option_map (λ (y : Signed). uni rows (name_of y.sig)) o) at)
+
+  -- Where the tasks below a place have their names and unihashes, the signature of the task at the place is its own.
+  module _ (names : List Hash) (place : ℕ) (are : (t : ℕ) → t < place → IsNamed tasks names unihashes t × IsHashed rows names unihashes t) where
+    hashed_below : (k : ℕ) → k ≤ place → HashedBefore k
+    hashed_below zero le d lower x is = absurd (omega (arith, lower))
+    hashed_below (suc k) le d lower x is =
+        let here = are d (omega (arith, lower, le)) in
+        here.1 (name_of x.sig) (here.0 x.task (signed_task rows tasks d x is) ∙ ap (λ g. Some (name_of g)) (sig_is d x is (λ m small. hashed_below k (omega (arith, le)) m (omega (arith, small, lower)))))
+
+    pub signed_here : (s : Signed) → slice_get Everything place ≡ Some s → signature_by tasks unihashes s.task ≡ s.sig
+    signed_here s is = sig_is place s is (hashed_below place (omega arith))
+
+module _ (rows : List EquivRow) (tasks : List PlanTask) (names unihashes : List Hash) (ordered : AreOrdered tasks) (are : AreNamed rows tasks names unihashes) where
+  pub task_at : (n : ℕ) (s : Signed) → slice_get (signatures rows tasks) n ≡ Some s → slice_get tasks n ≡ Some s.task
+  task_at n s is = signed_task rows tasks n s is
 
   -- the signature of a task by the unihashes that are kept is that from scratch
-  pub signed_is : (n : ℕ) (s : Signed) → slice_get All_signed n ≡ Some s → signature_by tasks unihashes s.task ≡ s.sig
-  signed_is n s is = sig_is n s is (λ m lower. named_below (suc m) m (omega arith))
+  pub signed_is : (n : ℕ) (s : Signed) → slice_get (signatures rows tasks) n ≡ Some s → signature_by tasks unihashes s.task ≡ s.sig
+  signed_is n s is = signed_here rows tasks unihashes ordered names n (λ t lower. (are.named t, are.hashed t)) s is
+
+  named_at : (n : ℕ) (s : Signed) → slice_get (signatures rows tasks) n ≡ Some s → slice_get names n ≡ Some (name_of s.sig)
+  named_at n s is = are.named n s.task (task_at n s is) ∙ ap (λ g. Some (name_of g)) (signed_is n s is)
+
+  pub names_over_rows : names ≡ names_over rows tasks
+  names_over_rows = over_all rows tasks (λ s. name_of s.sig) names are.long named_at
+
+  -- unihashes that are worked out task by task are those from scratch
+  pub unihashes_over_rows : unihashes ≡ unihashes_over rows tasks
+  unihashes_over_rows = over_all rows tasks (λ s. uni rows (name_of s.sig)) unihashes are.wide (λ n s is. are.hashed n (name_of s.sig) (named_at n s is))
 
 pub names_are_over : NamesAreOver
-names_are_over rows tasks names unihashes ordered are = same_items names (names_over rows tasks) (λ n. by n (some_at (signatures rows tasks) n))
-  where
-    long : length (signatures rows tasks) ≡ length tasks
-    long = sym (length-map (signatures rows tasks) (λ (s : Signed). s.task)) ∙ ap (λ l. length l) (signed_tasks rows [] tasks)
-
-    by : (n : ℕ) → (slice_get (signatures rows tasks) n ≡ None) ⊎ ((s : Signed) × (slice_get (signatures rows tasks) n ≡ Some s)) → slice_get names n ≡ slice_get (names_over rows tasks) n
-    by n (inl none) =
-        let past = none_past (signatures rows tasks) n none in
-        slice_get_past names n (omega (arith, past, long, are.long))
-        ∙ sym (slice_get-map (λ (s : Signed). name_of s.sig) (signatures rows tasks) n ∙ ap (λ o. option_map (λ (s : Signed). name_of s.sig) o) none)
-    by n (inr found) =
-        named_below rows tasks names unihashes ordered are (suc n) n (omega arith) found.0 found.1
-        ∙ sym (slice_get-map (λ (s : Signed). name_of s.sig) (signatures rows tasks) n ∙ ap (λ o. option_map (λ (s : Signed). name_of s.sig) o) found.1)
+names_are_over rows tasks names unihashes ordered are = names_over_rows rows tasks names unihashes ordered are

@@ -1,19 +1,21 @@
 -- What stays of names, unihashes and signatures when one task is named anew.
 use Rattle.std.proofs.Common.{◌≡◌, ◌≢◌, ◌∙◌, sym, ap, subst, ℕ, ◌+◌, ◌<◌, ◌≤◌, arith, List, length, get_or, set, length-set, get_or-set_same, All, IfSome, Some, slice_get, inl, inr}
 use Rattle.std.proofs.lemmas.Bool.{cases_lt}
-use Rattle.std.proofs.lemmas.Option.{same_Some, slice_get-get_or, slice_get_cases, slice_get_within}
+use Rattle.std.proofs.lemmas.Option.{same_Some, slice_get-get_or, slice_get_within}
 use Rattle.tree_model.specs.declared.hash.Hash.{Hash}
+use Rattle.meta_model.specs.declared.plan.Plan.{Plan}
 use Rattle.meta_model.specs.declared.plan.PlanTask.{PlanTask}
 use Rattle.run_core.specs.Need.{AreOrdered, deps_in, deps_of}
 use Rattle.store_model.specs.declared.signature.EquivRow.{EquivRow}
 use Rattle.store_model.specs.declared.signature.SigRecord.{SigRecord}
 use Rattle.store_model.specs.Rows.{uni, IsClear}
+use Rattle.store_model.specs.Signatures.{signatures}
 use Rattle.store_model.specs.Spelling.{name_of, signature_bytes}
 use Rattle.sig_gen.specs.Signing.{signature_by}
-use Rattle.setscene_plan.specs.View.{IsNamedBy}
-use Rattle.setscene_plan.specs.Names.{AreNamed, IsClearAt, IsHashed, IsNamed}
+use Rattle.setscene_plan.specs.View.{IsAskedOf, IsNamedFor, View}
+use Rattle.setscene_plan.specs.Names.{AreNamed, IsClearAt, IsHashed, IsNamed, unihashes_over}
 use Rattle.setscene_plan.proofs.Learning.{else_where}
-use Rattle.setscene_plan.proofs.Naming.{signature_local}
+use Rattle.setscene_plan.proofs.Naming.{signature_local, signed_at, signed_here, signed_over, signed_task}
 
 -- a task needs none but those before it
 pub needs_before : (tasks : List PlanTask) (place t : ℕ) → AreOrdered tasks → t ≤ place → All (λ d. d ≢ place) (deps_of tasks t)
@@ -70,14 +72,35 @@ named_all rows tasks names us place past long wide before = record {
   hashed = λ t name at. (before t (omega (arith, slice_get_within names t name at, past, long))).1 name at;
 }
 
--- a task's signature has the name that was worked out, and the bytes
-pub named_by : (tasks : List PlanTask) (us : List Hash) (place : ℕ) (name : Hash) (given bytes : List ℕ) → place < length tasks → given ≡ bytes → IfSome (slice_get tasks place) (λ own. name ≡ name_of (signature_by tasks us own))
-    → IfSome (slice_get tasks place) (λ own. bytes ≡ signature_bytes (signature_by tasks us own)) → IsNamedBy name given
-named_by tasks us place name given bytes lt same names spells = elim (slice_get_cases tasks place).1 [
-  | inl found ↦ record {
-    sig = signature_by tasks us found.0;
-    spelled = same ∙ subst (λ o. IfSome o (λ own. bytes ≡ signature_bytes (signature_by tasks us own))) found.2 spells;
-    named = subst (λ o. IfSome o (λ own. name ≡ name_of (signature_by tasks us own))) found.2 names;
-  }
-  | inr past ↦ absurd (omega (arith, lt, past.0))
-]
+-- ---- what a probe is asked
+
+-- The name and the bytes that were worked out are those of the task's own signature, where the tasks before it have theirs.
+pub named_for : (view : View) (plan : Plan) (names us unihashes : List Hash) (place : ℕ) (name : Hash) (given bytes : List ℕ) → view.plan ≡ plan → AreOrdered plan.tasks → place < length plan.tasks → unihashes ≡ us → given ≡ bytes
+    → ((t : ℕ) → t < place → IsNamed plan.tasks names us t × IsHashed view.rows names us t)
+    → IfSome (slice_get plan.tasks place) (λ own. name ≡ name_of (signature_by plan.tasks unihashes own))
+    → IfSome (slice_get plan.tasks place) (λ own. bytes ≡ signature_bytes (signature_by plan.tasks unihashes own)) → IsNamedFor view name given
+named_for view plan names us unihashes place name given bytes is ordered lt kept same before named spelled =
+    let tasks = plan.tasks in
+    let found = signed_at view.rows tasks place lt in
+    let at : slice_get tasks place ≡ Some found.0.task = signed_task view.rows tasks place found.0 found.1 in
+    let own : signature_by tasks unihashes found.0.task ≡ found.0.sig = ap (λ (vs : List Hash). signature_by tasks vs found.0.task) kept ∙ signed_here view.rows tasks us ordered names place before found.0 found.1 in
+    record {
+      number = place;
+      signed = found.0;
+      is_signed = ap (λ (p : Plan). slice_get (signatures view.rows p.tasks) place) is ∙ found.1;
+      spelled = same ∙ subst (λ o. IfSome o (λ x. bytes ≡ signature_bytes (signature_by tasks unihashes x))) at spelled ∙ ap signature_bytes own;
+      named = subst (λ o. IfSome o (λ x. name ≡ name_of (signature_by tasks unihashes x))) at named ∙ ap name_of own;
+    }
+
+-- A signature by the unihashes over the rows is the task's own.
+pub asked_of : (view : View) (plan : Plan) (us : List Hash) (place : ℕ) (sig : SigRecord) → view.plan ≡ plan → AreOrdered plan.tasks → place < length plan.tasks → us ≡ unihashes_over view.rows plan.tasks
+    → IfSome (slice_get plan.tasks place) (λ own. sig ≡ signature_by plan.tasks us own) → IsAskedOf view place sig
+asked_of view plan us place sig is ordered lt over by =
+    let tasks = plan.tasks in
+    let found = signed_at view.rows tasks place lt in
+    let at : slice_get tasks place ≡ Some found.0.task = signed_task view.rows tasks place found.0 found.1 in
+    record {
+      signed = found.0;
+      is_signed = ap (λ (p : Plan). slice_get (signatures view.rows p.tasks) place) is ∙ found.1;
+      is = subst (λ o. IfSome o (λ x. sig ≡ signature_by tasks us x)) at by ∙ signed_over view.rows tasks us ordered over place found.0 found.1;
+    }

@@ -79,6 +79,14 @@ working_first rows tasks kept dirty is = record {
   each = λ t h. absurd (omega (arith, h.1));
 }
 
+-- the tasks before the first one that is left are right
+pub right_before : (rows : List EquivRow) (tasks : List PlanTask) (first now : Names) (start rest changed : List ℕ) (place : ℕ) → ((t : ℕ) → Contains rest t → place < t) → IsWorking rows tasks first now start (place ∷ rest) changed → (t : ℕ) → t < place → IsRightAt rows tasks now t
+right_before rows tasks first now start rest changed place behind is t lower = elim (is.right t) [ inl left ↦ absurd (not_left left) | inr right ↦ right ]
+  where
+    not_left : Contains (place ∷ rest) t → ⊥
+    not_left (zero, lt, e) = omega (arith, lower, e)
+    not_left (suc k, lt, e) = let later = behind t (k, omega (arith, lt), e) in omega (arith, lower, later)
+
 module _ (rows : List EquivRow) (tasks : List PlanTask) (above : List (List ℕ)) (ordered : AreOrdered tasks) (is_above : IsAbove tasks above) (first now new : Names) (start changed rest more : List ℕ) (place : ℕ) (behind : (t : ℕ) → Contains rest t → place < t) (is : IsWorking rows tasks first now start (place ∷ rest) changed) (s : Steps rows tasks above place now new rest more) where
   here : Contains (place ∷ rest) place
   here = (zero, omega arith, refl)

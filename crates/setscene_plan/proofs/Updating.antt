@@ -9,18 +9,20 @@ use Rattle.meta_model.specs.declared.plan.PlanTask.{PlanTask}
 use Rattle.meta_model.proofs.Bools.{either_way}
 use Rattle.run_core.specs.Above.{IsAbove}
 use Rattle.run_core.specs.Need.{AreOrdered, IsIn, IsNeed, deps_in}
+use Rattle.store_model.specs.declared.signature.EquivRow.{EquivRow}
 use Rattle.store_model.specs.declared.signature.SigRecord.{SigRecord}
 use Rattle.store_model.specs.Rows.{hash_eq, row_at}
 use Rattle.store_model.specs.Spelling.{name_of}
 use Rattle.store_model.proofs.Listing.{hash_itself, hash_same}
 use Rattle.sig_gen.specs.Signing.{signature_by}
 use Rattle.setscene_plan.specs.declared.replan.Replan.{Replan}
+use Rattle.setscene_plan.specs.declared.work.Names.{Names}
 use Rattle.setscene_plan.specs.View.{IsKnown, Says, View}
-use Rattle.setscene_plan.specs.Names.{IsClearAt, IsHashed, IsNamed, names_over}
+use Rattle.setscene_plan.specs.Names.{IsClearAt, IsHashed, IsNamed, names_over, unihashes_over}
 use Rattle.setscene_plan.specs.Asked.{AreNeeds, SameAt, members_beyond, members_of_either}
 use Rattle.setscene_plan.specs.Reworks.{Ascend, HaveOneName, IsFound, IsRightAt, IsTouched, IsUntouched, IsWorkable, IsWorked}
 use Rattle.setscene_plan.specs.Replans.{AreReworked, AsksNeeds, IsAskable, IsCurrent, IsSettled, ReworksNames, avail_in, names_in, need_in, reworked_in, unihashes_in}
-use Rattle.setscene_plan.proofs.Naming.{names_are_over, signature_local}
+use Rattle.setscene_plan.proofs.Naming.{names_are_over, signature_local, unihashes_over_rows}
 use Rattle.setscene_plan.proofs.Working.{alone, right_past}
 
 -- ---- whether two tasks have one name
@@ -98,9 +100,15 @@ known_on says view us vs t kept free is = record {
     one : (task : PlanTask) → slice_get view.plan.tasks t ≡ Some task → signature_by view.plan.tasks vs task ≡ signature_by view.plan.tasks us task
     one task at = signature_local view.plan.tasks vs us task (subst (λ ds. All (λ d. slice_get vs d ≡ slice_get us d) ds) (ap deps_in at) free)
 
-pub askable : (says : Says) (view : View) (task : ℕ) (old new : Replan) → IsSettled says view task old → ReworksNames view task old new → IsAskable says view new
-askable says view task old new is r = record {
+-- unihashes of tasks that are all right are those over the rows
+pub right_over : (rows : List EquivRow) (tasks : List PlanTask) (kept : Names) → AreOrdered tasks → length kept.names.items ≡ length tasks → length kept.unihashes.items ≡ length tasks → ((t : ℕ) → IsRightAt rows tasks kept t) → kept.unihashes.items ≡ unihashes_over rows tasks
+right_over rows tasks kept ordered long wide right =
+    unihashes_over_rows rows tasks kept.names.items kept.unihashes.items ordered (record { long = long; wide = wide; named = λ t. (right t).named; hashed = λ t. (right t).hashed })
+
+pub askable : (says : Says) (view : View) (task : ℕ) (old new : Replan) → AreOrdered view.plan.tasks → IsSettled says view task old → ReworksNames view task old new → IsAskable says view new
+askable says view task old new ordered is r = record {
   wide = r.wide;
+  over = right_over view.rows view.plan.tasks new.names ordered r.long r.wide r.right;
   need = subst (λ n. IsNeed view.plan n.avail.items n.need.items) (sym r.needs) is.needs.least;
   long = ap (λ n. length n.avail.items) r.needs ∙ is.needs.long;
   within = r.within;

@@ -14,6 +14,10 @@ use Rattle.sig_gen.specs.Signing.{signature_by}
 abbrev pub names_over : List EquivRow → List PlanTask → List Hash
 names_over rows tasks = map (λ s. name_of s.sig) (signatures rows tasks)
 
+-- The unihashes of a plan's tasks over the rows of an index: each is that of the task's name.
+abbrev pub unihashes_over : List EquivRow → List PlanTask → List Hash
+unihashes_over rows tasks = map (λ s. uni rows (name_of s.sig)) (signatures rows tasks)
+
 -- a task has the name of its signature by these unihashes
 abbrev pub IsNamed : List PlanTask → List Hash → List Hash → ℕ → Type 0
 IsNamed tasks names unihashes t = (task : PlanTask) → slice_get tasks t ≡ Some task → slice_get names t ≡ Some (name_of (signature_by tasks unihashes task))

@@ -10,7 +10,7 @@ use Rattle.store_model.specs.declared.signature.EquivRow.{EquivRow}
 use Rattle.store_model.specs.Rows.{row_at}
 use Rattle.setscene_plan.specs.declared.replan.Replan.{Replan}
 use Rattle.setscene_plan.specs.View.{IsKnown, Says, View}
-use Rattle.setscene_plan.specs.Names.{IsClearAt, IsHashed, IsNamed}
+use Rattle.setscene_plan.specs.Names.{IsClearAt, IsHashed, IsNamed, unihashes_over}
 use Rattle.setscene_plan.specs.Asked.{AreNeeds, SameAt}
 use Rattle.setscene_plan.specs.Reworks.{Ascend, HaveOneName, IsFound, IsRightAt, IsTouched, IsUntouched}
 
@@ -97,9 +97,11 @@ pub record ReworksNames (view : View) (task : ℕ) (old new : Replan) : Type 0 w
   pub above : new.above ≡ old.above
   pub needs : new.needs ≡ old.needs
 
--- What is needed is so by what is kept, and of each needed task that was not worked out anew the output is known.
+-- The unihashes are those over the rows, what is needed is so by what is kept, and of each needed task that was not worked out anew
+-- the output is known.
 pub record IsAskable (says : Says) (view : View) (replan : Replan) : Type 0 where
   pub wide : length (unihashes_in replan) ≡ length view.plan.tasks
+  pub over : unihashes_in replan ≡ unihashes_over view.rows view.plan.tasks
   pub need : IsNeed view.plan (avail_in replan) (need_in replan)
   pub long : length (avail_in replan) ≡ length view.plan.tasks
   pub within : (t : ℕ) → Contains replan.changed.items t → t < length view.plan.tasks

@@ -1,5 +1,5 @@
 -- What a probe stands for, and what is known of the outputs of a plan's tasks.
-use Rattle.std.specs.Prelude.{◌≡◌, ◌≢◌, ◌<◌, ◌≤◌, ℕ, Bool, true, false, List, Option, Some, None, Result, Ok, Err, length}
+use Rattle.std.specs.Prelude.{◌≡◌, ◌≢◌, ◌<◌, ◌≤◌, ℕ, Bool, true, false, List, Option, Some, None, Result, Ok, Err}
 use Rattle.std.specs.Bool.{OnTrue, OnFalse}
 use Rattle.std.specs.List.{slice_get}
 use Rattle.tree_model.specs.declared.hash.Hash.{Hash}
@@ -10,6 +10,7 @@ use Rattle.meta_model.specs.declared.plan.PlanTask.{PlanTask}
 use Rattle.store_model.specs.declared.signature.EquivRow.{EquivRow}
 use Rattle.store_model.specs.declared.signature.SigRecord.{SigRecord}
 use Rattle.store_model.specs.Rows.{row_at}
+use Rattle.store_model.specs.Signatures.{Signed, signatures}
 use Rattle.store_model.specs.Spelling.{name_of, signature_bytes}
 use Rattle.sig_gen.specs.Signing.{signature_by}
 use Rattle.setscene_plan.specs.declared.probe.ProbeFault.{ProbeFault}
@@ -28,17 +29,19 @@ pub record View : Type 0 where
   pub plan : Plan
   pub rows : List EquivRow
 
--- the signature is one of the task of this number, by some unihashes
-pub record IsSignedBy (tasks : List PlanTask) (n : ℕ) (sig : SigRecord) : Type 0 where
-  pub unihashes : List Hash
-  pub long : length unihashes ≡ length tasks
-  pub is : (task : PlanTask) → slice_get tasks n ≡ Some task → sig ≡ signature_by tasks unihashes task
+-- the signature is that of the plan's task of this number, over the rows
+pub record IsAskedOf (view : View) (number : ℕ) (sig : SigRecord) : Type 0 where
+  pub signed : Signed
+  pub is_signed : slice_get (signatures view.rows view.plan.tasks) number ≡ Some signed
+  pub is : sig ≡ signed.sig
 
--- the bytes are those of a signature, and the name is that of it
-pub record IsNamedBy (name : Hash) (bytes : List ℕ) : Type 0 where
-  pub sig : SigRecord
-  pub spelled : bytes ≡ signature_bytes sig
-  pub named : name ≡ name_of sig
+-- the bytes are those of the signature of a task of the plan, over the rows, and the name is that of it
+pub record IsNamedFor (view : View) (name : Hash) (bytes : List ℕ) : Type 0 where
+  pub number : ℕ
+  pub signed : Signed
+  pub is_signed : slice_get (signatures view.rows view.plan.tasks) number ≡ Some signed
+  pub spelled : bytes ≡ signature_bytes signed.sig
+  pub named : name ≡ name_of signed.sig
 
 -- the row of this name has other bytes as its signature
 pub record HasOther (rows : List EquivRow) (name : Hash) (bytes : List ℕ) : Type 0 where

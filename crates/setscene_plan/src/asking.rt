@@ -3,6 +3,7 @@ ghost use Rattle.std.specs.Prelude.{List, Bool, ◌≡◌, ◌≢◌, ◌<◌, �
 ghost use Rattle.meta_model.specs.declared.event.Avail.TheVariants as avails;
 ghost use Rattle.run_core.specs.Need.{AreOrdered, IsIn, IsNeed};
 ghost use Rattle.setscene_plan.specs.Sets.{Adds, IsBelow};
+ghost use Rattle.setscene_plan.specs.Names.{unihashes_over};
 ghost use Rattle.setscene_plan.specs.View.{Counts, IsKnown, probe_failed};
 ghost use Rattle.setscene_plan.specs.Asked.{AreNeeds, AsksAll, AsksOne, Knows, SameAt, SameMissing, TakesOut, asks_once, members, members_among, members_beyond, members_of_either};
 
@@ -31,8 +32,10 @@ fn ask<P: Probe>(
     task: u32,
 ) -> Result<Avail, ProbeFault>
     requires plan { (P.view probe.old).plan ≡ plan.now }
+    requires ordered { AreOrdered plan.now.tasks }
     requires task { task < length plan.now.tasks }
     requires unihashes { length unihashes.now ≡ length plan.now.tasks }
+    requires over { unihashes.now ≡ unihashes_over (P.view probe.old).rows plan.now.tasks }
     ensures known { IfOk result (λ there. IsKnown (P.says probe.old) (P.view probe.old) unihashes.now task
         (Some there)) }
     ensures same { P.view probe.new ≡ P.view probe.old }
@@ -56,8 +59,10 @@ fn learn<P: Probe>(
 ) -> Result<Avail, ProbeFault>
     requires plan { (P.view probe.old).plan ≡ plan.now }
     requires few { length plan.now.tasks ≤ 65536 }
+    requires ordered { AreOrdered plan.now.tasks }
     requires place { place < length plan.now.tasks }
     requires unihashes { length unihashes.now ≡ length plan.now.tasks }
+    requires over { unihashes.now ≡ unihashes_over (P.view probe.old).rows plan.now.tasks }
     requires avail { length avail.old ≡ length plan.now.tasks }
     requires long { length known.now ≡ length plan.now.tasks }
     requires known { IsIn known.now place → IsKnown (P.says probe.old) (P.view probe.old) unihashes.now place
@@ -96,6 +101,7 @@ fn visit<P: Probe>(
     requires ordered { AreOrdered plan.now.tasks }
     requires place { place < length plan.now.tasks }
     requires unihashes { length unihashes.now ≡ length plan.now.tasks }
+    requires over { unihashes.now ≡ unihashes_over (P.view probe.old).rows plan.now.tasks }
     requires set { length set.old ≡ length plan.now.tasks }
     requires avail { length avail.old ≡ length plan.now.tasks }
     requires long { length known.now ≡ length plan.now.tasks }
@@ -138,6 +144,7 @@ fn sweep_asking<P: Probe>(
     requires ordered { AreOrdered plan.now.tasks }
     requires targets { All (λ t. t < length plan.now.tasks) plan.now.targets }
     requires unihashes { length unihashes.now ≡ length plan.now.tasks }
+    requires over { unihashes.now ≡ unihashes_over (P.view probe.old).rows plan.now.tasks }
     requires avail { length avail.old ≡ length plan.now.tasks }
     requires long { length known.now ≡ length plan.now.tasks }
     requires known { Knows (P.says probe.old) (P.view probe.old) unihashes.now avail.old known.now }
@@ -169,6 +176,7 @@ pub(crate) fn plan_need<P: Probe>(
     requires ordered { AreOrdered plan.now.tasks }
     requires targets { All (λ t. t < length plan.now.tasks) plan.now.targets }
     requires unihashes { length unihashes.now ≡ length plan.now.tasks }
+    requires over { unihashes.now ≡ unihashes_over (P.view probe.old).rows plan.now.tasks }
     ensures needs { IfOk result (λ made. AreNeeds (P.says probe.old) (P.view probe.old) unihashes.now made.need.items
         made.avail.items) }
     ensures same { P.view probe.new ≡ P.view probe.old }
@@ -287,6 +295,7 @@ fn sweep_again<P: Probe>(
     requires ordered { AreOrdered plan.now.tasks }
     requires targets { All (λ t. t < length plan.now.tasks) plan.now.targets }
     requires unihashes { length unihashes.now ≡ length plan.now.tasks }
+    requires over { unihashes.now ≡ unihashes_over (P.view probe.old).rows plan.now.tasks }
     requires need { length needs.old.need.items ≡ length plan.now.tasks }
     requires avail { length needs.old.avail.items ≡ length plan.now.tasks }
     requires within { All (λ t. t < length plan.now.tasks) changed.now }
@@ -341,8 +350,10 @@ fn ask_one<P: Probe>(
     task: u32,
 ) -> Result<bool, ProbeFault>
     requires plan { (P.view probe.old).plan ≡ plan.now }
+    requires ordered { AreOrdered plan.now.tasks }
     requires place { task < length plan.now.tasks }
     requires unihashes { length unihashes.now ≡ length plan.now.tasks }
+    requires over { unihashes.now ≡ unihashes_over (P.view probe.old).rows plan.now.tasks }
     requires need { length need.now ≡ length plan.now.tasks }
     requires long { length avail.old ≡ length need.now }
     ensures one { IfOk result (λ turned. AsksOne (P.says probe.old) (P.view probe.old) unihashes.now need.now task
@@ -387,7 +398,9 @@ fn ask_again<P: Probe>(
     changed: &[u32],
 ) -> Result<Option<usize>, ProbeFault>
     requires plan { (P.view probe.old).plan ≡ plan.now }
+    requires ordered { AreOrdered plan.now.tasks }
     requires unihashes { length unihashes.now ≡ length plan.now.tasks }
+    requires over { unihashes.now ≡ unihashes_over (P.view probe.old).rows plan.now.tasks }
     requires need { length need.now ≡ length plan.now.tasks }
     requires within { All (λ t. t < length plan.now.tasks) changed.now }
     requires long { length avail.old ≡ length need.now }
@@ -435,6 +448,7 @@ pub(crate) fn after_change<P: Probe>(
     requires ordered { AreOrdered plan.now.tasks }
     requires targets { All (λ t. t < length plan.now.tasks) plan.now.targets }
     requires unihashes { length unihashes.now ≡ length plan.now.tasks }
+    requires over { unihashes.now ≡ unihashes_over (P.view probe.old).rows plan.now.tasks }
     requires own { IsNeed plan.now needs.old.avail.items needs.old.need.items }
     requires avail { length needs.old.avail.items ≡ length plan.now.tasks }
     requires within { All (λ t. t < length plan.now.tasks) changed.now }

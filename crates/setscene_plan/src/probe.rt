@@ -49,7 +49,7 @@ pub trait Probe {
     ghost use Rattle.store_model.specs.Rows.{row_at, IsClear};
     ghost use Rattle.store_model.specs.Spelling.{name_of};
     ghost use Rattle.sig_gen.specs.Sound.{IsNameBy};
-    ghost use Rattle.setscene_plan.specs.View.{Counts, Follows, HasOther, IsNamedBy, IsSignedBy, Says, View, probe_failed};
+    ghost use Rattle.setscene_plan.specs.View.{Counts, Follows, HasOther, IsAskedOf, IsNamedFor, Says, View, probe_failed};
 
     /// The plan and the rows that it stands for.
     ghost view: { Self → View };
@@ -74,11 +74,12 @@ pub trait Probe {
     fn known_name(&self, pn: &str, sig: &[u8]) -> Option<Hash>
         ensures { IfSome result (IsNameBy sig.now) };
 
-    /// Compares the bytes of a signature with those of the row of its name, if there is one. It looks at the rows alone.
+    /// Compares the bytes of the signature of a task of the plan with those of the row of its name, if there is one. It looks at
+    /// the rows alone.
     ///
     /// `Store` comes only where that row has another signature.
     fn compare(&mut self, name: &Hash, sig: &[u8]) -> Result<(), ProbeFault>
-        requires { IsNamedBy name.now sig.now }
+        requires { IsNamedFor (view self.old) name.now sig.now }
         ensures clear { OnOk result (IsClear (view self.old).rows name.now sig.now) }
         ensures other { IsErrOf result ProbeFault.Store → HasOther (view self.old).rows name.now sig.now }
         ensures same { view self.new ≡ view self.old }
@@ -91,7 +92,7 @@ pub trait Probe {
     fn avail(&mut self, plan: &Plan, task: u32, sig: &SigRecord) -> Result<Avail, ProbeFault>
         requires plan { (view self.old).plan ≡ plan.now }
         requires task { task < length (view self.old).plan.tasks }
-        requires sig { IsSignedBy (view self.old).plan.tasks task sig.now }
+        requires sig { IsAskedOf (view self.old) task sig.now }
         ensures told { IfOk result (λ there. says self.old task sig.now there) }
         ensures stored { IfOk result (λ there. there ≢ avails.Missing
             → row_at (view self.old).rows (name_of sig.now) ≢ None) }

@@ -120,7 +120,8 @@ impl Names {
         true
     }
 
-    /// Works out the name of a task by the unihashes that are kept, and its unihash. Answers whether that one changed.
+    /// Works out the name of a task by the unihashes that are kept, and its unihash, once those before it have theirs. Answers whether
+    /// its unihash changed.
     ///
     /// `Store` comes only where the row of the name has another signature.
     fn rename<P: Probe>(
@@ -130,9 +131,12 @@ impl Names {
         probe: &mut P,
         place: u32,
     ) -> Result<bool, ProbeFault>
+        requires plan { (P.view probe.old).plan ≡ plan.now }
+        requires ordered { AreOrdered plan.now.tasks }
         requires place { place < length plan.now.tasks }
         requires names { length self.old.names.items ≡ length plan.now.tasks }
         requires unihashes { length self.old.unihashes.items ≡ length plan.now.tasks }
+        requires before { (t : ℕ) → t < place → IsRightAt (P.view probe.old).rows plan.now.tasks self.old t }
         ensures renamed { OnOk result (Renames (P.view probe.old).rows plan.now.tasks place self.old self.new) }
         ensures changed { IfOk result (λ changed. Changes place self.old self.new changed) }
         ensures same { P.view probe.new ≡ P.view probe.old }
@@ -152,6 +156,7 @@ impl Names {
         plan: &Plan,
         probe: &mut P,
     ) -> Result<Names, ProbeFault>
+        requires plan { (P.view probe.old).plan ≡ plan.now }
         requires few { length plan.now.tasks ≤ 65536 }
         requires ordered { AreOrdered plan.now.tasks }
         ensures right { IfOk result (λ made. (t : ℕ) → IsRightAt (P.view probe.old).rows plan.now.tasks made t) }
@@ -232,9 +237,12 @@ impl Names {
         probe: &mut P,
         place: u32,
     ) -> Result<(), ProbeFault>
+        requires plan { (P.view probe.old).plan ≡ plan.now }
+        requires ordered { AreOrdered plan.now.tasks }
         requires place { place < length plan.now.tasks }
         requires names { length self.old.names.items ≡ length plan.now.tasks }
         requires unihashes { length self.old.unihashes.items ≡ length plan.now.tasks }
+        requires before { (t : ℕ) → t < place → IsRightAt (P.view probe.old).rows plan.now.tasks self.old t }
         ensures steps { OnOk result (Steps (P.view probe.old).rows plan.now.tasks above.now place self.old self.new
             dirty.old.keys dirty.new.keys) }
         ensures same { P.view probe.new ≡ P.view probe.old }
@@ -260,6 +268,7 @@ impl Names {
         plan: &Plan,
         probe: &mut P,
     ) -> Result<(), ProbeFault>
+        requires plan { (P.view probe.old).plan ≡ plan.now }
         requires few { length plan.now.tasks ≤ 65536 }
         requires ordered { AreOrdered plan.now.tasks }
         requires above { IsAbove plan.now.tasks above.now }

@@ -14,7 +14,8 @@ use Rattle.build_store.specs.Sound.{IsReadable}
 use Rattle.build_store.specs.View.{signed_by}
 use Rattle.run_queue.specs.Puts.{HasPut, IsSignedAt, Puts}
 use Rattle.run_queue.proofs.Causing.{refusal_given, store_cause}
-use Rattle.run_queue.proofs.OwnSignature.{handed_on, indexed, known_is, known_signature, signed_here}
+use Rattle.run_queue.proofs.OwnSignature.{handed_on, indexed, known_is, known_signature}
+use Rattle.setscene_plan.proofs.Naming.{signed_at}
 use Rattle.run_queue.proofs.Placing.{has_place}
 use Rattle.run_queue.proofs.Steady.{refusal_steady}
 use Rattle.run_queue.proofs.closing.publish_in.Goals as goal
@@ -45,7 +46,7 @@ returns-in_err-_unihash-clause-cause g c =
     let count = g.D.Disk.faults c.publish.new.self.disk in
     let task = c.index-as_slice-task.result in
     let at = indexed plan.tasks c.as_slice.result.now c.args.task task c.as_slice.ensures c.requires.task c.index-as_slice-task.is in
-    let x = signed_here rows plan.tasks c.args.task c.requires.task in
+    let x = signed_at rows plan.tasks c.args.task c.requires.task in
     let same = known_signature plan rows c.args.replan.now c.args.task task c.in_ok-sig.sig x.0 c.requires.sound at c.requires.current c.in_ok-sig.ensures.known c.in_ok-sig.ensures.is x.1 in
     let signed = subst (λ (y : Signed). IsSignedAt rows plan.tasks c.args.task y) same x.1 in
     let f = c.in_err-_unihash.field-0.0 in
@@ -102,7 +103,7 @@ returns-in_err-_unihash-clause-steady g c agrees =
     let tasks = c.args.plan.now.tasks in
     let task = c.index-as_slice-task.result in
     let at = indexed tasks c.as_slice.result.now c.args.task task c.as_slice.ensures c.requires.task c.index-as_slice-task.is in
-    let x = signed_here c.args.store.now.rows tasks c.args.task c.requires.task in
+    let x = signed_at c.args.store.now.rows tasks c.args.task c.requires.task in
     let same = known_signature c.args.plan.now c.args.store.now.rows c.args.replan.now c.args.task task c.in_ok-sig.sig x.0 c.requires.sound at c.requires.current c.in_ok-sig.ensures.known c.in_ok-sig.ensures.is x.1 in
     let agreed = subst (λ (y : Signed). IsAgreed c.args.store.now.rows y c.args.tree.now) same (agrees c.in_ok-sig.ensures.known x.0 x.1) in
     let f = c.in_err-_unihash.field-0.0 in

@@ -8,8 +8,8 @@ pub returns-clause-refused : goal.returns-clause-refused
 returns-clause-refused g c =
     let v = c.args.asking.now.store.now in
     let w = c.new.new.probe.store.now in
-    unknown_by g.D.Disk.tells g.D.Disk.story g.D.Disk.faults v w c.new.new.probe.fault.now
-    (subst (λ (f : Option StoreFault). Asks g.D.Disk.tells g.D.Disk.story g.D.Disk.faults v w f c.new.new.probe.fault.now) c.requires.fault c.new.ensures.stays.5)
+    unknown_by c.args.asking.now.plan.now g.D.Disk.tells g.D.Disk.story g.D.Disk.faults v w c.new.new.probe.fault.now
+    (subst (λ (f : Option StoreFault). Asks c.args.asking.now.plan.now g.D.Disk.tells g.D.Disk.story g.D.Disk.faults v w f c.new.new.probe.fault.now) c.requires.fault c.new.ensures.stays.5)
 
 pub returns-clause-current : goal.returns-clause-current
 returns-clause-current g c =

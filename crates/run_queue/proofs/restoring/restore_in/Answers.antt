@@ -1,8 +1,9 @@
 use Rattle.std.proofs.Common.{sym, subst}
 use Rattle.store_model.specs.Signatures.{Signed}
 use Rattle.build_store.specs.View.{signed_by}
-use Rattle.run_queue.specs.Puts.{PutsObject}
+use Rattle.run_queue.specs.Puts.{IsSignedAt, PutsObject}
 use Rattle.run_queue.proofs.OwnSignature.{indexed, known_is, known_signature, put_object, restore_cause}
+use Rattle.setscene_plan.proofs.Naming.{signed_at}
 use Rattle.run_queue.proofs.Placing.{has_place}
 use Rattle.run_queue.proofs.restoring.restore_in.Goals as goal
 
@@ -28,7 +29,15 @@ returns-clause-restored g c =
     c.restore.ensures.restored
 
 pub returns-clause-cause : goal.returns-clause-cause
-returns-clause-cause g c = restore_cause (g.D.Disk.faults c.args.store.now.disk) (g.D.Disk.faults c.restore.new.self.disk) c.args.plan.now c.args.store.now.rows c.restore.new.self.rows c.in_ok-sig.sig c.restore.result c.restore.ensures.same.rows c.requires.unharmed c.restore.ensures.cause c.restore.ensures.refused
+returns-clause-cause g c =
+    let plan = c.args.plan.now in
+    let rows = c.args.store.now.rows in
+    let task = c.index-as_slice-task.result in
+    let at = indexed plan.tasks c.as_slice.result.now c.args.task task c.as_slice.ensures c.requires.task c.index-as_slice-task.is in
+    let x = signed_at rows plan.tasks c.args.task c.requires.task in
+    let same = known_signature plan rows c.args.replan.now c.args.task task c.in_ok-sig.sig x.0 c.requires.sound at c.requires.current c.in_ok-sig.ensures.known c.in_ok-sig.ensures.is x.1 in
+    let signed = subst (λ (y : Signed). IsSignedAt rows plan.tasks c.args.task y) same x.1 in
+    restore_cause (g.D.Disk.faults c.args.store.now.disk) (g.D.Disk.faults c.restore.new.self.disk) plan rows c.restore.new.self.rows c.args.task (signed_by task c.in_ok-sig.sig) c.restore.result signed c.restore.ensures.same.rows c.requires.unharmed c.restore.ensures.cause c.restore.ensures.refused
 
 pub returns-clause-puts : goal.returns-clause-puts
 returns-clause-puts g c s is =

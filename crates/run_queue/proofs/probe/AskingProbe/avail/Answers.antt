@@ -1,8 +1,9 @@
 use Rattle.std.proofs.Common.{◌≡◌, ◌∙◌, sym, ap, refl, slice_get, Some, inr}
 use Rattle.std.proofs.lemmas.Option.{same_Some}
 use Rattle.meta_model.specs.declared.plan.Plan.{Plan}
+use Rattle.store_model.specs.Spelling.{name_of, signature_bytes}
 use Rattle.run_queue.proofs.Asked.{asks_met, clash_unknown, told_here}
-use Rattle.run_queue.proofs.Causing.{signed_name}
+use Rattle.run_queue.proofs.Causing.{asked_name}
 use Rattle.run_queue.proofs.probe.AskingProbe.avail.Goals as goal
 
 pub returns-in-Ok-clause-told : goal.returns-in-Ok-clause-told
@@ -15,5 +16,6 @@ pub returns-in-Err-clause-stays : goal.returns-in-Err-clause-stays
 returns-in-Err-clause-stays g c =
     let v = c.args.self.now.store.now in
     let w = c.available.new.self in
-    let why = clash_unknown v.rows _ _ (g.D.Disk.faults v.disk) (g.D.Disk.faults w.disk) c.in-Err.fault (signed_name c.args.sig.now) c.in-Err.ensures.refused c.in-Err.ensures.cause in
-    (refl, refl, refl, refl, refl, asks_met g.D.Disk.tells g.D.Disk.story g.D.Disk.faults v w c.args.self.now.fault.now c.keep.new.kept c.in-Err.fault c.keep.result c.in-Err.ensures.same.rows c.in-Err.ensures.same.kept c.in-Err.ensures.images c.in-None.is why c.keep.ensures)
+    let plan = c.args.self.now.plan.now in
+    let why = clash_unknown plan v.rows (name_of c.args.sig.now) (signature_bytes c.args.sig.now) (g.D.Disk.faults v.disk) (g.D.Disk.faults w.disk) c.in-Err.fault (asked_name plan v.rows c.args.task c.args.sig.now c.requires.sig) c.in-Err.ensures.refused c.in-Err.ensures.cause in
+    (refl, refl, refl, refl, refl, asks_met plan g.D.Disk.tells g.D.Disk.story g.D.Disk.faults v w c.args.self.now.fault.now c.keep.new.kept c.in-Err.fault c.keep.result c.in-Err.ensures.same.rows c.in-Err.ensures.same.kept c.in-Err.ensures.images c.in-None.is why c.keep.ensures)

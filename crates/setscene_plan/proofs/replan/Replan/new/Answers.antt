@@ -1,13 +1,21 @@
-use Rattle.std.proofs.Common.{List, subst}
+use Rattle.std.proofs.Common.{◌∙◌, sym, ap, List, subst}
 use Rattle.tree_model.specs.declared.hash.Hash.{Hash}
 use Rattle.meta_model.specs.declared.plan.PlanTask.{PlanTask}
 use Rattle.run_core.specs.Above.{IsAbove}
 use Rattle.setscene_plan.specs.declared.replan.Replan.{Replan}
 use Rattle.setscene_plan.specs.View.{View}
 use Rattle.setscene_plan.specs.Asked.{AreNeeds}
-use Rattle.setscene_plan.proofs.Updating.{names_scratch, new_current}
+use Rattle.setscene_plan.specs.Names.{unihashes_over}
+use Rattle.setscene_plan.proofs.Updating.{names_scratch, new_current, right_over}
 use Rattle.setscene_plan.proofs.Meanings.{needs_follow}
 use Rattle.setscene_plan.proofs.replan.Replan.new.Goals as goal
+
+pub plan_need-requires-clause-over : goal.plan_need-requires-clause-over
+plan_need-requires-clause-over g c =
+    let tasks = c.args.plan.now.tasks in
+    c.as_slice.ensures.value
+    ∙ right_over (g.P.Probe.view c.args.probe.now).rows tasks c.in_ok-names.names c.requires.ordered c.in_ok-names.ensures.names c.in_ok-names.ensures.unihashes c.in_ok-names.ensures.right
+    ∙ ap (λ (v : View). unihashes_over v.rows tasks) (sym c.in_ok-names.ensures.same)
 
 pub returns-clause-current : goal.returns-clause-current
 returns-clause-current g c =

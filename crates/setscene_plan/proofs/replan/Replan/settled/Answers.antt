@@ -1,5 +1,6 @@
 use Rattle.std.proofs.Common.{◌<◌, length, ap, sym, subst, refl, arith}
 use Rattle.meta_model.specs.declared.plan.Plan.{Plan}
+use Rattle.run_core.specs.Need.{AreOrdered}
 use Rattle.setscene_plan.specs.declared.replan.Replan.{Replan}
 use Rattle.setscene_plan.specs.View.{View}
 use Rattle.setscene_plan.specs.Replans.{AsksNeeds, IsAskable, IsSettled}
@@ -32,7 +33,7 @@ ask_changed-requires-clause-askable g c =
     let cleared : Replan = record { names = c.args.self.now.names; above = c.args.self.now.above; needs = c.args.self.now.needs; changed = c.clear.new.self; told = c.clear-2.new.self } in
     let is : IsSettled says view c.args.task cleared = settled_alike says view c.args.task c.args.self.now cleared refl refl refl c.requires.settled in
     subst (λ (v : View). IsAskable (g.P.Probe.says c.rework.new.probe) v c.rework.new.self) (sym c.in_ok-rework.ensures.same)
-    (askable_follows says (g.P.Probe.says c.rework.new.probe) view c.rework.new.self (g.met.P.Probe.says_still c.args.probe.now c.rework.new.probe c.rework.ensures.stays) (askable says view c.args.task cleared c.rework.new.self is c.in_ok-rework.ensures.reworks))
+    (askable_follows says (g.P.Probe.says c.rework.new.probe) view c.rework.new.self (g.met.P.Probe.says_still c.args.probe.now c.rework.new.probe c.rework.ensures.stays) (askable says view c.args.task cleared c.rework.new.self (subst (λ (p : Plan). AreOrdered p.tasks) (sym c.requires.plan) c.requires.ordered) is c.in_ok-rework.ensures.reworks))
 
 pub returns-clause-current : goal.returns-clause-current
 returns-clause-current g c =

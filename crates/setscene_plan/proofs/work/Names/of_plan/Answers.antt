@@ -1,8 +1,12 @@
-use Rattle.std.proofs.Common.{◌≡◌, ◌≤◌, ◌∙◌, subst, length, arith}
+use Rattle.std.proofs.Common.{◌≡◌, ◌<◌, ◌≤◌, ◌∙◌, ℕ, sym, subst, length, arith}
 use Rattle.setscene_plan.specs.View.{View}
-use Rattle.setscene_plan.specs.Reworks.{Renames}
+use Rattle.setscene_plan.specs.Reworks.{IsRightAt, Renames}
 use Rattle.setscene_plan.proofs.Working.{found_all, found_more, renamed_more, right_all}
 use Rattle.setscene_plan.proofs.work.Names.of_plan.Goals as goal
+
+pub rename-requires-clause-before : goal.rename-requires-clause-before
+rename-requires-clause-before g c =
+    subst (λ (v : View). (t : ℕ) → t < c.loop-place.place → IsRightAt v.rows c.args.plan.now.tasks c.loop-place.made t) (sym c.loop-place.invariant.same) c.loop-place.invariant.right
 
 pub loop-place-preserved : goal.loop-place-preserved
 loop-place-preserved g c =

@@ -4,8 +4,8 @@ use Rattle.std.specs.declared.cmp.Ordering.TheVariants.{Less}
 use Rattle.std.proofs.lemmas.Cmp.{ranked}
 use Rattle.std.proofs.lemmas.List.Elements.{All-contains}
 use Rattle.setscene_plan.specs.View.{View}
-use Rattle.setscene_plan.specs.Reworks.{Steps}
-use Rattle.setscene_plan.proofs.StepLemmas.{IsWorking, next_in, next_pushed, worked, working_first, working_next}
+use Rattle.setscene_plan.specs.Reworks.{IsRightAt, Steps}
+use Rattle.setscene_plan.proofs.StepLemmas.{IsWorking, next_in, next_pushed, right_before, worked, working_first, working_next}
 use Rattle.setscene_plan.proofs.work.Names.rework.Goals as goal
 
 pub loop-place-init : goal.loop-place-init
@@ -20,6 +20,17 @@ loop-place-init g c = record {
 pub step-requires-clause-place : goal.step-requires-clause-place
 step-requires-clause-place g c =
     (c.loop-place.invariant.working.within c.in-Some.place (subst (λ (ks : List ℕ). Contains ks c.in-Some.place) (sym c.in-Some.ensures.removal) (zero, omega arith, refl))).1
+
+pub step-requires-clause-before : goal.step-requires-clause-before
+step-requires-clause-before g c =
+    let view = g.P.Probe.view c.args.probe.now in
+    let tasks = c.args.plan.now.tasks in
+    let place = c.in-Some.place in
+    let rest = c.pop_first.new.self.keys in
+    let before = subst (λ (ks : List ℕ). IsWorking view.rows tasks c.args.self.now c.loop-place.self c.args.dirty.now.keys ks c.loop-place.changed.items) c.in-Some.ensures.removal c.loop-place.invariant.working in
+    let behind : (t : ℕ) → Contains rest t → place < t = λ t h. ranked place t Less (sym (All-contains (λ y. nat_cmp place y ≡ Less) rest t c.in-Some.ensures.all_above h)) in
+    subst (λ (v : View). (t : ℕ) → t < place → IsRightAt v.rows tasks c.loop-place.self t) (sym c.loop-place.invariant.same)
+    (right_before view.rows tasks c.args.self.now c.loop-place.self c.args.dirty.now.keys rest c.loop-place.changed.items place behind before)
 
 pub loop-place-smaller : goal.loop-place-smaller
 loop-place-smaller g c =
