@@ -5,3 +5,4 @@ pub mod Run
 pub mod Headline
 pub mod Dry
 pub mod Sample
+pub mod Worked

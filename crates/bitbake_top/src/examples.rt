@@ -1,9 +1,14 @@
-// Worked words. Each expected answer is derived from the rules by hand.
+// Worked words, and where a run may begin. Each expected answer is derived from the rules by hand.
 ghost use Rattle.std.specs.Prelude.{◌≡◌, [], ◌∷◌, Ok, Err, Some, None, true, false, codes};
 ghost use Rattle.meta_model.specs.declared.event.Status.TheVariants.{Usage};
 ghost use Rattle.read_modes.specs.declared.modes.ReadMode.TheVariants.{Parse, Versions, Environment};
 ghost use Rattle.bitbake_top.specs.declared.asked.Asked.TheVariants.{Runs, Reads, Plans, Sample};
 ghost use Rattle.bitbake_top.specs.Asked.{asked_of};
+ghost use Rattle.bitbake_top.specs.Headline.{MayBegin};
+ghost use Rattle.bitbake_top.specs.Worked.{no_plan, stray};
+ghost use Rattle.build_resume.specs.Laws.{nothing};
+ghost use Rattle.run_workers.specs.Nothing.{nothing_given};
+ghost use Rattle.store_model.specs.Hello.{hello_reading};
 
 /// Runs, and what a mode prints.
 #[tactic(auto, unfolding(crate::specs::Asked::asked_of, command_words::specs::Command::command, clap::proofs::OnLiterals::clap_on_literals))]
@@ -110,4 +115,11 @@ pub fn example_of_misread_words()
     ensures unknown_letter { asked_of (codes "-x" ∷ []) ≡ Err Usage }
     ensures no_target { asked_of (codes "-f" ∷ []) ≡ Err Usage }
     ensures task_without_a_value { asked_of (codes "hello" ∷ codes "-c" ∷ []) ≡ Err Usage }
+{}
+
+/// Where a run of a plan without tasks may begin.
+pub fn example_of_beginning()
+    ensures empty { MayBegin nothing_given hello_reading [] nothing no_plan }
+    // a file stands among the records that is none
+    ensures stray { MayBegin nothing_given hello_reading [] stray no_plan → ⊥ }
 {}

@@ -1,0 +1,43 @@
+use Rattle.std.proofs.Common.{◌≡◌, subst, ℕ, arith, List, [], Some, None, Result, Ok, inl, inr}
+use Rattle.std.specs.Prelude.{codes}
+use Rattle.std.proofs.lemmas.List.Elements.{All-nil}
+use Rattle.std.proofs.lemmas.Option.{none-some}
+use Rattle.tree_model.specs.declared.entry.Entry.TheVariants.{File}
+use Rattle.tree_model.specs.Tree.{IsTree}
+use Rattle.meta_model.specs.CleanBuild.{Entries}
+use Rattle.run_workers.specs.Nothing.{nothing_given}
+use Rattle.store_model.specs.Hello.{hello_reading}
+use Rattle.store_model.specs.Premises.{HasOneSignature, IsBlind, IsContent, IsTreeOf}
+use Rattle.store_model.specs.Premises as of
+use Rattle.store_model.proofs.Hello.{empty_tree, nothing_stands}
+use Rattle.store_model.proofs.Lasting.{empty_is_valid}
+use Rattle.build_resume.specs.Laws.{nothing}
+use Rattle.bitbake_top.proofs.Kept.{begins_first}
+use Rattle.bitbake_top.specs.Worked.{no_plan}
+use Rattle.bitbake_top.proofs.examples.example_of_beginning.Goals as goal
+
+trees : (script : List ℕ) (tree out : Entries) → nothing_given script tree ≡ Ok out → IsTree out
+trees script tree out is = subst IsTree (let e : ◌≡◌ {A = Result Entries ℕ} (Ok []) (Ok out) = is in let same : [] ≡ out = cc in same) empty_tree
+
+-- without lines and without tasks there is no tree
+no_tree : (tree : Entries) → IsTreeOf nothing_given hello_reading [] [] tree → ⊥
+no_tree tree (of.output before line t s o) = nothing_stands before line s
+no_tree tree (of.files before line s) = nothing_stands before line s
+no_tree tree (of.clean b t among o) = let lt = among.1 in omega (arith, lt)
+no_tree tree (of.inputs task among) = let lt = among.1 in omega (arith, lt)
+
+no_content : (bytes : List ℕ) → IsContent nothing_given hello_reading nothing [] [] bytes → ⊥
+no_content bytes (inr held) = none-some held.1 held.2
+no_content bytes (inl given) = no_tree given.0 given.1
+
+pub returns-clause-empty : goal.returns-clause-empty
+returns-clause-empty c = begins_first nothing_given hello_reading no_plan trees (record {
+  valid = (empty_is_valid nothing_given hello_reading).lines;
+  sound = tt;
+  blind = All-nil (IsBlind nothing_given hello_reading);
+  no_clash = λ a b x y e. absurd (no_content a x);
+  no_collision = All-nil (HasOneSignature []);
+})
+
+pub returns-clause-stray : goal.returns-clause-stray
+returns-clause-stray c may = let n : Some (File false []) ≡ None = may.valid.records (codes "x") in cc
