@@ -27,14 +27,16 @@ both false b h = absurd (false≢true h)
 -- what was printed whole was so for each seat
 all_own : (n : ℕ) (tale : List Told) → list_all (λ e. e.printed) tale ≡ true → list_all (λ e. e.printed) (entries_of (λ e. e.logged.seat) n tale) ≡ true
 all_own n [] all = refl
-all_own n (e ∷ tale) all = by (e.logged.seat == n) (both e.printed (list_all (λ x. x.printed) tale) all)
+all_own n (e ∷ tale) all =
+    let h = both e.printed (list_all (λ x. x.printed) tale) all in
+    by (e.logged.seat == n) h.0 (all_own n tale h.1)
   where
     rest : List Told
     rest = entries_of (λ x. x.logged.seat) n tale
 
-    by : (b : Bool) → (e.printed ≡ true) × (list_all (λ x. x.printed) tale ≡ true) → list_all (λ x. x.printed) (if b then e ∷ rest else rest) ≡ true
-    by true h = ap (λ p. p && list_all (λ x. x.printed) rest) h.0 ∙ all_own n tale h.1
-    by false h = all_own n tale h.1
+    by : (b : Bool) → e.printed ≡ true → list_all (λ x. x.printed) rest ≡ true → list_all (λ x. x.printed) (if b then e ∷ rest else rest) ≡ true
+    by true here more = ap (λ p. p && list_all (λ x. x.printed) rest) here ∙ more
+    by false here more = more
 
 -- an entry that comes without is one
 pub unprinted_here : (mine : List Told) (e : Told) → e.printed ≡ false → HasUnprinted (mine ++ e ∷ [])

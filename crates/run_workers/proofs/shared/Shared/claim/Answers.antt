@@ -1,10 +1,12 @@
-use Rattle.std.proofs.Common.{◌++◌, sym, subst, ap, ◌∙◌, map}
+use Rattle.std.proofs.Common.{◌++◌, sym, refl, subst, ap, ◌∙◌, map}
+use Rattle.std.proofs.lemmas.Result.{err_from_is_err_and}
 use Rattle.run_queue.specs.Seen.{seen}
-use Rattle.std.specs.Prelude.{Result, Ok}
+use Rattle.std.specs.Prelude.{Result, Ok, Err}
 use Rattle.tree_model.specs.declared.text.Mem.{Mem}
 use Rattle.run_queue.specs.declared.state.Claim.{Claim}
+use Rattle.run_workers.specs.declared.shared.Claimed.{Claimed}
 use Rattle.run_queue.specs.Turns.{Claims, ClaimsClean}
-use Rattle.run_workers.specs.Seats.{tale_of}
+use Rattle.run_workers.specs.Seats.{ClaimAdds, tale_of}
 use Rattle.run_workers.specs.Told.{tell}
 use Rattle.run_workers.proofs.Sinces.{grows, kept_turn, since_turn}
 use Rattle.run_workers.proofs.Handing.{adds_by, hands, marked_by}
@@ -35,6 +37,25 @@ returns-clause-adds g c =
         by = m.by still;
       },
       adds_by c.args.number old new still c.in_ok-claim.field-0 claims,
+    )
+
+pub returns-in_err-claim-clause-adds : goal.returns-in_err-claim-clause-adds
+returns-in_err-claim-clause-adds g c =
+    let e = c.claim-claim.ensures in
+    let old = c.self.inside.state in
+    let new = c.claim-claim.new.self in
+    let fault = c.in_err-claim.field-0.0 in
+    let claims : Claims c.args.number old new (Err fault) = subst (λ (r : Result Claim Mem). Claims c.args.number old new r) c.in_err-claim.was e.claims in
+    let m = marked_by c.args.number old new (Err fault) claims in
+    let still = c.heard_on-printed.result.1 in
+    let added = map (tell still) m.added in
+    let answer = err_from_is_err_and c.from_residual.result c.from_residual.ensures.1 in (
+      added,
+      record {
+        is = grows g.D.Disk.tells g.W.Sink.tells g.K.Began.alike g.D.Disk.story g.W.Sink.written g.W.Sink.faults g.K.Began.first g.K.Began.faults g.K.Began.gives old new c.self.inside.printed c.self.inside.whole c.heard_on-printed.result.0 still m.added c.self.invariant e.same m.grown c.heard_on-printed.ensures ∙ ap (λ v. tale_of v ++ added) c.self.view_is;
+        by = m.by still;
+      },
+      subst (λ (r : Result Claimed Mem). ClaimAdds c.args.number r added) (sym answer.1) refl,
     )
 
 pub returns-clause-clean : goal.returns-clause-clean
