@@ -194,7 +194,7 @@ where
         (W.faults result.sink) }
 
     // What a collision, or an output that isn't steady, tells of two that differ: the one is that of a record that is held, whatever a crash
-    // leaves; the task is one of the plan that is handed back.
+    // leaves; the other signature is that of a task of the plan that is handed back, and so is the task whose output isn't steady.
     ensures differs { (request : Request) → AskRun words.now request
         → All (λ p. TellsDifference D.tells p (D.story result.disk) result.status) result.plans.items }
 

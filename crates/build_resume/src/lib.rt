@@ -23,7 +23,7 @@
 //!
 //! Whatever they tell each status has its cause (`ends`): a device's fault comes only where its count of faults rose; and so has each task that
 //! broke off since its bench failed (`broke`), or by a fault (`told`). Of two signatures or outputs that differ the one is that of a record
-//! that is held (`differs`). Want of memory is free. What was written is the text of the tale and of the status, or a front of
+//! that is held, and the other signature is that of a task of the plan (`differs`). Want of memory is free. What was written is the text of the tale and of the status, or a front of
 //! one where the sink failed (`text`). (The BitBake User Manual, "Execution", "Setscene"; formats and bounds are own rules.)
 #![tactic(auto)]
 

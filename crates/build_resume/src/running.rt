@@ -8,7 +8,7 @@ ghost use Rattle.plan_model.specs.Sound.{AreWanted, IsSound};
 ghost use Rattle.store_model.specs.Origins.{Book, Reading};
 ghost use Rattle.bb_report.specs.Runs.{has_failure, tale_text};
 ghost use Rattle.run_core.specs.Fates.{NoneRuns};
-ghost use Rattle.run_queue.specs.Keeps.{IsCause, IsFront, IsRun, IsSteady, Prints};
+ghost use Rattle.run_queue.specs.Keeps.{IsFront, IsRun, IsSteady, Prints};
 ghost use Rattle.run_queue.specs.Opening.{Opening};
 ghost use Rattle.run_queue.specs.Seen.{seen};
 ghost use Rattle.run_queue.specs.Turns.{fates_of};
@@ -312,7 +312,7 @@ where
         (map B.faults result.benches.items)) (Rose (W.faults sink) (W.faults result.sink)) result.status }
 
     // What a collision, or an output that isn't steady, tells of two that differ: the one is that of a record that is held, whatever a crash
-    // leaves; the task is one of the plan.
+    // leaves; the other signature is that of a task of the plan, and so is the task whose output isn't steady.
     ensures differs { TellsDifference D.tells plan (D.story result.disk) result.status }
     ensures broke { AtSeats (BreaksByFault result.tale.items) (map B.faults benches.items)
         (map B.faults result.benches.items) }
