@@ -1,4 +1,4 @@
-use Rattle.std.proofs.Common.{◌≡◌, subst, ℕ, arith, List, [], Some, None, Result, Ok, inl, inr}
+use Rattle.std.proofs.Common.{◌≡◌, subst, ℕ, false, arith, List, [], Some, None, Result, Ok, inl, inr}
 use Rattle.std.specs.Prelude.{codes}
 use Rattle.std.proofs.lemmas.List.Elements.{All-nil}
 use Rattle.std.proofs.lemmas.Option.{none-some}

@@ -46,4 +46,4 @@ returns-in-Ok-clause-differs g c =
     (nothing_differs g.D.Disk.tells c.args.plan story status.WriteFault tt)
 
 pub returns-clause-differs : goal.returns-clause-differs
-returns-clause-differs g c = all_of_none (λ (p : Plan). TellsDifference g.D.Disk.tells p (g.D.Disk.story c.args.disk) c.refuse.result) c.new-in-Err-2.result.items c.new-in-Err-2.ensures.items
+returns-clause-differs g c = all_of_none (λ (p : Plan). TellsDifference g.D.Disk.tells p (g.D.Disk.story c.args.disk) c.refuse.result) c.new.result.items c.new.ensures.items
