@@ -1,11 +1,10 @@
 // SHA-256 digests.
-ghost use Rattle.std.specs.Prelude.{◌≡◌, IfNone, IfOk, IfSome, MatchBool, Some};
+ghost use Rattle.std.specs.Prelude.{◌≡◌, ◌<◌, ℕ, IfNone, IfOk, IfSome, MatchBool, length, slice_index};
 ghost use Rattle.sha2.specs.Sha256.{sha256};
 ghost use Rattle.tree_model.specs.Hash.{IsHash, hash_text};
-ghost use Rattle.hex.specs.Hex.{encode_lower};
+ghost use Rattle.hex.specs.Hex.{encode_lower, lower_digits};
 
 use crate::text::{Mem, Text};
-use hex::FromHex;
 use sha2::{Digest, Sha256};
 use std::alloc::Global;
 
@@ -48,7 +47,10 @@ impl Hash {
         ensures some { IfSome result (λ hash. text.now ≡ hash_text hash) }
         ensures none { IfNone result ((hash : Hash) → IsHash hash → text.now ≡ hash_text hash → ⊥) }
     {
-        let hash = any_case(text)?;
+        if text.len() != 64 {
+            return None;
+        }
+        let hash = written(text.as_bytes());
         if is_text_of(text, &hash) {
             Some(hash)
         } else {
@@ -57,14 +59,26 @@ impl Hash {
     }
 }
 
-/// The digest that hexadecimal digits of either case write, if they write one.
-fn any_case(text: &str) -> Option<Hash>
-    ensures { (hash : Hash) → IsHash hash → text.now ≡ hash_text hash → result ≡ Some hash }
+/// The digest that 64 lower-case hexadecimal digits write; of any other 64 bytes some digest.
+fn written(digits: &[u8]) -> Hash
+    requires { length digits.now ≡ 64 }
+    ensures { (hash : Hash) → IsHash hash → digits.now ≡ hash_text hash → result ≡ hash }
 {
-    match <[u8; 32] as FromHex>::from_hex(text) {
-        Ok(bytes) => Some(Hash { bytes }),
-        Err(_) => None,
+    let mut bytes = [0; 32];
+    for place in 0..32 {
+        let high = digit_number(digits[2 * place]);
+        let low = digit_number(digits[2 * place + 1]);
+        bytes[place] = high * 16 + low;
     }
+    Hash { bytes }
+}
+
+/// The number that a lower-case hexadecimal digit writes; of any other byte some number below 16.
+fn digit_number(digit: u8) -> u8
+    ensures small { result < 16 }
+    ensures number { (n : ℕ) → n < 16 → digit ≡ slice_index lower_digits n → result ≡ n }
+{
+    (digit % 16 + digit / 64 * 9) % 16
 }
 
 /// Whether the text is that of the digest.
