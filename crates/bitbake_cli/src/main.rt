@@ -1,23 +1,28 @@
 //! The program `bitbake`: the top call over the real things.
 //!
-//! What is decided is decided in `bitbake_top`, and what it promises is the promise of this program; the devices stand in
-//! `outside_os`. Here the words are taken from the system and the devices made, and standard error tells of what failed: the end of
+//! What is decided is decided in `bitbake_top`, and what it promises is the promise of this program, whatever another thread reads ahead
+//! meanwhile; the devices stand in `outside_os`. Here the words are taken from the system and the devices made, and standard error tells of what failed: the end of
 //! the log of each task, what is wrong with the metadata and what to do, and what a device says of its first fault.
 //! `tests/program.sh` tests it by runs.
 #![tactic(auto)]
 
+ghost use Rattle.std.specs.Prelude.{◌≡◌};
+
+mod ahead;
 mod failures;
 mod faults;
 mod logs;
 mod sentences;
 
+use ahead::{is_run, read_ahead};
 use bitbake_top::bitbake;
+use build_store::Ahead;
 use failures::tell_failures;
 use faults::tell_fault;
-use outside_os::{FolderDisk, FolderLayers, ShBench, StdSink, is_memory};
+use outside_os::{FolderDisk, FolderLayers, ReadAhead, ShBench, StdSink, is_memory};
 use std::process::ExitCode;
 use std::sync::Wait;
-use std::thread::Threads;
+use std::thread::{Threads, join};
 use std::{env, io};
 use tree_model::Text;
 
@@ -42,18 +47,57 @@ fn main(rt: HostRuntime) -> ExitCode {
     }
 }
 
-/// The status of the top call over the current folder's layers, disk and benches, and standard output.
+/// The status of the top call over the current folder. Where an earlier run left something there, a run reads that in a thread of its own
+/// meanwhile.
 fn run<R: Threads + Wait + Sync>(rt: &HostRuntime, threads: &R) -> io::Result<u8> {
     let words = words_of(rt)?;
+    let reading = ReadAhead::none();
+    let ahead = Ahead::none(rt.alloc());
+    let mut disk = FolderDisk::new(rt.clone()?);
+    if !is_run(rt, &words) || !disk.hold_early(&reading) {
+        return call(rt, threads, &ahead, &words, disk);
+    }
+    let ((), status) = join(
+        threads,
+        || read_ahead(rt, &reading, &ahead),
+        || -> io::Result<u8>
+            requires unharmed { disk.faults ≡ 0 }
+        {
+            let status = call(rt, threads, &ahead, &words, disk);
+            reading.stop();
+            status
+        },
+    );
+    status
+}
+
+/// The status of the top call over the current folder's layers, this disk, the benches and standard output.
+fn call<R: Threads + Wait + Sync>(
+    rt: &HostRuntime,
+    threads: &R,
+    ahead: &Ahead,
+    words: &[Text],
+    disk: FolderDisk<'_, HostRuntime>,
+) -> io::Result<u8>
+    requires unharmed { disk.faults ≡ 0 }
+{
     let mut benches = Vec::new(rt.alloc());
     for number in 0..LAST_BENCH {
         benches.push(ShBench::new(rt.clone()?, number)?)?;
     }
     benches.push(ShBench::new(rt.clone()?, LAST_BENCH)?)?;
     let layers = FolderLayers::new(rt.clone()?);
-    let disk = FolderDisk::new(rt.clone()?);
     let sink = StdSink::new(rt.clone()?);
-    let finish = bitbake(threads, rt.alloc(), &words, layers, disk, benches, sink);
+    let finish = bitbake(
+        threads,
+        rt.alloc(),
+        ahead,
+        words,
+        layers,
+        disk,
+        benches,
+        sink,
+    );
     // While the disk is there no other run can touch the logs.
     if tell_failures(rt, &finish.plans, &finish.tales, &finish.benches).is_err() {
         tell(rt, "log", Some("out of memory"));

@@ -20,6 +20,7 @@ use crate::answer::refuse;
 use crate::asked::RunRequest;
 use crate::finish::Finish;
 use crate::whole::{Ran, run_whole};
+use build_store::Ahead;
 use meta_model::{Plan, Status};
 use outside_traits::{Bench, Disk, Layers, Sink};
 use run_plan::find_plan;
@@ -51,6 +52,7 @@ fn find<L: Layers>(alloc: Global, layers: &mut L, request: &RunRequest) -> Resul
 pub fn run<L, D, B, W, R>(
     rt: &R,
     alloc: Global,
+    ahead: &Ahead,
     request: &RunRequest,
     mut layers: L,
     disk: D,
@@ -115,7 +117,7 @@ where
                 disk,
                 benches,
                 sink,
-            } = run_whole(rt, alloc, plan, request.options, disk, benches, sink);
+            } = run_whole(rt, alloc, ahead, plan, request.options, disk, benches, sink);
             Finish {
                 status,
                 plans,

@@ -11,6 +11,7 @@ use crate::asked::RunRequest;
 use crate::finish::Finish;
 use crate::run::run;
 use bb_report::{end_text, fault_text};
+use build_store::Ahead;
 use meta_model::{Logged, Options, Plan, Status};
 use outside_mem::{FixedLayers, MemBench, MemDisk, NullSink};
 use outside_traits::Sink;
@@ -91,7 +92,16 @@ fn run_once<R: Threads + Wait + Sync>(
         tales,
         disk,
         ..
-    } = run(rt, alloc, &request, layers, disk, benches, NullSink);
+    } = run(
+        rt,
+        alloc,
+        &Ahead::none(alloc),
+        &request,
+        layers,
+        disk,
+        benches,
+        NullSink,
+    );
     Ok(Once {
         status,
         plans,

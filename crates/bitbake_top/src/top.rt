@@ -32,6 +32,7 @@ use crate::dry::dry;
 use crate::finish::Finish;
 use crate::run::run;
 use crate::sample::sample;
+use build_store::Ahead;
 use meta_model::Status;
 use outside_traits::{Bench, Disk, Layers, Sink};
 use std::alloc::Global;
@@ -49,9 +50,13 @@ use tree_model::Text;
 /// the plan, and is refused where one of these is, in this order. It prints the plan, opens the store that earlier runs left, finds and
 /// restores what it can trust, and runs what is missing. With `-f` the targets' tasks run in any case, with `-k` it goes on after
 /// failures, and with `--no-setscene` it restores no shared state object. The sample is built twice, over devices in memory of its own.
+///
+/// Another thread may meanwhile leave in `ahead` what the records under `rec/` are. A run takes that only for files with the same bytes, so
+/// every clause holds whatever is left there, and whenever.
 pub fn bitbake<L, D, B, W, R>(
     rt: &R,
     alloc: Global,
+    ahead: &Ahead,
     words: &[Text],
     mut layers: L,
     disk: D,
@@ -207,7 +212,7 @@ where
         (Rose (W.faults sink) (W.faults result.sink)) result.status }
 {
     match asked_of(alloc, words) {
-        Ok(Asked::Runs(request)) => run(rt, alloc, &request, layers, disk, benches, sink),
+        Ok(Asked::Runs(request)) => run(rt, alloc, ahead, &request, layers, disk, benches, sink),
         Ok(Asked::Reads { mode, targets }) => Finish {
             status: read(alloc, mode, targets.as_slice(), &mut layers, &mut sink),
             plans: Vec::new(alloc),

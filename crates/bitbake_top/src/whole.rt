@@ -16,6 +16,7 @@ ghost use Rattle.bitbake_top.specs.Run.{Concludes, IsBegun, IsCertain, RanPrinte
 use crate::answer::refuse;
 use bb_report::{plan_text, write_all};
 use build_resume::{Outcome, build};
+use build_store::Ahead;
 use meta_model::{Logged, Options, Plan, Status};
 use outside_traits::{Bench, Disk, Sink};
 use std::alloc::Global;
@@ -78,6 +79,7 @@ fn prepare(alloc: Global, plan: &Plan) -> Result<Ready, Mem>
 fn run_ready<D, B, W, R>(
     rt: &R,
     alloc: Global,
+    ahead: &Ahead,
     room: Room,
     plan: Plan,
     options: Options,
@@ -135,7 +137,7 @@ where
         benches,
         sink,
         tale,
-    } = build(rt, alloc, plan, options, disk, benches, sink);
+    } = build(rt, alloc, ahead, plan, options, disk, benches, sink);
     plans.push_reserved(plan);
     tales.push_reserved(ListOf::from_vec(tale));
     Ran {
@@ -154,6 +156,7 @@ where
 pub fn run_whole<D, B, W, R>(
     rt: &R,
     alloc: Global,
+    ahead: &Ahead,
     plan: Plan,
     options: Options,
     disk: D,
@@ -201,7 +204,7 @@ where
 {
     match prepare(alloc, &plan) {
         Ok(Ready { text, mut room }) => match write_all(&mut sink, text.as_str().as_bytes()) {
-            Ok(()) => run_ready(rt, alloc, room, plan, options, disk, benches, sink),
+            Ok(()) => run_ready(rt, alloc, ahead, room, plan, options, disk, benches, sink),
             Err(_) => {
                 room.plans.push_reserved(plan);
                 Ran {

@@ -26,7 +26,7 @@ use crate::ending::{
     want_unless,
 };
 use crate::workers::{take_last, with_workers};
-use build_store::{OpenRefused, Store, open_store};
+use build_store::{Ahead, OpenRefused, Store, open_store};
 use meta_model::{Logged, Options, Plan, Status};
 use outside_traits::{Bench, Disk, Sink};
 use run_queue::{RunParts, RunState};
@@ -253,10 +253,12 @@ fn unbegun<D: Disk, B: Bench, W: Sink>(
 }
 
 /// Runs a plan: finds and restores what it can trust, runs what is missing on the benches, and publishes what that gives. It writes the line
-/// of each event, and the last line of its status. The text of the plan was written before.
+/// of each event, and the last line of its status. The text of the plan was written before. What `ahead` has of the records spares work,
+/// and changes nothing.
 pub fn build<D, B, W, R>(
     rt: &R,
     alloc: Global,
+    ahead: &Ahead,
     plan: Plan,
     options: Options,
     disk: D,
@@ -317,7 +319,7 @@ where
     ensures broke { AtSeats (BreaksByFault result.tale.items) (map B.faults benches.items)
         (map B.faults result.benches.items) }
 {
-    match open_store(alloc, disk) {
+    match open_store(alloc, disk, ahead) {
         Ok(store) => match RunState::begin(alloc, plan, options, store, sink) {
             Ok(state) => run_begun(rt, alloc, state, benches),
             Err(

@@ -18,6 +18,7 @@ use Rattle.tree_model.specs.Path.{BeginsWith, inside}
 use Rattle.tree_model.specs.Hash.{hash_text}
 use Rattle.outside_traits.specs.Store.{IsListing, Store}
 use Rattle.store_model.specs.Spelling.{name_of, record_bytes}
+use Rattle.store_model.specs.declared.signature.StoredSig.{StoredSig}
 use Rattle.store_model.proofs.Digests.{same_name_text}
 use Rattle.store_model.proofs.Ordered.{each_append, each_weaker}
 use Rattle.sig_gen.proofs.Storing.{stored_again}
@@ -27,7 +28,7 @@ use Rattle.build_store.specs.declared.records.Found.{Found}
 use Rattle.build_store.specs.Opening.{IsBelievedRecord, IsLeft, IsRecordFile}
 use Rattle.build_store.specs.Paths.{record_path}
 use Rattle.build_store.specs.Publication.{record_file}
-use Rattle.build_store.specs.Survey.{AreHeld, HasNoRecord, HasVisited, IsFoundIn, IsSurveyed, Rejects, StandsAmong, Takes}
+use Rattle.build_store.specs.Survey.{AreHeld, HasNoRecord, HasVisited, IsFoundIn, IsGood, IsSurveyed, Rejects, StandsAmong, Takes}
 use Rattle.build_store.proofs.Areas.{differ, heads_differ}
 use Rattle.build_store.proofs.Hexed.{records_in_order}
 
@@ -155,6 +156,13 @@ believed_file held c b =
     in_range [] k x e = absurd (cc)
     in_range (y ∷ ys) zero x e = omega arith
     in_range (y ∷ ys) (suc k) x e = let lt = in_range ys k x e in omega (arith, lt)
+
+-- what has the same bytes has one name
+pub one_name : (a b : Candidate) → IsGood a → IsGood b → record_bytes a.stored ≡ record_bytes b.stored → a.name ≡ b.name
+one_name a b one other bytes =
+    let read : Some a.stored ≡ Some b.stored = sym (stored_again (record_bytes a.stored) a.stored one.spelled.sound one.spelled.is) ∙ stored_again (record_bytes a.stored) b.stored other.spelled.sound (bytes ∙ other.spelled.is) in
+    let stored : a.stored ≡ b.stored = cc in
+    one.name ∙ ap (λ (s : StoredSig). name_of s.sig) stored ∙ sym other.name
 
 -- records at one path are one
 pub one_record : (held : Store) (a b : Candidate) → IsRecordFile held a → IsRecordFile held b → record_path a.name ≡ record_path b.name → a ≡ b

@@ -16,6 +16,9 @@
 //! (`opened_is_valid`), all that is available (`opened_stays`), and what a plan may reuse (`reuse_again`). The records that `publish`
 //! stores can be read.
 //!
+//! Opening reads each file under `rec/` and `stamp/`. What the records are another thread may have worked out before (`Known`, `Ahead`):
+//! such a record counts only where a file has its bytes, so whatever was left there, no clause is another.
+//!
 //! `known_name` gives for a PN and the bytes of a signature the name of every signature with these bytes, where it knows one; that it does
 //! isn't promised. `into_disk` gives the disk back, which in every image holds the records of all rows.
 //!
@@ -30,6 +33,7 @@ mod fault;
 mod finding;
 mod keeping;
 mod kept;
+mod known;
 mod laws;
 mod naming;
 mod opening;
@@ -45,6 +49,7 @@ mod survey;
 
 pub use fault::StoreFault;
 pub use kept::KeptSig;
+pub use known::{Ahead, Known};
 pub use laws::{opened_is_valid, opened_stays, others_stay, published_is_valid, reuse_again};
 pub use refused::OpenRefused;
 pub use store::{Store, open_store};

@@ -11,6 +11,7 @@ ghost use Rattle.build_store.specs.Sound.{IsKept, IsRow, row_of_stored};
 ghost use Rattle.build_store.specs.Survey.{Dooms, DoomsUnbelieved, IsGood, IsOtherArea, IsRecordSurvey};
 
 use crate::drafting::manifest_again;
+use crate::known::Ahead;
 use crate::publishing::add_new;
 use crate::records::found_records;
 use crate::survey::{
@@ -103,7 +104,7 @@ fn doom_unbelieved(
 }
 
 /// What the records of a disk are: which are believed, and the paths of what goes.
-fn survey_records<D: Disk>(alloc: Global, disk: &mut D) -> Result<Survey, DiskFault>
+fn survey_records<D: Disk>(alloc: Global, disk: &mut D, ahead: &Ahead) -> Result<Survey, DiskFault>
     ensures survey { D.tells → IfOk result (λ survey. IsRecordSurvey (D.story disk.old).held survey.candidates.items
         survey.places.items survey.doomed.items) }
     ensures ascend { IfOk result (λ survey. Ascend survey.candidates.items) }
@@ -112,7 +113,7 @@ fn survey_records<D: Disk>(alloc: Global, disk: &mut D) -> Result<Survey, DiskFa
     ensures others { D.tells → Passes (D.story disk.old) (D.story disk.new) Same }
     ensures cause { Counts (D.faults disk.old) (D.faults disk.new) (disk_failed result) }
 {
-    let found = found_records(alloc, disk)?;
+    let found = found_records(alloc, disk, ahead)?;
     let mut doomed = found.rejected;
     let candidates = ascending(alloc, found.candidates);
     let places = believed(alloc, &candidates)?;
@@ -143,7 +144,11 @@ fn survey_others<D: Disk>(
 }
 
 /// Clears a disk up, and gives the rows of its believed records.
-pub(crate) fn open_disk<D: Disk>(alloc: Global, disk: &mut D) -> Result<Index, DiskFault>
+pub(crate) fn open_disk<D: Disk>(
+    alloc: Global,
+    disk: &mut D,
+    ahead: &Ahead,
+) -> Result<Index, DiskFault>
     requires fresh { D.tells → IsFresh (D.story disk.old) }
     ensures opened { D.tells → IfOk result (IsOpened (D.story disk.old).held (D.story disk.new).held) }
     ensures durable { D.tells → OnOk result (EachNow (D.story disk.new) (λ image. image ≡ (D.story disk.new).held)) }
@@ -152,7 +157,7 @@ pub(crate) fn open_disk<D: Disk>(alloc: Global, disk: &mut D) -> Result<Index, D
     ensures images { D.tells → Passes (D.story disk.old) (D.story disk.new) (Clears (D.story disk.old).held) }
     ensures cause { Counts (D.faults disk.old) (D.faults disk.new) (disk_failed result) }
 {
-    let mut survey = survey_records(alloc, disk)?;
+    let mut survey = survey_records(alloc, disk, ahead)?;
     survey_others(alloc, disk, &mut survey.doomed)?;
     let index = rows_of(alloc, &survey.candidates, &survey.places)?;
     remove_all(disk, &survey.doomed)?;

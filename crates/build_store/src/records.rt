@@ -11,6 +11,7 @@ ghost use Rattle.build_store.specs.Publication.{record_file};
 ghost use Rattle.build_store.specs.Sound.{HasShortPaths};
 ghost use Rattle.build_store.specs.Survey.{AreHeld, HasVisited, IsFoundIn, IsGood, IsSurveyed, Visits};
 
+use crate::known::{Ahead, Known, take_known};
 use crate::naming::same_bytes;
 use outside_traits::{Disk, DiskFault};
 use record_belief::Candidate;
@@ -71,44 +72,92 @@ fn name_in(bytes: &[u8], stored: &StoredSig) -> Result<Hash, Mem>
     }
 }
 
-/// The candidate that a record is, which was read at a path, as these bytes.
-fn judged(path: &str, bytes: &[u8], stored: StoredSig) -> Result<Option<Candidate>, Mem>
+/// The candidate that a record is, which was read from these bytes, unless a path of its manifest is long.
+fn judged(bytes: &[u8], stored: StoredSig) -> Result<Option<Candidate>, Mem>
     requires { SpellsStored bytes.now stored }
     ensures some { IfOk result (λ found. IfSome found (λ c. (c.stored ≡ stored) × (c.name ≡ name_of stored.sig)
-        × HasShortPaths stored.manifest × (path.now ≡ record_path c.name))) }
-    ensures none { IfOk result (λ found. IfNone found (HasShortPaths stored.manifest
-        → path.now ≡ record_path (name_of stored.sig) → ⊥)) }
+        × HasShortPaths stored.manifest)) }
+    ensures none { IfOk result (λ found. IfNone found (HasShortPaths stored.manifest → ⊥)) }
 {
-    let name = name_in(bytes, &stored)?;
-    if is_path_of(path, &name) && are_short(stored.manifest.lines()) {
+    if are_short(stored.manifest.lines()) {
+        let name = name_in(bytes, &stored)?;
         return Ok(Some(Candidate { name, stored }));
     }
     Ok(None)
 }
 
-/// The candidate that some bytes are, which were read at a path.
-fn candidate_in(alloc: Global, path: &str, bytes: &[u8]) -> Result<Option<Candidate>, Mem>
-    ensures some { IfOk result (λ found. IfSome found (λ c. IsGood c × (path.now ≡ record_path c.name)
-        × (bytes.now ≡ record_bytes c.stored))) }
-    ensures none { IfOk result (λ found. IfNone found ((c : ACandidate) → IsGood c → path.now ≡ record_path c.name
-        → bytes.now ≡ record_bytes c.stored → ⊥)) }
+/// The candidate that some bytes are, wherever they stand.
+pub(crate) fn record_in(alloc: Global, bytes: &[u8]) -> Result<Option<Candidate>, Mem>
+    ensures some { IfOk result (λ found. IfSome found (λ c. IsGood c × (bytes.now ≡ record_bytes c.stored))) }
+    ensures none { IfOk result (λ found. IfNone found ((c : ACandidate) → IsGood c → bytes.now ≡ record_bytes c.stored
+        → ⊥)) }
 {
     match decode_stored(alloc, bytes) {
-        Ok(stored) => judged(path, bytes, stored),
+        Ok(stored) => judged(bytes, stored),
         Err(SigFault::BadRecord) => Ok(None),
         Err(SigFault::Memory) => Err(Mem),
     }
 }
 
+/// The same, where a record may be known by its bytes.
+fn known_or_read(
+    alloc: Global,
+    bytes: &[u8],
+    known: &mut Option<Known>,
+) -> Result<Option<Candidate>, Mem>
+    ensures some { IfOk result (λ found. IfSome found (λ c. IsGood c × (bytes.now ≡ record_bytes c.stored))) }
+    ensures none { IfOk result (λ found. IfNone found ((c : ACandidate) → IsGood c → bytes.now ≡ record_bytes c.stored
+        → ⊥)) }
+{
+    match take_known(known, bytes) {
+        Some(candidate) => Ok(Some(candidate)),
+        None => record_in(alloc, bytes),
+    }
+}
+
+/// A candidate, if it stands at a path.
+fn at_its_path(path: &str, candidate: Candidate) -> Option<Candidate>
+    ensures some { IfSome result (λ c. (c ≡ candidate) × (path.now ≡ record_path candidate.name)) }
+    ensures none { IfNone result (path.now ≡ record_path candidate.name → ⊥) }
+{
+    if is_path_of(path, &candidate.name) {
+        return Some(candidate);
+    }
+    None
+}
+
+/// The candidate that some bytes are, which were read at a path.
+fn candidate_in(
+    alloc: Global,
+    path: &str,
+    bytes: &[u8],
+    known: &mut Option<Known>,
+) -> Result<Option<Candidate>, Mem>
+    ensures some { IfOk result (λ found. IfSome found (λ c. IsGood c × (path.now ≡ record_path c.name)
+        × (bytes.now ≡ record_bytes c.stored))) }
+    ensures none { IfOk result (λ found. IfNone found ((c : ACandidate) → IsGood c → path.now ≡ record_path c.name
+        → bytes.now ≡ record_bytes c.stored → ⊥)) }
+{
+    match known_or_read(alloc, bytes, known)? {
+        Some(candidate) => Ok(at_its_path(path, candidate)),
+        None => Ok(None),
+    }
+}
+
 /// The candidate that an entry is, which was read at a path.
-fn candidate_of(alloc: Global, path: &str, entry: &Entry) -> Result<Option<Candidate>, Mem>
+fn candidate_of(
+    alloc: Global,
+    path: &str,
+    entry: &Entry,
+    known: &mut Option<Known>,
+) -> Result<Option<Candidate>, Mem>
     ensures some { IfOk result (λ found. IfSome found (λ c. IsGood c × (path.now ≡ record_path c.name)
         × (entry.now ≡ record_file c.stored))) }
     ensures none { IfOk result (λ found. IfNone found ((c : ACandidate) → IsGood c → path.now ≡ record_path c.name
         → entry.now ≡ record_file c.stored → ⊥)) }
 {
     match entry {
-        Entry::File { exec: false, bytes } => candidate_in(alloc, path, bytes.as_slice()),
+        Entry::File { exec: false, bytes } => candidate_in(alloc, path, bytes.as_slice(), known),
         Entry::File {
             exec: true,
             bytes: _,
@@ -125,11 +174,17 @@ pub(crate) struct Found {
 }
 
 /// Puts what an entry is, which was read at a path, to what is found.
-fn put_found(alloc: Global, path: &str, entry: &Entry, found: &mut Found) -> Result<(), Mem>
+fn put_found(
+    alloc: Global,
+    path: &str,
+    entry: &Entry,
+    known: &mut Option<Known>,
+    found: &mut Found,
+) -> Result<(), Mem>
     ensures visits { OnOk result (Visits path.now entry.now found.old found.new) }
     ensures good { AllByRecursion IsGood found.old.candidates.items → AllByRecursion IsGood found.new.candidates.items }
 {
-    match candidate_of(alloc, path, entry)? {
+    match candidate_of(alloc, path, entry, known)? {
         Some(candidate) => found.candidates.push(candidate)?,
         None => found.rejected.push(Text::from_str(alloc, path)?)?,
     }
@@ -141,6 +196,7 @@ fn visit<D: Disk>(
     alloc: Global,
     disk: &mut D,
     path: &str,
+    known: &mut Option<Known>,
     found: &mut Found,
 ) -> Result<(), DiskFault>
     ensures visits { D.tells → OnOk result (HasVisited (D.story disk.old).held path.now found.old found.new) }
@@ -149,13 +205,18 @@ fn visit<D: Disk>(
     ensures cause { Counts (D.faults disk.old) (D.faults disk.new) (disk_failed result) }
 {
     match disk.read(alloc, path)? {
-        Some(entry) => Ok(put_found(alloc, path, &entry, found)?),
+        Some(entry) => Ok(put_found(alloc, path, &entry, known, found)?),
         None => Ok(()),
     }
 }
 
 /// What stands at these paths under `rec/`.
-fn found_among<D: Disk>(alloc: Global, disk: &mut D, paths: &[Text]) -> Result<Found, DiskFault>
+fn found_among<D: Disk>(
+    alloc: Global,
+    disk: &mut D,
+    paths: &[Text],
+    known: Vec<Option<Known>>,
+) -> Result<Found, DiskFault>
     requires { D.tells → AreHeld (D.story disk.old).held paths.now }
     ensures surveyed { D.tells → IfOk result (IsSurveyed (D.story disk.old).held paths.now) }
     ensures good { IfOk result (λ found. AllByRecursion IsGood found.candidates.items) }
@@ -163,17 +224,23 @@ fn found_among<D: Disk>(alloc: Global, disk: &mut D, paths: &[Text]) -> Result<F
     ensures cause { Counts (D.faults disk.old) (D.faults disk.new) (disk_failed result) }
 {
     let mut found = Found {
-        candidates: Vec::new(alloc),
+        candidates: Vec::with_capacity(alloc, paths.len())?,
         rejected: Vec::new(alloc),
     };
+    let mut all_known = known.into_iter();
     for path in paths {
-        visit(alloc, disk, path.as_str(), &mut found)?;
+        let mut known = all_known.next().flatten();
+        visit(alloc, disk, path.as_str(), &mut known, &mut found)?;
     }
     Ok(found)
 }
 
 /// What stands under `rec/`.
-pub(crate) fn found_records<D: Disk>(alloc: Global, disk: &mut D) -> Result<Found, DiskFault>
+pub(crate) fn found_records<D: Disk>(
+    alloc: Global,
+    disk: &mut D,
+    ahead: &Ahead,
+) -> Result<Found, DiskFault>
     ensures found { D.tells → IfOk result (λ found. IsFoundIn (D.story disk.old).held found.candidates.items
         found.rejected.items) }
     ensures good { IfOk result (λ found. AllByRecursion IsGood found.candidates.items) }
@@ -181,5 +248,5 @@ pub(crate) fn found_records<D: Disk>(alloc: Global, disk: &mut D) -> Result<Foun
     ensures cause { Counts (D.faults disk.old) (D.faults disk.new) (disk_failed result) }
 {
     let paths = disk.list(alloc, "rec/")?;
-    found_among(alloc, disk, paths.as_slice())
+    found_among(alloc, disk, paths.as_slice(), ahead.take(alloc))
 }

@@ -24,6 +24,7 @@ use crate::comparing::compare_at;
 use crate::fault::StoreFault;
 use crate::finding::{available, output};
 use crate::kept::KeptSig;
+use crate::known::Ahead;
 use crate::opening::open_disk;
 use crate::publishing::publish;
 use crate::refused::OpenRefused;
@@ -60,10 +61,15 @@ impl<D: Disk> Model for Store<D> {
 ///
 /// Records, stamps and temporary files are cleared up: all under `tmp/` goes, and of what is under `rec/` and `stamp/` just the believed
 /// records and the files that are stamps stay. The rows are those of the believed records, in an order in which what a record names
-/// stands before it: by depth, then by name. What is under `work/` and `obj/` is left alone. Then the disk is synced. (Own rule.)
+/// stands before it: by depth, then by name. What is under `work/` and `obj/` is left alone. Then the disk is synced. (Own rule.) A record
+/// of `ahead` spares the work on a file with its bytes, and nothing else.
 ///
 /// Refused only where the disk failed or memory is wanting; the disk is given back then.
-pub fn open_store<D: Disk>(alloc: Global, disk: D) -> Result<Store<D>, OpenRefused<D>>
+pub fn open_store<D: Disk>(
+    alloc: Global,
+    disk: D,
+    ahead: &Ahead,
+) -> Result<Store<D>, OpenRefused<D>>
     requires reach { 3600 ≤ D.reach }
     requires fresh { D.tells → IsFresh (D.story disk) }
     ensures opened { D.tells → IfOk result (λ store. IsOpened (D.story disk).held (D.story store.disk).held
@@ -78,7 +84,7 @@ pub fn open_store<D: Disk>(alloc: Global, disk: D) -> Result<Store<D>, OpenRefus
     ensures cause { Counts (D.faults disk) (D.faults (disk_of result)) (open_failed result) }
 {
     let mut disk = disk;
-    match open_disk(alloc, &mut disk) {
+    match open_disk(alloc, &mut disk, ahead) {
         Ok(index) => Ok(Store {
             disk,
             index,

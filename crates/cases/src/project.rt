@@ -5,6 +5,7 @@ ghost use Rattle.outside_mem.specs.Told.{story_of};
 
 use crate::wrong::Wrong;
 use bitbake_top::bitbake;
+use build_store::{Ahead, Known};
 use meta_model::Status;
 use outside_mem::{FaultyDisk, Gate, GateBench, MemDisk, MemLayers, MemSink, Rule, ScriptTable};
 use std::alloc::Global;
@@ -16,6 +17,9 @@ use tree_model::{Bytes, Entry, Text, Tree};
 
 /// Where the outputs of tasks stand on the disk.
 const WORK: &str = "work/";
+
+/// Where records stand on the disk.
+const RECORDS: &str = "rec/";
 
 /// Entries by their paths, each as its kind and its content.
 pub type Listing = BTreeMap<String, Vec<u8>>;
@@ -150,10 +154,12 @@ impl Project {
         words: &Vec<Text>,
     ) -> Result<Ran, Wrong> {
         let held = mem::replace(&mut self.held, Vec::new(alloc));
+        let ahead = Ahead::none(alloc);
+        ahead.put(records_in(alloc, &held)?);
         let disk = MemDisk::new(alloc, held)?;
         match self.crash.take() {
-            Some(crash) => self.run_into_crash(rt, alloc, words, disk, crash),
-            None => self.run_to_end(rt, alloc, words, disk),
+            Some(crash) => self.run_into_crash(rt, alloc, &ahead, words, disk, crash),
+            None => self.run_to_end(rt, alloc, &ahead, words, disk),
         }
     }
 
@@ -162,6 +168,7 @@ impl Project {
         &mut self,
         rt: &R,
         alloc: Global,
+        ahead: &Ahead,
         words: &Vec<Text>,
         disk: MemDisk,
     ) -> Result<Ran, Wrong>
@@ -172,7 +179,7 @@ impl Project {
         let layers = self.layers(alloc, fails.layers)?;
         let benches = self.benches(alloc, &fails)?;
         let sink = MemSink::new(alloc, numbers(alloc, fails.sink)?)?;
-        let finish = bitbake(rt, alloc, words, layers, disk, benches, sink);
+        let finish = bitbake(rt, alloc, ahead, words, layers, disk, benches, sink);
         self.held = copied(alloc, finish.disk.into_disk().held())?;
         answer(alloc, &finish.status, &finish.sink)
     }
@@ -182,6 +189,7 @@ impl Project {
         &mut self,
         rt: &R,
         alloc: Global,
+        ahead: &Ahead,
         words: &Vec<Text>,
         disk: MemDisk,
         crash: Crash,
@@ -192,7 +200,7 @@ impl Project {
         let layers = self.layers(alloc, 0)?;
         let benches = self.benches(alloc, &NONE_FAILS)?;
         let sink = MemSink::new(alloc, numbers(alloc, 0)?)?;
-        let finish = bitbake(rt, alloc, words, layers, disk, benches, sink);
+        let finish = bitbake(rt, alloc, ahead, words, layers, disk, benches, sink);
         let image = finish.disk.into_disk().image(crash.image)?;
         self.held = copied(alloc, image.held())?;
         answer(alloc, &finish.status, &finish.sink)
@@ -277,6 +285,20 @@ fn answer(alloc: Global, status: &Status, sink: &MemSink) -> Result<Ran, Wrong> 
         code: status.code(),
         text,
     })
+}
+
+/// The records that files under `rec/` are, for a run that knows them before it opens its store. (The program reads them in a
+/// thread of its own meanwhile.)
+fn records_in(alloc: Global, held: &[(Text, Entry)]) -> Result<Vec<Option<Known>>, Wrong> {
+    let mut records = Vec::new(alloc);
+    for (path, entry) in held {
+        if let Entry::File { exec: _, bytes } = entry {
+            if path.as_str().starts_with(RECORDS) {
+                records.push(Known::read(alloc, bytes.as_slice())?)?;
+            }
+        }
+    }
+    Ok(records)
 }
 
 /// The number alone.

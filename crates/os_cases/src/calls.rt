@@ -7,10 +7,12 @@
 //   sink TEXT                       disk remove PATH           bench K take ENTRIES LARGEST BYTES
 //                                   disk rename FROM TO
 //   other CALL                      disk sync                  bench K failed
+//   ahead hold                      ahead read
 //                                   disk moment
 //
 //   stamp stage FOLDER DIGEST       stamp put FOLDER           stamp current FOLDER       stamp invalidate FOLDER
 //
+// `ahead hold` lets the disk take its lock before its first call, and says whether it has it; `ahead read` reads ahead for it.
 // `other` makes a call of the disk on another object over the same folder, and says what that says of its first fault. Calls of one
 // bench behind one another are made on one object; a call of another bench begins with a new one. `bench K failed` answers which runs
 // failed, each with the place of its log. KIND is `file`, `program` or `link`. `disk sync` answers what was synced, each file and folder by its path.
@@ -19,7 +21,7 @@ use crate::disk_calls::{disk_answer, other_answer};
 use crate::rooms::{no_call, shell};
 use crate::stamp_calls::stamp_answer;
 use crate::watch::Watch;
-use outside_os::{FolderDisk, FolderLayers, ShBench, StdSink};
+use outside_os::{FolderDisk, FolderLayers, ReadAhead, ShBench, StdSink};
 use outside_traits::{Bench, BenchFault, Layers, ReadFault, Sink, Taken};
 use std::cell::RefCell;
 use std::io;
@@ -29,9 +31,10 @@ use tree_model::{Bytes, Mem, Size, is_clean};
 pub type LastBench = Option<(u32, ShBench<HostRuntime>)>;
 
 /// What the call of a line answers.
-pub fn answer(
+pub fn answer<'a>(
     rt: &HostRuntime,
-    disk: &mut FolderDisk<Watch<'_>>,
+    ahead: &'a ReadAhead,
+    disk: &mut FolderDisk<'a, Watch<'_>>,
     bench: &mut LastBench,
     synced: &RefCell<String>,
     line: &str,
@@ -50,6 +53,7 @@ pub fn answer(
         "layers" => layers_answer(rt, call),
         "disk" => disk_answer(rt.alloc(), disk, synced, call),
         "stamp" => stamp_answer(rt.alloc(), disk, call),
+        "ahead" => ahead_answer(rt, ahead, disk, call),
         "other" => {
             let watch = Watch::new(rt.clone()?, synced);
             other_answer(rt.alloc(), watch, synced, call)
@@ -58,6 +62,25 @@ pub fn answer(
         "sink" => sink_answer(rt, call),
         _ => Err(no_call()),
     }
+}
+
+/// What is read ahead for the disk.
+fn ahead_answer<'a>(
+    rt: &HostRuntime,
+    ahead: &'a ReadAhead,
+    disk: &mut FolderDisk<'a, Watch<'_>>,
+    call: &str,
+) -> io::Result<String> {
+    let word = match call {
+        "hold" if disk.hold_early(ahead) => "held",
+        "hold" => "not held",
+        "read" => {
+            ahead.read(rt);
+            "ok"
+        }
+        _ => return Err(no_call()),
+    };
+    Ok(of_word(rt.alloc(), word)?)
 }
 
 /// What the layers answer.

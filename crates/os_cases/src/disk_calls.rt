@@ -12,7 +12,7 @@ use tree_model::{Entry, Texts, is_clean};
 /// What the disk answers.
 pub fn disk_answer(
     alloc: Global,
-    disk: &mut FolderDisk<Watch<'_>>,
+    disk: &mut FolderDisk<'_, Watch<'_>>,
     synced: &RefCell<String>,
     call: &str,
 ) -> io::Result<String> {
@@ -65,7 +65,11 @@ fn read_answer(alloc: Global, found: Result<Option<Entry>, DiskFault>) -> io::Re
     }
 }
 
-fn write_answer(alloc: Global, disk: &mut FolderDisk<Watch<'_>>, rest: &str) -> io::Result<String> {
+fn write_answer(
+    alloc: Global,
+    disk: &mut FolderDisk<'_, Watch<'_>>,
+    rest: &str,
+) -> io::Result<String> {
     let (kind, rest) = rest.split_once(' ').unwrap_or((rest, ""));
     let (path, text) = rest.split_once(' ').unwrap_or((rest, ""));
     let text = of_a_line(alloc, text)?;
@@ -78,7 +82,7 @@ fn write_answer(alloc: Global, disk: &mut FolderDisk<Watch<'_>>, rest: &str) -> 
 
 fn rename_answer(
     alloc: Global,
-    disk: &mut FolderDisk<Watch<'_>>,
+    disk: &mut FolderDisk<'_, Watch<'_>>,
     rest: &str,
 ) -> io::Result<String> {
     let (from, to) = rest.split_once(' ').unwrap_or((rest, ""));

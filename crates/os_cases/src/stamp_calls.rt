@@ -23,7 +23,7 @@ fn is_folder(folder: &str) -> bool
 /// What stamps of the disk answer.
 pub fn stamp_answer(
     alloc: Global,
-    disk: &mut FolderDisk<Watch<'_>>,
+    disk: &mut FolderDisk<'_, Watch<'_>>,
     call: &str,
 ) -> io::Result<String> {
     let (word, rest) = call.split_once(' ').unwrap_or((call, ""));

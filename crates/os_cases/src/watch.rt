@@ -162,4 +162,8 @@ impl<'a> Locking for Watch<'a> {
     fn take_lock(&self, path: &str) -> io::Result<File> {
         self.rt.take_lock(path)
     }
+
+    fn find_lock(&self, path: &str) -> io::Result<File> {
+        self.rt.find_lock(path)
+    }
 }

@@ -1,12 +1,13 @@
 // The folder `build`.
 ghost use Rattle.std.specs.Prelude.{[], None};
 
+use crate::ahead::ReadAhead;
 use crate::faults::{FirstFault, is_memory, one_more};
 use crate::folder::{
-    FileFacts, is_empty, is_entry, join, lay_entry, look, look_through, move_entry, no_memory,
-    put_joined, read_unchanged,
+    FileFacts, entry_of, is_empty, is_entry, join, lay_entry, look, look_through, move_entry,
+    no_memory, put_joined, read_unchanged,
 };
-use crate::listed::Listed;
+use crate::listed::{Listed, Listing, Seen};
 use crate::lock::{BENCHES_FOLDER, LOCK, Locking};
 use crate::seen::SeenFolders;
 use crate::walk::{Part, list_items};
@@ -20,7 +21,7 @@ use std::{fs, io};
 use tree_model::{Entry, Texts, is_below, is_clean};
 
 /// The folder that is the disk.
-const ROOT: &str = "build";
+pub const ROOT: &str = "build";
 
 /// The folder in it that the benches have: no part of the disk.
 const BENCHES: &str = "bench";
@@ -34,15 +35,15 @@ const HERE: &str = ".";
 /// one stands in the way of an entry it goes, and with the last entry of a folder the folder itself goes. What is
 /// neither file, folder nor link is nothing too. It tells nothing.
 ///
-/// The first call takes the lock of a run, on the file `build/bench/lock`, and the object has it as long as it is there.
+/// The first call takes the lock of a run, on the file `build/bench/lock`, unless `hold_early` did, and the object has it as long as it is there.
 /// Where another process has it that call is a fault, as is each later one until the lock is free, and nothing is touched.
 /// With the lock held nothing else changes the disk, so the object looks once at each folder that an entry has above it,
 /// until it takes that folder away itself, and what it has listed it reads in the listing's order without another look,
 /// until it changes anything. Where somebody removes such a folder by hand, a write into it is a fault; where somebody
 /// makes a listed file longer, its first bytes are read.
 #[derive(Drop)]
-pub struct FolderDisk<R> {
-    folder: BuildFolder<R>,
+pub struct FolderDisk<'a, R> {
+    folder: BuildFolder<'a, R>,
 
     /// How many calls were answered.
     calls: u64,
@@ -52,7 +53,7 @@ pub struct FolderDisk<R> {
 
 /// The folder, and what is to be synced of it.
 #[derive(Drop)]
-struct BuildFolder<R> {
+struct BuildFolder<'a, R> {
     rt: R,
 
     /// The locked file.
@@ -68,13 +69,16 @@ struct BuildFolder<R> {
     seen: SeenFolders,
 
     /// What the last listing saw, which isn't looked at again as it is read.
-    listed: Listed,
+    listed: Listed<'a>,
+
+    /// What was read ahead, until anything is changed.
+    ahead: Option<&'a ReadAhead>,
 
     /// The path, from the current folder, of what is read there.
     whole: String,
 }
 
-impl<R: AllocGlobal> FolderDisk<R> {
+impl<'a, R: AllocGlobal> FolderDisk<'a, R> {
     ghost use Rattle.std.specs.Prelude.{◌≡◌};
     ghost use Rattle.outside_traits.specs.Fault.{Counts, disk_failed};
 
@@ -95,6 +99,7 @@ impl<R: AllocGlobal> FolderDisk<R> {
                 settled,
                 seen,
                 listed,
+                ahead: None,
                 whole,
             },
             calls: 0,
@@ -143,7 +148,24 @@ impl<R: AllocGlobal> FolderDisk<R> {
     }
 }
 
-impl<R: Files + Locking + AllocGlobal + Clone + Drop> Disk for FolderDisk<R> {
+impl<'a, R: Locking + AllocGlobal> FolderDisk<'a, R> {
+    ghost use Rattle.std.specs.Prelude.{◌≡◌};
+
+    /// Takes the lock of a run before the first call, where its file is there and nobody else has it, and says whether this
+    /// object has it. Then the calls answer from what `ahead` reads from now on. Nothing is made or written.
+    pub fn hold_early(&mut self, ahead: &'a ReadAhead) -> bool
+        ensures { self.new.faults ≡ self.old.faults }
+    {
+        if let Ok(file) = self.folder.rt.find_lock(LOCK) {
+            self.folder.lock = Some(file);
+            self.folder.ahead = Some(ahead);
+            return true;
+        }
+        false
+    }
+}
+
+impl<R: Files + Locking + AllocGlobal + Clone + Drop> Disk for FolderDisk<'_, R> {
     ghost use Rattle.outside_traits.specs.Story.{Story};
 
     ghost tells = { ⊥ };
@@ -191,7 +213,7 @@ impl<R: Files + Locking + AllocGlobal + Clone + Drop> Disk for FolderDisk<R> {
     }
 }
 
-impl<R: Files + Locking + AllocGlobal + Clone + Drop> BuildFolder<R> {
+impl<'a, R: Files + Locking + AllocGlobal + Clone + Drop> BuildFolder<'a, R> {
     /// Takes the lock of a run, unless this object has it.
     fn hold(&mut self) -> io::Result<()> {
         if self.lock.is_none() {
@@ -215,9 +237,8 @@ impl<R: Files + Locking + AllocGlobal + Clone + Drop> BuildFolder<R> {
 
     fn read(&mut self, path: &str) -> io::Result<Option<Entry>> {
         self.hold()?;
-        if let Some(facts) = self.listed.next(path) {
-            put_joined(&mut self.whole, ROOT, path)?;
-            return read_unchanged(&self.rt, self.whole.as_str(), &facts);
+        if let Some(seen) = self.listed.next(path) {
+            return self.read_seen(path, &seen);
         }
         let Some(whole) = self.open_place(path)? else {
             return Ok(None);
@@ -230,9 +251,28 @@ impl<R: Files + Locking + AllocGlobal + Clone + Drop> BuildFolder<R> {
         }
     }
 
+    /// The entry at a path that the last listing saw.
+    fn read_seen(&mut self, path: &str, seen: &Seen<'_>) -> io::Result<Option<Entry>> {
+        match seen.bytes {
+            Some(bytes) if seen.facts.is_file() => {
+                Ok(Some(entry_of(self.rt.alloc(), &seen.facts, bytes)?))
+            }
+            _ => {
+                put_joined(&mut self.whole, ROOT, path)?;
+                read_unchanged(&self.rt, self.whole.as_str(), &seen.facts)
+            }
+        }
+    }
+
+    /// Forgets what was listed and read ahead, since something changes.
+    fn forget(&mut self) {
+        self.listed.forget();
+        self.ahead = None;
+    }
+
     fn write(&mut self, path: &str, entry: &Entry) -> io::Result<()> {
         self.hold()?;
-        self.listed.forget();
+        self.forget();
         if is_below(BENCHES, path) {
             return Err(io::Error::from(ErrorKind::InvalidInput));
         }
@@ -248,7 +288,7 @@ impl<R: Files + Locking + AllocGlobal + Clone + Drop> BuildFolder<R> {
 
     fn rename(&mut self, from: &str, to: &str) -> io::Result<()> {
         self.hold()?;
-        self.listed.forget();
+        self.forget();
         let source = match self.open_place(from)? {
             Some(source) if !is_below(BENCHES, to) => source,
             _ => return Err(io::Error::from(ErrorKind::InvalidInput)),
@@ -265,7 +305,7 @@ impl<R: Files + Locking + AllocGlobal + Clone + Drop> BuildFolder<R> {
 
     fn remove(&mut self, path: &str) -> io::Result<()> {
         self.hold()?;
-        self.listed.forget();
+        self.forget();
         let Some(whole) = self.open_place(path)? else {
             return Ok(());
         };
@@ -281,19 +321,25 @@ impl<R: Files + Locking + AllocGlobal + Clone + Drop> BuildFolder<R> {
 
     fn list(&mut self, alloc: Global, prefix: &str) -> io::Result<Texts> {
         self.hold()?;
-        let part = Part {
-            root: ROOT,
-            prefix,
-            hidden: BENCHES,
-            opens: false,
-        };
+        if let Some(listing) = self.listing_ahead(prefix) {
+            self.listed.take(listing);
+            return listing.texts(alloc);
+        }
         self.listed.forget();
         let mut paths = Texts::new(alloc);
-        for item in list_items(&self.rt, &part, u64::MAX)?.into_iter().flatten() {
+        for item in list_items(&self.rt, &part_of(prefix), u64::MAX)?
+            .into_iter()
+            .flatten()
+        {
             self.listed.put(item.path.as_str(), item.facts)?;
             paths.push(item.path).map_err(no_memory)?;
         }
         Ok(paths)
+    }
+
+    /// What was read ahead of the part with this prefix.
+    fn listing_ahead(&self, prefix: &str) -> Option<&'a Listing> {
+        self.ahead?.listing(prefix)
     }
 
     fn sync(&mut self) -> io::Result<()> {
@@ -335,6 +381,16 @@ impl<R: Files + Locking + AllocGlobal + Clone + Drop> BuildFolder<R> {
             folder = above(folder);
         }
         Ok(())
+    }
+}
+
+/// The part of the disk whose paths begin so.
+pub fn part_of(prefix: &str) -> Part<'_> {
+    Part {
+        root: ROOT,
+        prefix,
+        hidden: BENCHES,
+        opens: false,
     }
 }
 

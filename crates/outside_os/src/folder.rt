@@ -158,6 +158,21 @@ fn read_up_to<R: Files + AllocGlobal>(
     Ok(bytes)
 }
 
+/// Puts the bytes of a file of this length behind others. An error of the kind `UnexpectedEof` where it has fewer.
+pub fn read_onto<R: Files + AllocGlobal>(
+    rt: &R,
+    path: &str,
+    length: u64,
+    bytes: &mut Vec<u8>,
+) -> io::Result<()> {
+    let file = fs::open(rt, path)?;
+    bytes.reserve(length as usize)?;
+    if file.take(length).read_to_end(bytes)? as u64 != length {
+        return Err(io::Error::from(ErrorKind::UnexpectedEof));
+    }
+    Ok(())
+}
+
 /// The entry at a path that was looked at, or `None` where its length is above `max`: a file or a link.
 pub fn read_entry<R: Files + AllocGlobal>(
     rt: &R,
@@ -200,6 +215,11 @@ fn read_file<R: Files + AllocGlobal>(
 ) -> io::Result<Option<Entry>> {
     let bytes = read_up_to(rt, path, facts.length, facts.length)?;
     Ok(Some(file_entry(facts, Bytes::from_vec(bytes))))
+}
+
+/// A file that was looked at, with these bytes, which were read.
+pub fn entry_of(alloc: Global, facts: &FileFacts, bytes: &[u8]) -> io::Result<Entry> {
+    Ok(file_entry(facts, Bytes::from_slice(alloc, bytes).map_err(no_memory)?))
 }
 
 /// A file that was looked at, with these bytes.

@@ -7,6 +7,7 @@
 //! fault. (Own rules: no part of the BitBake User Manual.)
 #![tactic(auto)]
 
+mod ahead;
 mod bench;
 mod disk;
 mod faults;
@@ -19,6 +20,7 @@ mod seen;
 mod sink;
 mod walk;
 
+pub use ahead::ReadAhead;
 pub use bench::ShBench;
 pub use disk::FolderDisk;
 pub use faults::is_memory;

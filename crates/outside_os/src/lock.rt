@@ -17,6 +17,9 @@ pub trait Locking {
     /// Opens the file, which is made where it is missing, and takes the exclusive lock on it, which ends when the file
     /// is closed. The error is of the kind `WouldBlock` where another process has the lock.
     fn take_lock(&self, path: &str) -> io::Result<File>;
+
+    /// The same, where the file is there.
+    fn find_lock(&self, path: &str) -> io::Result<File>;
 }
 
 impl Locking for HostRuntime {
@@ -25,10 +28,14 @@ impl Locking for HostRuntime {
             .write(true)
             .create(true)
             .open(self, path)?;
-        match file.try_lock() {
-            Ok(()) => Ok(file),
-            Err(error) => Err(io::Error::from(error)),
-        }
+        file.try_lock()?;
+        Ok(file)
+    }
+
+    fn find_lock(&self, path: &str) -> io::Result<File> {
+        let file = OpenOptions::new().write(true).open(self, path)?;
+        file.try_lock()?;
+        Ok(file)
     }
 }
 

@@ -1,7 +1,7 @@
 // A store of many records that is opened, and one of files that are none.
 use crate::spent;
 use anyhow::{Result, bail};
-use build_store::open_store;
+use build_store::{Ahead, open_store};
 use outside_mem::MemDisk;
 use std::alloc::Global;
 use std::time::CpuClock;
@@ -87,7 +87,7 @@ fn open(rt: &HostRuntime, files: Vec<(Text, Entry)>, name: &str, timed: bool) ->
         bail!("no disk");
     };
     let start = rt.process_cpu_time()?;
-    let Ok(store) = open_store(rt.alloc(), disk) else {
+    let Ok(store) = open_store(rt.alloc(), disk, &Ahead::none(rt.alloc())) else {
         bail!("not opened");
     };
     let took = spent(rt, start)?;

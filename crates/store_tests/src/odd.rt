@@ -1,5 +1,9 @@
 // Disks that hold whatever.
-use crate::asked::opened;
+ghost use Rattle.std.specs.Prelude.{IfOk};
+ghost use Rattle.outside_mem.specs.Told.{story_of};
+ghost use Rattle.outside_traits.specs.Story.{IsFresh};
+
+use crate::asked::{opened, opened_beside};
 use crate::samples::file;
 use outside_mem::MemDisk;
 use std::alloc::Global;
@@ -99,17 +103,31 @@ const OTHERS: [Row; 7] = [
     ("work/p/t/u", b"", "obj/x", b"", 2),
 ];
 
-/// How many files opening leaves of one and, where it has a path, another one.
-fn left(alloc: Global, path: &str, bytes: &[u8], other: &str, more: &[u8]) -> Result<usize, Fail> {
+/// A disk with a file and, where it has a path, another one.
+fn disk_of(
+    alloc: Global,
+    path: &str,
+    bytes: &[u8],
+    other: &str,
+    more: &[u8],
+) -> Result<MemDisk, Fail>
+    ensures { IfOk result (λ disk. IsFresh (story_of disk)) }
+{
     let mut files = Vec::new(alloc);
     files.push(file(alloc, path, bytes)?)?;
     if !other.is_empty() {
         files.push(file(alloc, other, more)?)?;
     }
     match MemDisk::new(alloc, files) {
-        Ok(disk) => Ok(opened(alloc, disk)?.into_disk().held().len()),
+        Ok(disk) => Ok(disk),
         Err(_) => Err(Fail::from("no disk")),
     }
+}
+
+/// How many files opening leaves of one and, where it has a path, another one.
+fn left(alloc: Global, path: &str, bytes: &[u8], other: &str, more: &[u8]) -> Result<usize, Fail> {
+    let disk = disk_of(alloc, path, bytes, other, more)?;
+    Ok(opened(alloc, disk)?.into_disk().held().len())
 }
 
 /// Whether opening leaves as many files as each row says.
@@ -122,10 +140,32 @@ fn are_left(alloc: Global, rows: &[Row]) -> Result<bool, Fail> {
     Ok(true)
 }
 
+/// Whether opening leaves as many files as each row says, where the row's files are known by their bytes, and where a
+/// record that may be none of them is known for each.
+fn are_left_beside_known(alloc: Global, rows: &[Row]) -> Result<bool, Fail> {
+    for (path, bytes, other, more, want) in rows {
+        for known in [[*bytes, *more], [RECORD, RECORD]] {
+            let disk = disk_of(alloc, path, bytes, other, more)?;
+            let store = opened_beside(alloc, disk, &known)?;
+            if store.into_disk().held().len() != *want {
+                return Ok(false);
+            }
+        }
+    }
+    Ok(true)
+}
+
 /// What stands under `rec/` goes, but for records that are believed.
 #[test]
 fn odd_records_go(rt: HostRuntime) -> Result<(), Fail> {
     assert!(rt; are_left(rt.alloc(), &RECORDS)?);
+    Ok(())
+}
+
+/// No more and no less where records are known ahead: they count by their bytes alone.
+#[test]
+fn known_records_change_nothing(rt: HostRuntime) -> Result<(), Fail> {
+    assert!(rt; are_left_beside_known(rt.alloc(), &RECORDS)?);
     Ok(())
 }
 

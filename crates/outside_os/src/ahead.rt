@@ -1,0 +1,94 @@
+// What is read of a disk before its first call.
+use crate::disk::{ROOT, part_of};
+use crate::folder::put_joined;
+use crate::listed::Listing;
+use crate::walk::list_items;
+use std::io;
+use std::rt::Files;
+use std::sync::OnceLock;
+
+/// Where the records stand, of which opening a store reads each.
+const RECORDS: &str = "rec/";
+
+/// Where the stamps stand, of which it reads each too.
+const STAMPS: &str = "stamp/";
+
+/// The most bytes that are read ahead of a part.
+const MOST: u64 = 268_435_456;
+
+/// What stands under `rec/` and `stamp/`, read in a thread of its own while the metadata is read. A disk that had its lock
+/// before (`FolderDisk::hold_early`) answers from it, until it changes anything: with the lock held nothing else does.
+///
+/// Nothing is waited for. What isn't there when it is asked for the disk reads by itself, and what can't be read ahead is
+/// left to the disk, which counts the fault.
+#[derive(Drop)]
+pub struct ReadAhead {
+    records: OnceLock<Listing>,
+    stamps: OnceLock<Listing>,
+    stopped: OnceLock<()>,
+}
+
+impl ReadAhead {
+    /// Nothing so far.
+    pub fn none() -> Self {
+        ReadAhead {
+            records: OnceLock::new(),
+            stamps: OnceLock::new(),
+            stopped: OnceLock::new(),
+        }
+    }
+
+    /// Reads both parts, until it is to stop.
+    pub fn read<R: Files + AllocGlobal>(&self, rt: &R) {
+        if let Ok(Some(listing)) = self.part(rt, RECORDS) {
+            let _ = self.records.try_set(listing);
+        }
+        if let Ok(Some(listing)) = self.part(rt, STAMPS) {
+            let _ = self.stamps.try_set(listing);
+        }
+    }
+
+    /// Lets no more be read.
+    pub fn stop(&self) {
+        let _ = self.stopped.try_set(());
+    }
+
+    /// The bytes of the file at a place among those under `rec/`, where they were read and nothing is to stop.
+    pub fn record(&self, place: usize) -> Option<&[u8]> {
+        if self.stopped.get().is_some() {
+            return None;
+        }
+        self.records.get()?.bytes_at(place)
+    }
+
+    /// What was read of a part. Where that isn't all of it yet, no more is read.
+    pub(crate) fn listing(&self, prefix: &str) -> Option<&Listing> {
+        let found = match prefix {
+            RECORDS => self.records.get(),
+            STAMPS => self.stamps.get(),
+            _ => return None,
+        };
+        if found.is_none() {
+            self.stop();
+        }
+        found
+    }
+
+    /// A part of the disk, or `None` where it is to stop or the part has more bytes than are read ahead.
+    fn part<R: Files + AllocGlobal>(&self, rt: &R, prefix: &str) -> io::Result<Option<Listing>> {
+        let mut listing = Listing::none(rt.alloc());
+        let mut whole = String::new(rt.alloc());
+        for item in list_items(rt, &part_of(prefix), u64::MAX)?
+            .into_iter()
+            .flatten()
+        {
+            let size = listing.size().saturating_add(item.facts.length);
+            if size > MOST || self.stopped.get().is_some() {
+                return Ok(None);
+            }
+            put_joined(&mut whole, ROOT, item.path.as_str())?;
+            listing.put_read(rt, whole.as_str(), item.path.as_str(), item.facts)?;
+        }
+        Ok(Some(listing))
+    }
+}
