@@ -1,8 +1,9 @@
 //! The program `bitbake`: the top call over the real things.
 //!
-//! What is decided is decided in `bitbake_top`, and what it promises is the promise of this program, whatever another thread reads ahead
-//! meanwhile; the devices stand in `outside_os`. Here the words are taken from the system and the devices made, and standard error tells of what failed: the end of
-//! the log of each task, what is wrong with the metadata and what to do, and what a device says of its first fault.
+//! What is decided is decided in `bitbake_top`, and what it promises is the promise of this program, whatever another thread reads
+//! ahead meanwhile; the devices stand in `outside_os`. Here the words are taken from the system and the devices made, and standard
+//! error tells of what failed: the end of the log of each task, what is wrong with the metadata and what to do, and what a device says
+//! of its first fault.
 //! `tests/program.sh` tests it by runs.
 #![tactic(auto)]
 
