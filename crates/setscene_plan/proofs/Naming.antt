@@ -65,7 +65,7 @@ none_past [] n e = omega arith
 none_past (x ∷ xs) zero e = absurd (cc)
 none_past (x ∷ xs) (suc n) e = omega (arith, none_past xs n e)
 
-signed_count : (rows : List EquivRow) (tasks : List PlanTask) → length (signatures rows tasks) ≡ length tasks
+pub signed_count : (rows : List EquivRow) (tasks : List PlanTask) → length (signatures rows tasks) ≡ length tasks
 signed_count rows tasks = sym (length-map (signatures rows tasks) (λ (s : Signed). s.task)) ∙ ap (λ l. length l) (signed_tasks rows [] tasks)
 
 -- each task of a plan is signed

@@ -9,7 +9,7 @@ ghost use Rattle.setscene_plan.specs.Names.{names_over};
 
 use crate::probe::Probe;
 use meta_model::Plan;
-use sig_gen::{encode, name_by, sig_of};
+use sig_gen::{encode_sig_of, name_by};
 use std::alloc::Global;
 use tree_model::{Bytes, Hash, Mem};
 
@@ -55,12 +55,10 @@ pub(crate) fn sign<P: Probe>(
     ensures bytes { IfOk result (λ made. IfSome (slice_get plan.now.tasks task)
         (λ own. made.bytes ≡ signature_bytes (signature_by plan.now.tasks unihashes.now own))) }
 {
-    let sig = sig_of(alloc, plan, task, unihashes)?;
-    let bytes = encode(alloc, &sig)?;
-    Ok(Signed {
-        name: known_name(probe, sig.pn.as_str(), bytes.as_slice()),
-        bytes,
-    })
+    let bytes = encode_sig_of(alloc, plan, task, unihashes)?;
+    let pn = plan.tasks.as_slice()[task as usize].id.pn.as_str();
+    let name = known_name(probe, pn, bytes.as_slice());
+    Ok(Signed { name, bytes })
 }
 
 /// So many digests of zeros.

@@ -172,7 +172,7 @@ impl Names {
         let mut made = Names {
             names: no_hashes(alloc, count)?,
             unihashes: no_hashes(alloc, count)?,
-            owners: HashMap::new(alloc),
+            owners: HashMap::with_capacity(alloc, count)?,
             distinct: true,
         };
         for place in 0..count as u32 {

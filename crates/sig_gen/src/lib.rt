@@ -4,7 +4,8 @@
 //! bytes are says `store_model` (`Spelling`); which values have bytes that are read again say `Sound` and `Stored` here: texts
 //! are UTF-8, lists ascend strictly, and the paths of a manifest are those of a tree.
 //!
-//! - `sig_of` gives the signature of a task of a plan, by the unihashes of all its tasks.
+//! - `sig_of` gives the signature of a task of a plan, by the unihashes of all its tasks; `encode_sig_of` gives the bytes of the same
+//!   signature, without making it.
 //! - `decode` and `decode_stored` answer a value exactly where all of the bytes are its one spelling; everything else is
 //!   `BadRecord`. They read once, from left to right, and a length or a count beyond the bytes that are left ends the reading
 //!   before anything is taken, so no number that was read makes them take room.
@@ -24,6 +25,7 @@ mod laying;
 mod list;
 mod manifest;
 mod naming;
+mod needs;
 mod netstring;
 mod parts;
 mod record;
@@ -34,5 +36,5 @@ pub use fault::SigFault;
 pub use laws::trees_are_in_order;
 pub use naming::{name_by, signature_in};
 pub use record::{decode, decode_stored};
-pub use signing::sig_of;
+pub use signing::{encode_sig_of, sig_of};
 pub use writing::{encode, encode_manifest, encode_stored};
