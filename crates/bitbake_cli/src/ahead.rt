@@ -2,7 +2,7 @@
 use build_store::{Ahead, Known};
 use command_words::{Mode, read_words};
 use outside_os::ReadAhead;
-use tree_model::{Mem, Text};
+use tree_model::Text;
 
 /// Whether these words ask for a run.
 pub fn is_run(rt: &HostRuntime, words: &[Text]) -> bool {
@@ -12,22 +12,12 @@ pub fn is_run(rt: &HostRuntime, words: &[Text]) -> bool {
     }
 }
 
-/// Reads what opening a store will ask of the disk, and works out what its records are. For want of memory it leaves that to the run.
+/// Reads what opening a store will ask of the disk, and works out what the files under `rec/` say. What fails is left to the run.
 pub fn read_ahead(rt: &HostRuntime, reading: &ReadAhead, ahead: &Ahead) {
     reading.read(rt);
-    if let Ok(records) = records_in(rt, reading) {
-        ahead.put(records);
+    if let Ok(Some(files)) = reading.records(rt.alloc()) {
+        if let Ok(known) = Known::of_files(rt.alloc(), files) {
+            ahead.put(known);
+        }
     }
-}
-
-/// The records of the files that were read, until nothing more is to be done.
-fn records_in(rt: &HostRuntime, reading: &ReadAhead) -> Result<Vec<Option<Known>>, Mem> {
-    let mut records = Vec::new(rt.alloc());
-    for place in 0..usize::MAX {
-        let Some(bytes) = reading.record(place) else {
-            break;
-        };
-        records.push(Known::read(rt.alloc(), bytes)?)?;
-    }
-    Ok(records)
 }

@@ -53,7 +53,7 @@ fn main(rt: HostRuntime) -> ExitCode {
 fn run<R: Threads + Wait + Sync>(rt: &HostRuntime, threads: &R) -> io::Result<u8> {
     let words = words_of(rt)?;
     let reading = ReadAhead::none();
-    let ahead = Ahead::none(rt.alloc());
+    let ahead = Ahead::none();
     let mut disk = FolderDisk::new(rt.clone()?);
     if !is_run(rt, &words) || !disk.hold_early(&reading) {
         return call(rt, threads, &ahead, &words, disk);

@@ -95,7 +95,7 @@ fn run_once<R: Threads + Wait + Sync>(
     } = run(
         rt,
         alloc,
-        &Ahead::none(alloc),
+        &Ahead::none(),
         &request,
         layers,
         disk,

@@ -51,7 +51,7 @@ use tree_model::Text;
 /// restores what it can trust, and runs what is missing. With `-f` the targets' tasks run in any case, with `-k` it goes on after
 /// failures, and with `--no-setscene` it restores no shared state object. The sample is built twice, over devices in memory of its own.
 ///
-/// Another thread may meanwhile leave in `ahead` what the records under `rec/` are. A run takes that only for files with the same bytes, so
+/// Another thread may meanwhile leave in `ahead` what the files under `rec/` say. A run takes that only where it reads just these files, so
 /// every clause holds whatever is left there, and whenever.
 pub fn bitbake<L, D, B, W, R>(
     rt: &R,

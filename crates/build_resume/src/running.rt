@@ -253,8 +253,8 @@ fn unbegun<D: Disk, B: Bench, W: Sink>(
 }
 
 /// Runs a plan: finds and restores what it can trust, runs what is missing on the benches, and publishes what that gives. It writes the line
-/// of each event, and the last line of its status. The text of the plan was written before. What `ahead` has of the records spares work,
-/// and changes nothing.
+/// of each event, and the last line of its status. The text of the plan was written before. What `ahead` knows of just the
+/// files under `rec/` that are read spares work, and changes nothing.
 pub fn build<D, B, W, R>(
     rt: &R,
     alloc: Global,

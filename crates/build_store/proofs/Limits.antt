@@ -1,5 +1,5 @@
 -- The limits of an output, and what is read of a folder within them.
-use Rattle.std.proofs.Common.{◌∙◌, ap, ℕ, ◌≤◌, Bool, List, length, arith, All, Some, None}
+use Rattle.std.proofs.Common.{◌∙◌, ap, ℕ, ◌≤◌, Bool, List, length, All, Some, None}
 use Rattle.std.specs.Prelude.{◌||◌}
 use Rattle.std.specs.List.{list_any}
 use Rattle.tree_model.specs.Size.{size_of}

@@ -87,8 +87,8 @@ module _ (held : Store) (candidates : List Candidate) (places : List ℕ) (found
       let one : w.0 ≡ c = some_one w.0 c (slice_get candidates k) w.1 at in
       record { candidates = candidates; found = found; believed = subst (IsBelieved candidates) one w.2 }
 
-pub record_survey : (held : Store) (candidates : List Candidate) (places : List ℕ) (rejected new : List (List ℕ)) → IsFoundIn held candidates rejected → AreBelieved candidates places → DoomsUnbelieved candidates places rejected new → IsRecordSurvey held candidates places new
-record_survey held candidates places rejected new f believed dooms = record { found = f.found; not_left = λ q has. by q (dooms.sound q has); whole = λ path some. of path (f.whole path some) }
+pub record_survey : (held : Store) (candidates : List Candidate) (places : List ℕ) (rejected new : List (List ℕ)) (rows : List EquivRow) → IsFoundIn held candidates rejected → AreBelieved candidates places → DoomsUnbelieved candidates places rejected new → rows ≡ rows_at candidates places → IsRecordSurvey held rows new
+record_survey held candidates places rejected new rows f believed dooms is = record { candidates = candidates; found = f.found; places = places; believed = believed; rows_are = is; not_left = λ q has. by q (dooms.sound q has); whole = λ path some. of path (f.whole path some) }
   where
     gone : (k : ℕ) (c : Candidate) (q : List ℕ) → slice_get candidates k ≡ Some c → (Contains places k → ⊥) → q ≡ record_path c.name → IsLeft held q → ⊥
     gone k c q at never is (inl e) = e.records (inr (hash_text c.name, is))
@@ -162,7 +162,7 @@ begins_or (p ∷ prefix) (x ∷ q) = by (cases_eq p x) (begins_or prefix q)
     by (inl same) (inr never) = inr (λ b. let e = b.1 in never (b.0, cc))
     by (inr ne) rest = inr (λ b. let e = b.1 in ne cc)
 
-module _ (held now : Store) (candidates : List Candidate) (places : List ℕ) (first doomed : List (List ℕ)) (survey : IsRecordSurvey held candidates places first) (others : Dooms held IsOtherArea first doomed) (takes : TakesOut doomed held now) where
+module _ (held now : Store) (rows : List EquivRow) (first doomed : List (List ℕ)) (survey : IsRecordSurvey held rows first) (others : Dooms held IsOtherArea first doomed) (takes : TakesOut doomed held now) where
   not_left : (q : List ℕ) → Contains doomed q → IsLeft held q → ⊥
   not_left q has = by (others.sound q has)
     where
@@ -219,12 +219,12 @@ module _ (held now : Store) (candidates : List Candidate) (places : List ℕ) (f
               none_of top at below (inl e) = at e
               none_of top at below (inr b) = below b
 
-  pub opened_is : (rows : List EquivRow) → AreBelieved candidates places → rows ≡ rows_at candidates places → ((q : List ℕ) → Contains doomed q → now q ≡ None) → IsOpened held now rows
-  opened_is rows believed is gone = record { candidates = candidates; found = survey.found; places = places; believed = believed; rows_are = is; left = left_stays; only = only_left gone }
+  pub opened_is : ((q : List ℕ) → Contains doomed q → now q ≡ None) → IsOpened held now rows
+  opened_is gone = record { candidates = survey.candidates; found = survey.found; places = survey.places; believed = survey.believed; rows_are = survey.rows_are; left = left_stays; only = only_left gone }
 
 -- at each moment
-pub clears_by : (held : Store) (candidates : List Candidate) (places : List ℕ) (first doomed : List (List ℕ)) (i j : Store) → IsRecordSurvey held candidates places first → Dooms held IsOtherArea first doomed → TakesOut doomed i j → Clears held i j
-clears_by held candidates places first doomed i j survey others takes = record { left = λ q left. takes.others q (λ has. by q (others.sound q has) left) }
+pub clears_by : (held : Store) (rows : List EquivRow) (first doomed : List (List ℕ)) (i j : Store) → IsRecordSurvey held rows first → Dooms held IsOtherArea first doomed → TakesOut doomed i j → Clears held i j
+clears_by held rows first doomed i j survey others takes = record { left = λ q left. takes.others q (λ has. by q (others.sound q has) left) }
   where
     by : (q : List ℕ) → Contains first q ⊎ (IsLeft held q → ⊥) → IsLeft held q → ⊥
     by q (inl h) = survey.not_left q h
@@ -232,18 +232,18 @@ clears_by held candidates places first doomed i j survey others takes = record {
 
 -- ---- the run of an opening
 
-module _ {a b m z : Story} (candidates : List Candidate) (places : List ℕ) (first doomed paths : List (List ℕ)) (survey : IsRecordSurvey a.held candidates places first) (reads : Passes a b Same) (others : Dooms b.held IsOtherArea first doomed) (looks : Passes b m Same) (same : paths ≡ doomed) (takes : Passes m z (TakesOut paths)) where
+module _ {a b m z : Story} (rows : List EquivRow) (first doomed paths : List (List ℕ)) (survey : IsRecordSurvey a.held rows first) (reads : Passes a b Same) (others : Dooms b.held IsOtherArea first doomed) (looks : Passes b m Same) (same : paths ≡ doomed) (takes : Passes m z (TakesOut paths)) where
   dooms_here : Dooms a.held IsOtherArea first doomed
   dooms_here = subst (λ (h : Store). Dooms h IsOtherArea first doomed) reads.held others
 
   pub clears_run : Passes a z (Clears a.held)
-  clears_run = same_then (λ i. record { left = λ q left. refl }) reads (same_then (λ i. record { left = λ q left. refl }) looks (passes_so (Clears a.held) takes (λ i j t. clears_by a.held candidates places first doomed i j survey dooms_here (subst (λ (l : List (List ℕ)). TakesOut l i j) same t))))
+  clears_run = same_then (λ i. record { left = λ q left. refl }) reads (same_then (λ i. record { left = λ q left. refl }) looks (passes_so (Clears a.held) takes (λ i j t. clears_by a.held rows first doomed i j survey dooms_here (subst (λ (l : List (List ℕ)). TakesOut l i j) same t))))
 
-  pub opened_run : (y : Story) (rows : List EquivRow) → AreBelieved candidates places → rows ≡ rows_at candidates places → ((q : List ℕ) → Contains paths q → z.held q ≡ None) → y.held ≡ z.held → IsOpened a.held y.held rows
-  opened_run y rows believed is gone last =
+  pub opened_run : (y : Story) → ((q : List ℕ) → Contains paths q → z.held q ≡ None) → y.held ≡ z.held → IsOpened a.held y.held rows
+  opened_run y gone last =
       let here : m.held ≡ a.held = looks.held ∙ reads.held in
       let out : TakesOut doomed a.held z.held = subst (λ (h : Store). TakesOut doomed h z.held) here (subst (λ (l : List (List ℕ)). TakesOut l m.held z.held) same takes.held) in
-      let at : IsOpened a.held z.held rows = opened_is a.held z.held candidates places first doomed survey dooms_here out rows believed is (λ q has. gone q (subst (λ (l : List (List ℕ)). Contains l q) (sym same) has)) in
+      let at : IsOpened a.held z.held rows = opened_is a.held z.held rows first doomed survey dooms_here out (λ q has. gone q (subst (λ (l : List (List ℕ)). Contains l q) (sym same) has)) in
       subst (λ (h : Store). IsOpened a.held h rows) (sym last) at
 
 -- ---- an opened store keeps what every store does

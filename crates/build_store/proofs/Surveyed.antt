@@ -1,5 +1,5 @@
 -- What is found under `rec/`.
-use Rattle.std.proofs.Common.{◌≡◌, ◌∙◌, sym, ap, subst, refl, ℕ, zero, suc, ◌+◌, ◌<◌, ◌⊎◌, inl, inr, List, [], ◌∷◌, ◌++◌, length, arith, get_or, take, AllPairs, Some, length-append}
+use Rattle.std.proofs.Common.{◌≡◌, ◌∙◌, sym, ap, subst, refl, ℕ, zero, suc, ◌+◌, ◌<◌, ◌≤◌, ◌⊎◌, inl, inr, List, [], ◌∷◌, ◌++◌, length, arith, get_or, take, AllPairs, Some, length-append}
 use Rattle.std.specs.Prelude.{codes, Contains, IsSome, slice_get}
 use Rattle.std.specs.Option.{is_some}
 use Rattle.std.specs.List.{AllByRecursion}
@@ -8,7 +8,7 @@ use Rattle.std.specs.Ordering.{nat_cmp}
 use Rattle.std.specs.Cmp.Lexicographic.{slice_cmp}
 use Rattle.std.specs.declared.cmp.Ordering.TheVariants.{Less}
 use Rattle.std.proofs.lemmas.Bool.{cases_eq, false≢true}
-use Rattle.std.proofs.lemmas.List.{get_or_append_left, take_more}
+use Rattle.std.proofs.lemmas.List.{get_or_append_left, map-append, take_all, take_more}
 use Rattle.std.proofs.lemmas.List.Elements.{All-from_recursion, Contains-append_left, Contains-push, Contains-push_cases}
 use Rattle.std.proofs.lemmas.Option.{get_or_from_slice_get, slice_get-get_or}
 use Rattle.std.proofs.Math.Seq.{get_or-append_seam}
@@ -28,7 +28,7 @@ use Rattle.build_store.specs.declared.records.Found.{Found}
 use Rattle.build_store.specs.Opening.{IsBelievedRecord, IsLeft, IsRecordFile}
 use Rattle.build_store.specs.Paths.{record_path}
 use Rattle.build_store.specs.Publication.{record_file}
-use Rattle.build_store.specs.Survey.{AreHeld, HasNoRecord, HasVisited, IsFoundIn, IsGood, IsSurveyed, Rejects, StandsAmong, Takes}
+use Rattle.build_store.specs.Survey.{AreRead, AreRecords, HasNoRecord, HasRead, HeldFile, IsFileIn, IsFoundIn, IsGood, IsSurveyed, Rejects, StandsAmong, Takes, Visits, paths_of}
 use Rattle.build_store.proofs.Areas.{differ, heads_differ}
 use Rattle.build_store.proofs.Hexed.{records_in_order}
 
@@ -126,19 +126,42 @@ module _ (held : Store) (seen : List (List ℕ)) (path : List ℕ) (less : AllBy
           by_old (inr w) = inr (w.0, subst (λ (l : List Candidate). Contains l w.0) (sym r.candidates) w.1, w.2)
       by q (inr e) = inl (subst (λ (l : List (List ℕ)). Contains l q) (sym r.rejected) (subst (Contains (found.rejected.items ++ path ∷ [])) e (Contains-push found.rejected.items path)))
 
-  visited : IsSome (held path) → HasVisited held path found next → IsSurveyed held More next
-  visited some (inl v) = by v.0 v.1 v.2
-    where
-      by : (entry : Entry) → held path ≡ Some entry → Takes path entry found next ⊎ Rejects path entry found next → IsSurveyed held More next
-      by entry at (inl t) = takes entry at t
-      by entry at (inr r) = rejects entry at r
-  visited some (inr n) = absurd (false≢true (sym (ap is_some n.0) ∙ some))
+  visited : (entry : Entry) → held path ≡ Some entry → Visits path entry found next → IsSurveyed held More next
+  visited entry at (inl t) = takes entry at t
+  visited entry at (inr r) = rejects entry at r
 
-pub surveyed_more : (held : Store) (paths : List (List ℕ)) (n : ℕ) (path : List ℕ) (found next : Found) → n < length paths → path ≡ get_or paths n path → AreHeld held paths → IsSurveyed held (take n paths) found → HasVisited held path found next → IsSurveyed held (take (n + 1) paths) next
-surveyed_more held paths n path found next lt is all was visits =
-    let grown : take (n + 1) paths ≡ take n paths ++ path ∷ [] = take_more paths n path lt ∙ ap (λ (p : List ℕ). take n paths ++ p ∷ []) (sym is) in
+-- ---- the files of a listing
+
+path_at : (files : List HeldFile) (n : ℕ) (f : HeldFile) → n < length files → f ≡ get_or files n f → get_or (paths_of files) n f.0 ≡ f.0
+path_at [] n f lt is = absurd (omega (arith, lt))
+path_at (x ∷ files) zero f lt is = ap (λ (g : HeldFile). g.0) (sym is)
+path_at (x ∷ files) (suc n) f lt is = path_at files n f (omega (arith, lt)) is
+
+as_many : (files : List HeldFile) → length (paths_of files) ≡ length files
+as_many [] = refl
+as_many (x ∷ files) = ap suc (as_many files)
+
+-- what the next file is told to be is so of it
+pub surveyed_more : (held : Store) (files : List HeldFile) (n : ℕ) (f : HeldFile) (found next : Found) → n < length files → f ≡ get_or files n f → AreRecords held files → IsSurveyed held (take n (paths_of files)) found → Visits f.0 f.1 found next → IsSurveyed held (take (n + 1) (paths_of files)) next
+surveyed_more held files n f found next lt is all was visits =
+    let paths = paths_of files in
+    let within : n < length paths = omega (arith, lt, as_many files) in
+    let at : get_or paths n f.0 ≡ f.0 = path_at files n f lt is in
+    let grown : take (n + 1) paths ≡ take n paths ++ f.0 ∷ [] = take_more paths n f.0 within ∙ ap (λ (p : List ℕ). take n paths ++ p ∷ []) at in
+    let here : held f.0 ≡ Some f.1 = each_of (IsFileIn held) files f all.each (n, lt, sym is) in
     subst (λ (l : List (List ℕ)). IsSurveyed held l next) (sym grown)
-    (visited held (take n paths) path (less_before paths n path lt is all.ascend) found next was (all.some path (n, lt, sym is)) visits)
+    (visited held (take n paths) f.0 (less_before paths n f.0 within (sym at) all.listing.ascending) found next was f.1 here visits)
+
+-- one file more
+pub read_more : (held : Store) (paths : List (List ℕ)) (n : ℕ) (path : List ℕ) (files next : List HeldFile) → n < length paths → path ≡ get_or paths n path → IsSome (held path) → AreRead held (take n paths) files → HasRead held path files next → AreRead held (take (n + 1) paths) next
+read_more held paths n path files next lt is some was (inl r) =
+    let grown : take (n + 1) paths ≡ take n paths ++ path ∷ [] = take_more paths n path lt ∙ ap (λ (p : List ℕ). take n paths ++ p ∷ []) (sym is) in
+    let more : List HeldFile = files ++ (path, r.0) ∷ [] in
+    record {
+      at = ap paths_of r.2 ∙ map-append (λ (f : HeldFile). f.0) files ((path, r.0) ∷ []) ∙ ap (λ (l : List (List ℕ)). l ++ path ∷ []) was.at ∙ sym grown;
+      each = subst (AllByRecursion (IsFileIn held)) (sym r.2) (each_append (IsFileIn held) files ((path, r.0) ∷ []) was.each (r.1, tt));
+    }
+read_more held paths n path files next lt is some was (inr r) = absurd (false≢true (sym (ap is_some r.0) ∙ some))
 
 -- ---- all of them
 
@@ -205,3 +228,13 @@ found_in held paths found listing s = record { found = record { ascend = s.ascen
 
     all : (path : List ℕ) → IsSome (held (inside (codes "rec") path)) → Contains found.rejected.items (inside (codes "rec") path) ⊎ ((c : Candidate) × Contains found.candidates.items c × (inside (codes "rec") path ≡ record_path c.name))
     all path some = s.whole (inside (codes "rec") path) (listing.all (inside (codes "rec") path) (path, refl) some)
+
+-- what is read of a listing of `rec/` is all that stands there
+pub listing_read : (held : Store) (paths : List (List ℕ)) (files : List HeldFile) → IsListing (codes "rec/") held paths → AreRead held paths files → AreRecords held files
+listing_read held paths files listing read = record { listing = subst (IsListing (codes "rec/") held) (sym read.at) listing; each = read.each }
+
+-- all of them
+pub surveyed_all : (held : Store) (files : List HeldFile) (n : ℕ) (found : Found) → length files ≤ n → AreRecords held files → IsSurveyed held (take n (paths_of files)) found → IsFoundIn held found.candidates.items found.rejected.items
+surveyed_all held files n found past all was =
+    let whole : take n (paths_of files) ≡ paths_of files = take_all n (paths_of files) (omega (arith, past, as_many files)) in
+    found_in held (paths_of files) found all.listing (subst (λ (l : List (List ℕ)). IsSurveyed held l found) whole was)

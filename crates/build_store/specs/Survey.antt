@@ -1,23 +1,21 @@
 -- What opening finds, step by step.
-use Rattle.std.specs.Prelude.{◌≡◌, ◌⊎◌, ◌<◌, ℕ, Bool, true, false, List, [], ◌∷◌, ◌++◌, codes, length, Contains, IsSome, None, Some, slice_get, slice_index_or}
+use Rattle.std.specs.Prelude.{◌≡◌, ◌⊎◌, ◌<◌, ℕ, Bool, true, false, List, [], ◌∷◌, ◌++◌, codes, length, map, Contains, IsSome, None, Some, slice_get, slice_index_or}
 use Rattle.std.specs.List.{AllByRecursion}
-use Rattle.std.specs.List.Sorted.{IsStrictlySortedBy}
-use Rattle.std.specs.Ordering.{nat_cmp}
-use Rattle.std.specs.Cmp.Lexicographic.{slice_cmp}
 use Rattle.tree_model.specs.Path.{BeginsWith, inside}
 use Rattle.tree_model.specs.declared.entry.Entry.{Entry}
-use Rattle.outside_traits.specs.Store.{Store}
+use Rattle.outside_traits.specs.Store.{IsListing, Store}
+use Rattle.store_model.specs.declared.signature.EquivRow.{EquivRow}
 use Rattle.store_model.specs.Spelling.{name_of, record_bytes}
 use Rattle.sig_gen.specs.Stored.{SpellsStored}
 use Rattle.record_belief.specs.declared.candidate.Candidate.{Candidate}
-use Rattle.record_belief.specs.Believed.{Ascend}
+use Rattle.record_belief.specs.Believed.{Ascend, AreBelieved}
 use Rattle.build_store.specs.declared.records.Found.{Found}
-use Rattle.build_store.specs.Opening.{AreFound, IsLeft, IsRecordFile}
+use Rattle.build_store.specs.Opening.{AreFound, IsLeft, IsRecordFile, rows_at}
 use Rattle.build_store.specs.Paths.{record_path, slashes}
 use Rattle.build_store.specs.Publication.{record_file, stamp_file, stamp_text}
 use Rattle.tree_model.specs.declared.hash.Hash.{Hash}
 use Rattle.tree_model.specs.Hash.{IsHash, hash_text}
-use Rattle.build_store.specs.Sound.{HasShortPaths}
+use Rattle.build_store.specs.Sound.{HasShortPaths, IsRow}
 
 -- a candidate, but for where it stands
 pub record IsGood (c : Candidate) : Type 0 where
@@ -43,16 +41,32 @@ pub record Rejects (path : List ℕ) (entry : Entry) (old new : Found) : Type 0 
 abbrev pub Visits : List ℕ → Entry → Found → Found → Type 0
 Visits path entry old new = Takes path entry old new ⊎ Rejects path entry old new
 
--- something stood at the path, and was visited; or nothing did
-abbrev pub HasVisited : Store → List ℕ → Found → Found → Type 0
-HasVisited held path old new =
-    ((entry : Entry) × (held path ≡ Some entry) × Visits path entry old new)
+-- a path, with the entry there
+abbrev pub HeldFile : Type 0
+HeldFile = List ℕ × Entry
+
+abbrev pub paths_of : List HeldFile → List (List ℕ)
+paths_of files = map (λ f. f.0) files
+
+-- the entry is held at the path
+abbrev pub IsFileIn : Store → HeldFile → Type 0
+IsFileIn held f = held f.0 ≡ Some f.1
+
+-- one file more, if anything is held at the path
+abbrev pub HasRead : Store → List ℕ → List HeldFile → List HeldFile → Type 0
+HasRead held path old new =
+    ((entry : Entry) × (held path ≡ Some entry) × (new ≡ old ++ (path, entry) ∷ []))
     ⊎ ((held path ≡ None) × (new ≡ old))
 
--- something is held at each of the paths, which ascend
-pub record AreHeld (held : Store) (paths : List (List ℕ)) : Type 0 where
-  pub some : (q : List ℕ) → Contains paths q → IsSome (held q)
-  pub ascend : IsStrictlySortedBy (slice_cmp nat_cmp) paths
+-- the files at these paths, in their order
+pub record AreRead (held : Store) (paths : List (List ℕ)) (files : List HeldFile) : Type 0 where
+  pub at : paths_of files ≡ paths
+  pub each : AllByRecursion (IsFileIn held) files
+
+-- the files that stand under `rec/`, in the order of their paths
+pub record AreRecords (held : Store) (files : List HeldFile) : Type 0 where
+  pub listing : IsListing (codes "rec/") held (paths_of files)
+  pub each : AllByRecursion (IsFileIn held) files
 
 -- no record stands at the path
 abbrev pub HasNoRecord : Store → List ℕ → Type 0
@@ -156,11 +170,20 @@ pub record DoomsUnbelieved (candidates : List Candidate) (places : List ℕ) (ol
   pub sound : (q : List ℕ) → Contains new q → Contains old q ⊎ ((k : ℕ) × (c : Candidate) × (slice_get candidates k ≡ Some c) × (Contains places k → ⊥) × (q ≡ record_path c.name))
   pub whole : (k : ℕ) (c : Candidate) → slice_get candidates k ≡ Some c → Contains new (record_path c.name) ⊎ Contains places k
 
--- what stands under `rec/`: which records are believed, and what goes
-pub record IsRecordSurvey (held : Store) (candidates : List Candidate) (places : List ℕ) (doomed : List (List ℕ)) : Type 0 where
+-- what stands under `rec/`: the rows of the records that are believed, and what goes
+pub record IsRecordSurvey (held : Store) (rows : List EquivRow) (doomed : List (List ℕ)) : Type 0 where
+  pub candidates : List Candidate
   pub found : AreFound held candidates
+  pub places : List ℕ
+  pub believed : AreBelieved candidates places
+  pub rows_are : rows ≡ rows_at candidates places
   pub not_left : (q : List ℕ) → Contains doomed q → IsLeft held q → ⊥
   pub whole : (path : List ℕ) → IsSome (held (inside (codes "rec") path)) → Contains doomed (inside (codes "rec") path) ⊎ IsLeft held (inside (codes "rec") path)
+
+-- ... wherever these files are all that stands there
+pub record IsSurveyOf (files : List HeldFile) (rows : List EquivRow) (doomed : List (List ℕ)) : Type 0 where
+  pub are_rows : AllByRecursion IsRow rows
+  pub survey : (held : Store) → AreRecords held files → IsRecordSurvey held rows doomed
 
 -- what isn't under `rec/`: under `stamp/`, under `tmp/`, and the three folders themselves
 abbrev pub IsOtherArea : List ℕ → Type 0

@@ -1,99 +1,81 @@
-// Records that were read before a store is opened.
-ghost use Rattle.std.specs.Prelude.{◌≡◌, IfNone, IfOk, IfSome};
-ghost use Rattle.record_belief.specs.declared.candidate.Candidate.{Candidate as ACandidate};
-ghost use Rattle.store_model.specs.Spelling.{record_bytes};
-ghost use Rattle.build_store.specs.Survey.{IsGood};
+// What files say that were read before a store is opened.
+ghost use Rattle.std.specs.Prelude.{◌≡◌, IfOk, IfSome};
+ghost use Rattle.build_store.specs.Survey.{IsSurveyOf};
 
-use crate::naming::same_bytes;
-use crate::records::record_in;
-use record_belief::Candidate;
+use crate::judging::{Survey, survey_of};
+use sstate_objects::same_entries;
 use std::alloc::Global;
 use std::marker::Model;
-use std::mem;
 use std::sync::Mutex;
-use tree_model::Mem;
+use tree_model::{Entry, Mem, Text};
 
-/// A record that was read from its bytes, whose paths are short. Where it stands isn't known. Contracts see the bytes, and the
-/// record with its name.
+/// What some files under `rec/` say, wherever they are all that stands there. Contracts see the files, and what they say.
 #[derive(Drop)]
 pub struct Known {
-    bytes: Vec<u8>,
-    candidate: Candidate,
+    files: Vec<(Text, Entry)>,
+    survey: Survey,
 }
 
 impl Model for Known {
-    ghost use Rattle.std.specs.Prelude.{◌≡◌, List, ℕ};
-    ghost use Rattle.record_belief.specs.declared.candidate.Candidate.{Candidate as ACandidate};
-    ghost use Rattle.store_model.specs.Spelling.{record_bytes};
-    ghost use Rattle.build_store.specs.Survey.{IsGood};
+    ghost use Rattle.build_store.specs.declared.judging.Survey.{Survey as ASurvey};
+    ghost use Rattle.build_store.specs.Survey.{HeldFile, IsSurveyOf};
+    ghost use Rattle.std.specs.Prelude.{List};
 
-    ghost Value = { List ℕ × ACandidate };
+    ghost Value = { List HeldFile × ASurvey };
 
-    ghost view = { λ k. (k.bytes.items, k.candidate) };
+    ghost view = { λ k. (k.files.items, k.survey) };
 
-    ghost invariant = { λ k. IsGood k.candidate × (k.bytes.items ≡ record_bytes k.candidate.stored) };
+    ghost invariant = { λ k. IsSurveyOf k.files.items k.survey.index k.survey.doomed.items };
 }
 
 impl Known {
-    /// The record that some bytes are, if they are one whose paths are short.
-    pub fn read(alloc: Global, bytes: &[u8]) -> Result<Option<Known>, Mem>
-        ensures some { IfOk result (λ found. IfSome found (λ known. known.0 ≡ bytes.now)) }
-        ensures none { IfOk result (λ found. IfNone found ((c : ACandidate) → IsGood c → bytes.now ≡ record_bytes c.stored
-            → ⊥)) }
+    /// Works out what these files say, which are given in the order of their paths.
+    pub fn of_files(alloc: Global, files: Vec<(Text, Entry)>) -> Result<Known, Mem>
+        ensures { IfOk result (λ known. known.0 ≡ files.items) }
     {
-        match record_in(alloc, bytes)? {
-            Some(candidate) => {
-                let mut own = Vec::with_capacity(alloc, bytes.len())?;
-                own.extend_from_slice(bytes)?;
-                Ok(Some(Known {
-                    bytes: own,
-                    candidate,
-                }))
-            }
-            None => Ok(None),
-        }
+        let survey = survey_of(alloc, &files)?;
+        Ok(Known { files, survey })
     }
 }
 
-/// Takes the candidate that a known record is, where it was read from these bytes.
-pub(crate) fn take_known(known: &mut Option<Known>, bytes: &[u8]) -> Option<Candidate>
-    ensures { IfSome result (λ c. IsGood c × (bytes.now ≡ record_bytes c.stored)) }
+/// What is known, where it is of these files.
+fn survey_in(known: Known, files: &[(Text, Entry)]) -> Option<Survey>
+    ensures { IfSome result (λ survey. IsSurveyOf files.now survey.index survey.doomed.items) }
 {
-    let found = known.take()?;
-    if same_bytes(bytes, found.bytes.as_slice()) {
-        return Some(found.candidate);
+    if same_entries(known.files.as_slice(), files) {
+        return Some(known.survey);
     }
     None
 }
 
-/// Where one thread leaves the records that it read for another, which opens a store: that one reads each file all the same, and takes
-/// a record from here only where it has the file's bytes. So no clause speaks of what was left. Nobody waits; what isn't there in time
-/// the other reads by itself.
+/// Where one thread leaves what it knows of files for another, which opens a store: that one reads each file all the same, and takes
+/// what is known only where it read just these files. So no clause speaks of what was left. Nobody waits; what isn't there in time the
+/// other works out by itself.
 #[derive(Drop)]
 pub struct Ahead {
-    records: Mutex<Vec<Option<Known>>>,
+    known: Mutex<Option<Known>>,
 }
 
 impl Ahead {
-    /// No record.
-    pub fn none(alloc: Global) -> Ahead {
+    /// Nothing.
+    pub fn none() -> Ahead {
         Ahead {
-            records: Mutex::new(Vec::new(alloc)),
+            known: Mutex::new(None),
         }
     }
 
-    /// Leaves the records of the files under `rec/`, in the order of their paths: of each file one, or `None` where it is no record.
-    pub fn put(&self, records: Vec<Option<Known>>) {
-        if let Some(mut place) = self.records.try_lock() {
-            *place = records;
+    /// Leaves what is known of the files under `rec/`.
+    pub fn put(&self, known: Known) {
+        if let Some(mut place) = self.known.try_lock() {
+            *place = Some(known);
         }
     }
 
-    /// Takes the records that are there.
-    pub(crate) fn take(&self, alloc: Global) -> Vec<Option<Known>> {
-        match self.records.try_lock() {
-            Some(mut place) => mem::replace(&mut *place, Vec::new(alloc)),
-            None => Vec::new(alloc),
-        }
+    /// Takes what is known of these files, where that is there.
+    pub(crate) fn survey_of(&self, files: &[(Text, Entry)]) -> Option<Survey>
+        ensures { IfSome result (λ survey. IsSurveyOf files.now survey.index survey.doomed.items) }
+    {
+        let mut place = self.known.try_lock()?;
+        survey_in(place.take()?, files)
     }
 }

@@ -16,8 +16,8 @@
 //! (`opened_is_valid`), all that is available (`opened_stays`), and what a plan may reuse (`reuse_again`). The records that `publish`
 //! stores can be read.
 //!
-//! Opening reads each file under `rec/` and `stamp/`. What the records are another thread may have worked out before (`Known`, `Ahead`):
-//! such a record counts only where a file has its bytes, so whatever was left there, no clause is another.
+//! Opening reads each file under `rec/` and `stamp/`. What the files under `rec/` say another thread may have worked out before (`Known`,
+//! `Ahead`): that counts only where opening reads just these files, so whatever was left there, no clause is another.
 //!
 //! `known_name` gives for a PN and the bytes of a signature the name of every signature with these bytes, where it knows one; that it does
 //! isn't promised. `into_disk` gives the disk back, which in every image holds the records of all rows.
@@ -31,6 +31,7 @@ mod comparing;
 mod drafting;
 mod fault;
 mod finding;
+mod judging;
 mod keeping;
 mod kept;
 mod known;

@@ -1,17 +1,17 @@
 // The files under `rec/` that may be believed.
-ghost use Rattle.std.specs.Prelude.{◌≡◌, ◌≤◌, ◌↔◌, All, IfNone, IfOk, IfSome, IsTrue, OnOk};
+ghost use Rattle.std.specs.Prelude.{◌≡◌, ◌≤◌, ◌↔◌, All, Contains, IfNone, IfOk, IfSome, IsSome, IsTrue, List, OnOk, ℕ};
 ghost use Rattle.std.specs.List.{AllByRecursion};
 ghost use Rattle.outside_traits.specs.Fault.{Counts, disk_failed};
 ghost use Rattle.outside_traits.specs.Passes.{Passes, Same};
+ghost use Rattle.outside_traits.specs.Store.{Store};
 ghost use Rattle.record_belief.specs.declared.candidate.Candidate.{Candidate as ACandidate};
 ghost use Rattle.sig_gen.specs.Stored.{SpellsStored};
 ghost use Rattle.store_model.specs.Spelling.{name_of, record_bytes};
 ghost use Rattle.build_store.specs.Paths.{record_path, staged_record_path};
 ghost use Rattle.build_store.specs.Publication.{record_file};
 ghost use Rattle.build_store.specs.Sound.{HasShortPaths};
-ghost use Rattle.build_store.specs.Survey.{AreHeld, HasVisited, IsFoundIn, IsGood, IsSurveyed, Visits};
+ghost use Rattle.build_store.specs.Survey.{AreRead, AreRecords, HasRead, IsFoundIn, IsGood, Visits};
 
-use crate::known::{Ahead, Known, take_known};
 use crate::naming::same_bytes;
 use outside_traits::{Disk, DiskFault};
 use record_belief::Candidate;
@@ -87,7 +87,7 @@ fn judged(bytes: &[u8], stored: StoredSig) -> Result<Option<Candidate>, Mem>
 }
 
 /// The candidate that some bytes are, wherever they stand.
-pub(crate) fn record_in(alloc: Global, bytes: &[u8]) -> Result<Option<Candidate>, Mem>
+fn record_in(alloc: Global, bytes: &[u8]) -> Result<Option<Candidate>, Mem>
     ensures some { IfOk result (λ found. IfSome found (λ c. IsGood c × (bytes.now ≡ record_bytes c.stored))) }
     ensures none { IfOk result (λ found. IfNone found ((c : ACandidate) → IsGood c → bytes.now ≡ record_bytes c.stored
         → ⊥)) }
@@ -96,22 +96,6 @@ pub(crate) fn record_in(alloc: Global, bytes: &[u8]) -> Result<Option<Candidate>
         Ok(stored) => judged(bytes, stored),
         Err(SigFault::BadRecord) => Ok(None),
         Err(SigFault::Memory) => Err(Mem),
-    }
-}
-
-/// The same, where a record may be known by its bytes.
-fn known_or_read(
-    alloc: Global,
-    bytes: &[u8],
-    known: &mut Option<Known>,
-) -> Result<Option<Candidate>, Mem>
-    ensures some { IfOk result (λ found. IfSome found (λ c. IsGood c × (bytes.now ≡ record_bytes c.stored))) }
-    ensures none { IfOk result (λ found. IfNone found ((c : ACandidate) → IsGood c → bytes.now ≡ record_bytes c.stored
-        → ⊥)) }
-{
-    match take_known(known, bytes) {
-        Some(candidate) => Ok(Some(candidate)),
-        None => record_in(alloc, bytes),
     }
 }
 
@@ -127,37 +111,27 @@ fn at_its_path(path: &str, candidate: Candidate) -> Option<Candidate>
 }
 
 /// The candidate that some bytes are, which were read at a path.
-fn candidate_in(
-    alloc: Global,
-    path: &str,
-    bytes: &[u8],
-    known: &mut Option<Known>,
-) -> Result<Option<Candidate>, Mem>
+fn candidate_in(alloc: Global, path: &str, bytes: &[u8]) -> Result<Option<Candidate>, Mem>
     ensures some { IfOk result (λ found. IfSome found (λ c. IsGood c × (path.now ≡ record_path c.name)
         × (bytes.now ≡ record_bytes c.stored))) }
     ensures none { IfOk result (λ found. IfNone found ((c : ACandidate) → IsGood c → path.now ≡ record_path c.name
         → bytes.now ≡ record_bytes c.stored → ⊥)) }
 {
-    match known_or_read(alloc, bytes, known)? {
+    match record_in(alloc, bytes)? {
         Some(candidate) => Ok(at_its_path(path, candidate)),
         None => Ok(None),
     }
 }
 
 /// The candidate that an entry is, which was read at a path.
-fn candidate_of(
-    alloc: Global,
-    path: &str,
-    entry: &Entry,
-    known: &mut Option<Known>,
-) -> Result<Option<Candidate>, Mem>
+fn candidate_of(alloc: Global, path: &str, entry: &Entry) -> Result<Option<Candidate>, Mem>
     ensures some { IfOk result (λ found. IfSome found (λ c. IsGood c × (path.now ≡ record_path c.name)
         × (entry.now ≡ record_file c.stored))) }
     ensures none { IfOk result (λ found. IfNone found ((c : ACandidate) → IsGood c → path.now ≡ record_path c.name
         → entry.now ≡ record_file c.stored → ⊥)) }
 {
     match entry {
-        Entry::File { exec: false, bytes } => candidate_in(alloc, path, bytes.as_slice(), known),
+        Entry::File { exec: false, bytes } => candidate_in(alloc, path, bytes.as_slice()),
         Entry::File {
             exec: true,
             bytes: _,
@@ -174,79 +148,77 @@ pub(crate) struct Found {
 }
 
 /// Puts what an entry is, which was read at a path, to what is found.
-fn put_found(
-    alloc: Global,
-    path: &str,
-    entry: &Entry,
-    known: &mut Option<Known>,
-    found: &mut Found,
-) -> Result<(), Mem>
+fn put_found(alloc: Global, path: &str, entry: &Entry, found: &mut Found) -> Result<(), Mem>
     ensures visits { OnOk result (Visits path.now entry.now found.old found.new) }
     ensures good { AllByRecursion IsGood found.old.candidates.items → AllByRecursion IsGood found.new.candidates.items }
 {
-    match candidate_of(alloc, path, entry, known)? {
+    match candidate_of(alloc, path, entry)? {
         Some(candidate) => found.candidates.push(candidate)?,
         None => found.rejected.push(Text::from_str(alloc, path)?)?,
     }
     Ok(())
 }
 
-/// Reads a path, and puts what stands there to what is found.
-fn visit<D: Disk>(
-    alloc: Global,
-    disk: &mut D,
-    path: &str,
-    known: &mut Option<Known>,
-    found: &mut Found,
-) -> Result<(), DiskFault>
-    ensures visits { D.tells → OnOk result (HasVisited (D.story disk.old).held path.now found.old found.new) }
-    ensures good { AllByRecursion IsGood found.old.candidates.items → AllByRecursion IsGood found.new.candidates.items }
-    ensures others { D.tells → Passes (D.story disk.old) (D.story disk.new) Same }
-    ensures cause { Counts (D.faults disk.old) (D.faults disk.new) (disk_failed result) }
-{
-    match disk.read(alloc, path)? {
-        Some(entry) => Ok(put_found(alloc, path, &entry, known, found)?),
-        None => Ok(()),
-    }
-}
-
-/// What stands at these paths under `rec/`.
-fn found_among<D: Disk>(
-    alloc: Global,
-    disk: &mut D,
-    paths: &[Text],
-    known: Vec<Option<Known>>,
-) -> Result<Found, DiskFault>
-    requires { D.tells → AreHeld (D.story disk.old).held paths.now }
-    ensures surveyed { D.tells → IfOk result (IsSurveyed (D.story disk.old).held paths.now) }
+/// What these files are, which are all that stand under `rec/`.
+pub(crate) fn found_among(alloc: Global, files: &[(Text, Entry)]) -> Result<Found, Mem>
+    ensures found { IfOk result (λ found. (held : Store) → AreRecords held files.now
+        → IsFoundIn held found.candidates.items found.rejected.items) }
     ensures good { IfOk result (λ found. AllByRecursion IsGood found.candidates.items) }
-    ensures others { D.tells → Passes (D.story disk.old) (D.story disk.new) Same }
-    ensures cause { Counts (D.faults disk.old) (D.faults disk.new) (disk_failed result) }
 {
     let mut found = Found {
-        candidates: Vec::with_capacity(alloc, paths.len())?,
+        candidates: Vec::with_capacity(alloc, files.len())?,
         rejected: Vec::new(alloc),
     };
-    let mut all_known = known.into_iter();
-    for path in paths {
-        let mut known = all_known.next().flatten();
-        visit(alloc, disk, path.as_str(), &mut known, &mut found)?;
+    for file in files {
+        put_found(alloc, file.0.as_str(), &file.1, &mut found)?;
     }
     Ok(found)
 }
 
-/// What stands under `rec/`.
-pub(crate) fn found_records<D: Disk>(
+/// Reads a path, and puts it with what stands there to the files.
+fn read_onto<D: Disk>(
     alloc: Global,
     disk: &mut D,
-    ahead: &Ahead,
-) -> Result<Found, DiskFault>
-    ensures found { D.tells → IfOk result (λ found. IsFoundIn (D.story disk.old).held found.candidates.items
-        found.rejected.items) }
-    ensures good { IfOk result (λ found. AllByRecursion IsGood found.candidates.items) }
+    path: &Text,
+    files: &mut Vec<(Text, Entry)>,
+) -> Result<(), DiskFault>
+    ensures read { D.tells → OnOk result (HasRead (D.story disk.old).held path.now files.old.items files.new.items) }
+    ensures others { D.tells → Passes (D.story disk.old) (D.story disk.new) Same }
+    ensures cause { Counts (D.faults disk.old) (D.faults disk.new) (disk_failed result) }
+{
+    match disk.read(alloc, path.as_str())? {
+        Some(entry) => Ok(files.push((path.copy()?, entry))?),
+        None => Ok(()),
+    }
+}
+
+/// Reads these paths.
+fn read_all<D: Disk>(
+    alloc: Global,
+    disk: &mut D,
+    paths: &[Text],
+) -> Result<Vec<(Text, Entry)>, DiskFault>
+    requires { D.tells → (q : List ℕ) → Contains paths.now q → IsSome ((D.story disk.old).held q) }
+    ensures read { D.tells → IfOk result (λ files. AreRead (D.story disk.old).held paths.now files.items) }
+    ensures others { D.tells → Passes (D.story disk.old) (D.story disk.new) Same }
+    ensures cause { Counts (D.faults disk.old) (D.faults disk.new) (disk_failed result) }
+{
+    let mut files = Vec::with_capacity(alloc, paths.len())?;
+    for path in paths {
+        read_onto(alloc, disk, path, &mut files)?;
+    }
+    Ok(files)
+}
+
+/// Reads what stands under `rec/`.
+pub(crate) fn read_records<D: Disk>(
+    alloc: Global,
+    disk: &mut D,
+) -> Result<Vec<(Text, Entry)>, DiskFault>
+    ensures read { D.tells → IfOk result (λ files. AreRecords (D.story disk.old).held files.items) }
     ensures others { D.tells → Passes (D.story disk.old) (D.story disk.new) Same }
     ensures cause { Counts (D.faults disk.old) (D.faults disk.new) (disk_failed result) }
 {
     let paths = disk.list(alloc, "rec/")?;
-    found_among(alloc, disk, paths.as_slice(), ahead.take(alloc))
+    read_all(alloc, disk, paths.as_slice())
 }

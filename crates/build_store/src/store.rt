@@ -61,8 +61,8 @@ impl<D: Disk> Model for Store<D> {
 ///
 /// Records, stamps and temporary files are cleared up: all under `tmp/` goes, and of what is under `rec/` and `stamp/` just the believed
 /// records and the files that are stamps stay. The rows are those of the believed records, in an order in which what a record names
-/// stands before it: by depth, then by name. What is under `work/` and `obj/` is left alone. Then the disk is synced. (Own rule.) A record
-/// of `ahead` spares the work on a file with its bytes, and nothing else.
+/// stands before it: by depth, then by name. What is under `work/` and `obj/` is left alone. Then the disk is synced. (Own rule.) What
+/// `ahead` knows of just the files that are read spares the work on them, and nothing else.
 ///
 /// Refused only where the disk failed or memory is wanting; the disk is given back then.
 pub fn open_store<D: Disk>(

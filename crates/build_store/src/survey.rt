@@ -7,10 +7,10 @@ ghost use Rattle.outside_traits.specs.Passes.{Passes, Same};
 ghost use Rattle.record_belief.specs.Believed.{Ascend, AreBelieved};
 ghost use Rattle.build_store.specs.Survey.{AreMarks, Dooms, DoomsUnless, DoomsUnmarked, TakesOut, IsAt, IsOneOf, IsTop, NotesStamp, VisitsStamp};
 
-use crate::records::{Found, found_records, record_path};
+use crate::records::record_path;
 use crate::stamps::is_stamp;
 use outside_traits::{Disk, DiskFault};
-use record_belief::{Candidate, ascend, believed};
+use record_belief::Candidate;
 use sstate_objects::is_held;
 use std::alloc::Global;
 use tree_model::{Entry, Mem, Text};

@@ -154,9 +154,9 @@ impl Project {
         words: &Vec<Text>,
     ) -> Result<Ran, Wrong> {
         let held = mem::replace(&mut self.held, Vec::new(alloc));
-        let ahead = Ahead::none(alloc);
-        ahead.put(records_in(alloc, &held)?);
         let disk = MemDisk::new(alloc, held)?;
+        let ahead = Ahead::none();
+        ahead.put(Known::of_files(alloc, records_in(alloc, disk.held())?)?);
         match self.crash.take() {
             Some(crash) => self.run_into_crash(rt, alloc, &ahead, words, disk, crash),
             None => self.run_to_end(rt, alloc, &ahead, words, disk),
@@ -287,18 +287,16 @@ fn answer(alloc: Global, status: &Status, sink: &MemSink) -> Result<Ran, Wrong> 
     })
 }
 
-/// The records that files under `rec/` are, for a run that knows them before it opens its store. (The program reads them in a
-/// thread of its own meanwhile.)
-fn records_in(alloc: Global, held: &[(Text, Entry)]) -> Result<Vec<Option<Known>>, Wrong> {
-    let mut records = Vec::new(alloc);
+/// The files under `rec/`, for a run that knows what they say before it opens its store. (The program works that out in a thread
+/// of its own meanwhile.)
+fn records_in(alloc: Global, held: &[(Text, Entry)]) -> Result<Vec<(Text, Entry)>, Wrong> {
+    let mut files = Vec::new(alloc);
     for (path, entry) in held {
-        if let Entry::File { exec: _, bytes } = entry {
-            if path.as_str().starts_with(RECORDS) {
-                records.push(Known::read(alloc, bytes.as_slice())?)?;
-            }
+        if path.as_str().starts_with(RECORDS) {
+            files.push((path.copy()?, entry.copy()?))?;
         }
     }
-    Ok(records)
+    Ok(files)
 }
 
 /// The number alone.

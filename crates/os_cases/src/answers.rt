@@ -57,8 +57,13 @@ pub fn of_entry(alloc: Global, entry: &Entry) -> Result<String, AllocError> {
 
 /// A tree: each path with its entry.
 pub fn of_tree(alloc: Global, tree: &Tree) -> Result<String, AllocError> {
+    of_files(alloc, tree.entries())
+}
+
+/// Each path with its entry.
+pub fn of_files(alloc: Global, files: &[(Text, Entry)]) -> Result<String, AllocError> {
     let mut said = String::new(alloc);
-    for (path, entry) in tree.entries() {
+    for (path, entry) in files {
         let shown = of_entry(alloc, entry)?;
         said.push_str(path.as_str())?;
         said.push_str(": ")?;

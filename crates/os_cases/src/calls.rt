@@ -7,16 +7,19 @@
 //   sink TEXT                       disk remove PATH           bench K take ENTRIES LARGEST BYTES
 //                                   disk rename FROM TO
 //   other CALL                      disk sync                  bench K failed
-//   ahead hold                      ahead read
 //                                   disk moment
+//
+//   ahead hold                      ahead read                 ahead records
 //
 //   stamp stage FOLDER DIGEST       stamp put FOLDER           stamp current FOLDER       stamp invalidate FOLDER
 //
-// `ahead hold` lets the disk take its lock before its first call, and says whether it has it; `ahead read` reads ahead for it.
-// `other` makes a call of the disk on another object over the same folder, and says what that says of its first fault. Calls of one
-// bench behind one another are made on one object; a call of another bench begins with a new one. `bench K failed` answers which runs
-// failed, each with the place of its log. KIND is `file`, `program` or `link`. `disk sync` answers what was synced, each file and folder by its path.
-use crate::answers::{entry_of, of_a_line, of_paths, of_tree, of_word, on_a_line};
+// `ahead hold` lets the disk take its lock before its first call, and says whether it has it; `ahead read` reads ahead for it,
+// and `ahead records` answers these files under `rec/` with what they hold, or nothing where they weren't read or a link stands
+// among them. `other` makes a call of the disk on another object over the same folder, and says what that says of its first
+// fault. Calls of one bench behind one another are made on one object; a call of another bench begins with a new one. `bench K
+// failed` answers which runs failed, each with the place of its log. KIND is `file`, `program` or `link`. `disk sync` answers
+// what was synced, each file and folder by its path.
+use crate::answers::{entry_of, of_a_line, of_files, of_paths, of_tree, of_word, on_a_line};
 use crate::disk_calls::{disk_answer, other_answer};
 use crate::rooms::{no_call, shell};
 use crate::stamp_calls::stamp_answer;
@@ -78,6 +81,10 @@ fn ahead_answer<'a>(
             ahead.read(rt);
             "ok"
         }
+        "records" => match ahead.records(rt.alloc())? {
+            Some(files) => return Ok(of_files(rt.alloc(), files.as_slice())?),
+            None => "nothing",
+        },
         _ => return Err(no_call()),
     };
     Ok(of_word(rt.alloc(), word)?)

@@ -3,9 +3,11 @@ use crate::disk::{ROOT, part_of};
 use crate::folder::put_joined;
 use crate::listed::Listing;
 use crate::walk::list_items;
+use std::alloc::Global;
 use std::io;
 use std::rt::Files;
 use std::sync::OnceLock;
+use tree_model::{Entry, Text};
 
 /// Where the records stand, of which opening a store reads each.
 const RECORDS: &str = "rec/";
@@ -53,12 +55,12 @@ impl ReadAhead {
         let _ = self.stopped.try_set(());
     }
 
-    /// The bytes of the file at a place among those under `rec/`, where they were read and nothing is to stop.
-    pub fn record(&self, place: usize) -> Option<&[u8]> {
-        if self.stopped.get().is_some() {
-            return None;
+    /// The files under `rec/`, in the order of their paths, where they were read, nothing else stands there, and nothing is to stop.
+    pub fn records(&self, alloc: Global) -> io::Result<Option<Vec<(Text, Entry)>>> {
+        match self.records.get() {
+            Some(listing) if self.stopped.get().is_none() => listing.files(alloc),
+            _ => Ok(None),
         }
-        self.records.get()?.bytes_at(place)
     }
 
     /// What was read of a part. Where that isn't all of it yet, no more is read.

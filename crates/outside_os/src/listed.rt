@@ -1,9 +1,9 @@
 // What a listing of a disk saw, until it is read.
-use crate::folder::{FileFacts, no_memory, read_onto};
+use crate::folder::{FileFacts, entry_of, no_memory, read_onto};
 use std::alloc::{AllocError, Global};
 use std::io;
 use std::rt::Files;
-use tree_model::{Text, Texts};
+use tree_model::{Entry, Text, Texts};
 
 /// A file or a link that a listing saw: what was seen there, and where its path and its bytes end, behind those before it.
 #[derive(Clone, Copy)]
@@ -70,13 +70,36 @@ impl Listing {
         Some(item)
     }
 
-    /// The bytes of the file at this place, from 0 on.
-    pub fn bytes_at(&self, place: usize) -> Option<&[u8]> {
-        let start = match place.checked_sub(1) {
-            Some(before) => self.items.get(before)?.bytes_end,
-            None => 0,
-        };
-        self.bytes.get(start..self.items.get(place)?.bytes_end)
+    /// The path of an item that stands behind this place, and the file there, where it is one.
+    fn file_of(
+        &self,
+        alloc: Global,
+        place: Place,
+        item: &Item,
+    ) -> io::Result<Option<(Text, Entry)>> {
+        let path = self.paths.as_str().get(place.path_end..item.path_end);
+        let bytes = self.bytes.get(place.bytes_end..item.bytes_end);
+        match (path, bytes) {
+            (Some(path), Some(bytes)) if item.facts.is_file() => {
+                let path = Text::from_str(alloc, path).map_err(no_memory)?;
+                Ok(Some((path, entry_of(alloc, &item.facts, bytes)?)))
+            }
+            _ => Ok(None),
+        }
+    }
+
+    /// All that it saw, where these are files whose bytes were read.
+    pub fn files(&self, alloc: Global) -> io::Result<Option<Vec<(Text, Entry)>>> {
+        let mut files = Vec::new(alloc);
+        let mut place = Place::START;
+        for item in &self.items {
+            let Some(file) = self.file_of(alloc, place, item)? else {
+                return Ok(None);
+            };
+            files.push(file)?;
+            place = place.behind(item);
+        }
+        Ok(Some(files))
     }
 
     /// The paths of all.

@@ -87,7 +87,7 @@ fn open(rt: &HostRuntime, files: Vec<(Text, Entry)>, name: &str, timed: bool) ->
         bail!("no disk");
     };
     let start = rt.process_cpu_time()?;
-    let Ok(store) = open_store(rt.alloc(), disk, &Ahead::none(rt.alloc())) else {
+    let Ok(store) = open_store(rt.alloc(), disk, &Ahead::none()) else {
         bail!("not opened");
     };
     let took = spent(rt, start)?;

@@ -18,20 +18,26 @@ fn same_entry(one: &(Text, Entry), other: &(Text, Entry)) -> bool
     one.0 == other.0 && one.1 == other.1
 }
 
-/// Whether two trees are the same.
-fn same_tree(one: &Tree, other: &Tree) -> bool
+/// Whether two lists have the same entries at the same paths, in the same order.
+pub fn same_entries(one: &[(Text, Entry)], other: &[(Text, Entry)]) -> bool
     ensures { IsTrue result ↔ (one.now ≡ other.now) }
 {
-    let others = other.entries();
-    if one.entries().len() != others.len() {
+    if one.len() != other.len() {
         return false;
     }
-    for (place, entry) in one.entries().iter().enumerate() {
-        if !same_entry(entry, &others[place]) {
+    for (place, entry) in one.iter().enumerate() {
+        if !same_entry(entry, &other[place]) {
             return false;
         }
     }
     true
+}
+
+/// Whether two trees are the same.
+fn same_tree(one: &Tree, other: &Tree) -> bool
+    ensures { IsTrue result ↔ (one.now ≡ other.now) }
+{
+    same_entries(one.entries(), other.entries())
 }
 
 /// The size of a tree.

@@ -14,6 +14,7 @@ mod objects;
 mod open;
 mod sizes;
 
+pub use holding::same_entries;
 pub use matching::read_matching;
 pub use objects::{put_object, read_verified};
 pub use open::is_held;

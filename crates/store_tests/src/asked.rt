@@ -11,7 +11,7 @@ use outside_mem::MemDisk;
 use outside_traits::Disk;
 use std::alloc::Global;
 use std::test::Fail;
-use tree_model::{Hash, Mem, manifest_of, matches};
+use tree_model::{Entry, Hash, Text, manifest_of, matches};
 
 /// A disk that holds nothing.
 pub fn empty(alloc: Global) -> Result<MemDisk, Fail>
@@ -28,29 +28,24 @@ pub fn opened(alloc: Global, disk: MemDisk) -> Result<Store<MemDisk>, Fail>
     requires { IsFresh (story_of disk) }
     ensures { IfOk result (λ store. store.kept ≡ []) }
 {
-    opened_beside(alloc, disk, &[])
+    opened_beside(alloc, disk, Vec::new(alloc))
 }
 
-/// The same, where one thread left the records that these bytes are, in this order.
-pub fn opened_beside(alloc: Global, disk: MemDisk, known: &[&[u8]]) -> Result<Store<MemDisk>, Fail>
+/// The same, where one thread left what these files say.
+pub fn opened_beside(
+    alloc: Global,
+    disk: MemDisk,
+    files: Vec<(Text, Entry)>,
+) -> Result<Store<MemDisk>, Fail>
     requires { IsFresh (story_of disk) }
     ensures { IfOk result (λ store. store.kept ≡ []) }
 {
-    let ahead = Ahead::none(alloc);
-    ahead.put(records_in(alloc, known)?);
+    let ahead = Ahead::none();
+    ahead.put(Known::of_files(alloc, files)?);
     match open_store(alloc, disk, &ahead) {
         Ok(store) => Ok(store),
         Err(_) => Err(Fail::from("not opened")),
     }
-}
-
-/// The records that these bytes are, where they are some.
-fn records_in(alloc: Global, all: &[&[u8]]) -> Result<Vec<Option<Known>>, Mem> {
-    let mut records = Vec::new(alloc);
-    for bytes in all {
-        records.push(Known::read(alloc, bytes)?)?;
-    }
-    Ok(records)
 }
 
 /// Publishes the sample.
@@ -72,7 +67,7 @@ pub fn publish_over<D: Disk>(alloc: Global, disk: D, sample: &Sample) -> D
     requires fresh { D.tells → IsFresh (D.story disk) }
     requires sample { IsSample sample.now.task sample.now.sig sample.now.tree }
 {
-    match open_store(alloc, disk, &Ahead::none(alloc)) {
+    match open_store(alloc, disk, &Ahead::none()) {
         Ok(store) => {
             let mut store = store;
             let _ = publish(alloc, &mut store, sample);

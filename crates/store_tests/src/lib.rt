@@ -1,6 +1,6 @@
 //! Tests of the store of a run, and of the records in it. The worked signature and the worked record are read and written; bytes that
 //! are none are refused. Another signature of one name and another output of one signature are refused. Of odd files, opening leaves as
-//! many as it should.
+//! many as it should, also where it is known ahead what they or other files say.
 //!
 //! What the contracts say is proved. The tests show that the calls succeed with ample memory, and what no case shows: the bytes of
 //! records, which files opening takes away, two signatures of one name, and a row that is added again. What runs make of a store, found,

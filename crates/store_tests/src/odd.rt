@@ -8,6 +8,7 @@ use crate::samples::file;
 use outside_mem::MemDisk;
 use std::alloc::Global;
 use std::test::Fail;
+use tree_model::{Entry, Text};
 
 /// The path of a record.
 const NAME: &str = "rec/200d8cacc48a20f9fd4ed575b3641e101c1fc914cfeaaded1ecf8e6d25a6935d";
@@ -103,6 +104,22 @@ const OTHERS: [Row; 7] = [
     ("work/p/t/u", b"", "obj/x", b"", 2),
 ];
 
+/// A file and, where it has a path, another one.
+fn files_of(
+    alloc: Global,
+    path: &str,
+    bytes: &[u8],
+    other: &str,
+    more: &[u8],
+) -> Result<Vec<(Text, Entry)>, Fail> {
+    let mut files = Vec::new(alloc);
+    files.push(file(alloc, path, bytes)?)?;
+    if !other.is_empty() {
+        files.push(file(alloc, other, more)?)?;
+    }
+    Ok(files)
+}
+
 /// A disk with a file and, where it has a path, another one.
 fn disk_of(
     alloc: Global,
@@ -113,12 +130,7 @@ fn disk_of(
 ) -> Result<MemDisk, Fail>
     ensures { IfOk result (λ disk. IsFresh (story_of disk)) }
 {
-    let mut files = Vec::new(alloc);
-    files.push(file(alloc, path, bytes)?)?;
-    if !other.is_empty() {
-        files.push(file(alloc, other, more)?)?;
-    }
-    match MemDisk::new(alloc, files) {
+    match MemDisk::new(alloc, files_of(alloc, path, bytes, other, more)?) {
         Ok(disk) => Ok(disk),
         Err(_) => Err(Fail::from("no disk")),
     }
@@ -140,14 +152,28 @@ fn are_left(alloc: Global, rows: &[Row]) -> Result<bool, Fail> {
     Ok(true)
 }
 
-/// Whether opening leaves as many files as each row says, where the row's files are known by their bytes, and where a
-/// record that may be none of them is known for each.
+/// The same, where it is known ahead what the files `known` say.
+fn left_beside(
+    alloc: Global,
+    path: &str,
+    bytes: &[u8],
+    other: &str,
+    more: &[u8],
+    known: Vec<(Text, Entry)>,
+) -> Result<usize, Fail> {
+    let disk = disk_of(alloc, path, bytes, other, more)?;
+    Ok(opened_beside(alloc, disk, known)?.into_disk().held().len())
+}
+
+/// Whether opening leaves as many files as each row says, whatever is known ahead: what the row's own files say, what one record alone
+/// says, or what files at the row's paths say that all have that record's bytes.
 fn are_left_beside_known(alloc: Global, rows: &[Row]) -> Result<bool, Fail> {
     for (path, bytes, other, more, want) in rows {
-        for known in [[*bytes, *more], [RECORD, RECORD]] {
-            let disk = disk_of(alloc, path, bytes, other, more)?;
-            let store = opened_beside(alloc, disk, &known)?;
-            if store.into_disk().held().len() != *want {
+        let own = files_of(alloc, path, bytes, other, more)?;
+        let one = files_of(alloc, NAME, RECORD, "", b"")?;
+        let changed = files_of(alloc, path, RECORD, other, RECORD)?;
+        for known in [own, one, changed] {
+            if left_beside(alloc, path, bytes, other, more, known)? != *want {
                 return Ok(false);
             }
         }
@@ -162,9 +188,9 @@ fn odd_records_go(rt: HostRuntime) -> Result<(), Fail> {
     Ok(())
 }
 
-/// No more and no less where records are known ahead: they count by their bytes alone.
+/// No more and no less where it is known ahead what some files say, be it these or others.
 #[test]
-fn known_records_change_nothing(rt: HostRuntime) -> Result<(), Fail> {
+fn known_files_change_nothing(rt: HostRuntime) -> Result<(), Fail> {
     assert!(rt; are_left_beside_known(rt.alloc(), &RECORDS)?);
     Ok(())
 }

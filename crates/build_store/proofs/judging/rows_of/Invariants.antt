@@ -1,6 +1,6 @@
 use Rattle.std.proofs.Common.{◌≡◌, take}
 use Rattle.build_store.specs.Opening.{rows_at}
-use Rattle.build_store.proofs.opening.rows_of.Given as goal
+use Rattle.build_store.proofs.judging.rows_of.Given as goal
 
 abbrev pub invariant-loop-place : goal.invariant-loop-place
 invariant-loop-place l = l.index ≡ rows_at l.candidates (take l.place-index l.places)

@@ -2,7 +2,7 @@ use Rattle.std.proofs.Common.{subst, List, Bool, length}
 use Rattle.std.proofs.lemmas.Result.{on_ok_weaker}
 use Rattle.build_store.specs.Survey.{DoomsUnmarked}
 use Rattle.build_store.proofs.Opened.{unbelieved_is}
-use Rattle.build_store.proofs.opening.doom_unbelieved.Goals as goal
+use Rattle.build_store.proofs.judging.doom_unbelieved.Goals as goal
 
 pub returns : goal.returns
 returns c =

@@ -5,7 +5,7 @@ use Rattle.build_store.specs.Sound.{row_of_stored}
 use Rattle.build_store.specs.Survey.{IsGood}
 use Rattle.build_store.proofs.Surveyed.{each_of}
 use Rattle.build_store.proofs.Indexed.{believed_at, new_name, rows_more}
-use Rattle.build_store.proofs.opening.rows_of.Goals as goal
+use Rattle.build_store.proofs.judging.rows_of.Goals as goal
 
 pub add_candidate-requires-clause-good : goal.add_candidate-requires-clause-good
 add_candidate-requires-clause-good c =
