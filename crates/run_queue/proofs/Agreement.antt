@@ -1,5 +1,5 @@
 -- What is known of a plan's tasks agrees with what the definitions say is there and needed, as far as a run asks.
-use Rattle.std.proofs.Common.{◌≡◌, ◌∙◌, sym, ap, subst, refl, ℕ, ◌+◌, ◌<◌, zero, suc, arith, Bool, true, false, List, [], ◌∷◌, ◌++◌, length, get_or, length-append, replicate, Some, None, inl, inr}
+use Rattle.std.proofs.Common.{◌≡◌, ◌∙◌, sym, ap, subst, refl, ℕ, ◌+◌, ◌<◌, zero, suc, arith, Bool, true, false, List, [], ◌∷◌, ◌++◌, length, get_or, replicate, Some, None, inl, inr}
 use Rattle.std.specs.Prelude.{◌⊎◌, ◌≢◌, All, Option, IfSome, if◌then◌else◌}
 use Rattle.std.specs.List.{slice_get}
 use Rattle.std.proofs.lemmas.Bool.{cases_eq, false≢true}
@@ -19,9 +19,10 @@ use Rattle.run_core.specs.Need.{IsClosed, IsIn, IsNeed, deps_of}
 use Rattle.run_core.proofs.Marking.{fate_kept, fate_set}
 use Rattle.run_core.proofs.Seats.{by_fronts, settled_kept}
 use Rattle.run_core.proofs.Steps.{count_told, told_push}
-use Rattle.store_model.specs.Signatures.{Signed, signature, signatures, signed_from}
+use Rattle.store_model.specs.Signatures.{signatures}
 use Rattle.store_model.specs.declared.signature.EquivRow.{EquivRow}
 use Rattle.store_model.proofs.Needing.{available_one_way}
+use Rattle.setscene_plan.proofs.Naming.{signed_count}
 use Rattle.run_queue.specs.Opening.{Opening}
 use Rattle.run_queue.specs.Courses.{IsThere, IsThereOver}
 use Rattle.run_queue.specs.Keeps.{IsRun, IsUpToDate, WasThere}
@@ -260,16 +261,6 @@ module _ (plan : Plan) (need other : List Bool) (avail others : List Avail) (fat
   }
 
 -- ---- what a run knows
-
-count_from : (rows : List EquivRow) (before : List Signed) (tasks : List PlanTask) → length (signed_from rows before tasks) ≡ length before + length tasks
-count_from rows before [] = omega arith
-count_from rows before (task ∷ tasks) =
-    let s : Signed = record { task = task; sig = signature rows before task } in
-    let rest = count_from rows (before ++ s ∷ []) tasks in
-    omega (arith, rest, length-append before (s ∷ []))
-
-pub signed_count : (rows : List EquivRow) (tasks : List PlanTask) → length (signatures rows tasks) ≡ length tasks
-signed_count rows tasks = let counted = count_from rows [] tasks in omega (arith, counted)
 
 -- the place of a list that is as long holds something
 at_place : {A B : Type 0} (xs : List A) (ys : List B) (t : ℕ) (x : A) → slice_get xs t ≡ Some x → length ys ≡ length xs → (y : B) × (slice_get ys t ≡ Some y)

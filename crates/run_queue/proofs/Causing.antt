@@ -1,5 +1,5 @@
 -- A fault that is kept has its cause, and a task that breaks off by one had one kept.
-use Rattle.std.proofs.Common.{◌≡◌, ◌∙◌, sym, ap, subst, refl, ℕ, ◌<◌, arith, Bool, true, false, List, [], ◌∷◌, ◌++◌, Option, Some, None}
+use Rattle.std.proofs.Common.{◌≡◌, ◌∙◌, sym, ap, subst, refl, ℕ, arith, true, false, List, [], ◌∷◌, ◌++◌, Option, Some, None}
 use Rattle.std.specs.Prelude.{IfSome, IsSome, ◌||◌}
 use Rattle.std.specs.List.{slice_get}
 use Rattle.std.proofs.lemmas.Bool.{false≢true}
@@ -32,7 +32,6 @@ use Rattle.task_worker.specs.declared.given.Given.{Given}
 use Rattle.task_worker.specs.declared.given.Given.TheVariants as givens
 use Rattle.run_queue.specs.declared.fault.RunFault.{RunFault}
 use Rattle.run_queue.specs.declared.fault.RunFault.TheVariants as ends
-use Rattle.run_queue.specs.Asking.{IsUnknown}
 use Rattle.run_queue.specs.Causes.{IsClashOf, IsOfGiven, IsStoreCause, IsStoreOfGiven, IsUnsteadyOf, fault_broke, is_fault_break}
 use Rattle.run_queue.specs.Keeps.{IsSteady}
 use Rattle.run_queue.specs.Puts.{IsSignedAt}
@@ -121,13 +120,6 @@ steady_given tasks number g (Some (ends.Store (fault_of.Collision name held give
 steady_given tasks number g (Some (ends.Store (fault_of.Unsteady pn task held given))) is = absurd is
 steady_given tasks number g (Some (ends.Store fault_of.Memory)) is = tt
 steady_given tasks number g (Some ends.Write) is = tt
-
--- Why a fault is kept by which nothing is known.
-pub unknown_cause : (plan : Plan) (rows : List EquivRow) (before now : ℕ) (f : StoreFault) → IsUnknown plan rows before now f → IsStoreCause now plan rows f
-unknown_cause plan rows before now fault_of.Disk is = is
-unknown_cause plan rows before now (fault_of.Collision name held given) is = is
-unknown_cause plan rows before now (fault_of.Unsteady pn task held given) is = absurd is
-unknown_cause plan rows before now fault_of.Memory is = tt
 
 -- ---- tasks that break off
 

@@ -31,10 +31,10 @@ use Rattle.build_store.specs.Paths.{HasPlace, IsOnePart, slashes}
 use Rattle.build_store.specs.Publication.{KeepsOthers, Publication, Publishes}
 use Rattle.build_store.proofs.Clean.{hash_is_name, name_slashes}
 use Rattle.build_store.proofs.Others.{others_stay, others_untouched}
+use Rattle.setscene_plan.proofs.Naming.{signed_count}
 use Rattle.run_queue.specs.Opening.{Opening}
 use Rattle.run_queue.specs.Books.{book_after, book_by, rows_after, signed_after}
 use Rattle.run_queue.specs.Stands.{HasEnded, HasOwnRow, IsStanding}
-use Rattle.run_queue.proofs.Agreement.{signed_count}
 use Rattle.run_queue.proofs.Aside.{object_on, work_on}
 use Rattle.run_queue.proofs.Clearing.{unihash_is}
 use Rattle.run_queue.proofs.Placing.{has_place}

@@ -49,7 +49,8 @@ use Rattle.run_queue.specs.Keeps.{IsRun, IsUpToDate, WasThere}
 use Rattle.run_queue.specs.Seen.{IsBegun, Known, Seen}
 use Rattle.run_queue.specs.Stands.{HasEnded, IsStanding, HasOwnRow}
 use Rattle.store_model.proofs.Standing.{row_found}
-use Rattle.run_queue.proofs.Agreement.{signed_count, some_known}
+use Rattle.setscene_plan.proofs.Naming.{signed_count}
+use Rattle.run_queue.proofs.Agreement.{some_known}
 use Rattle.run_queue.proofs.Answered.{AgreesOn, agrees_back, no_collision, one_signature, unbegun, work_on}
 use Rattle.run_queue.proofs.Claiming.{claim_may_come}
 use Rattle.run_queue.proofs.Growing.{book_grows}

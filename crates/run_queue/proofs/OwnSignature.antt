@@ -1,5 +1,5 @@
 -- The signature of a task by what is known of a plan's tasks is its own, and has one spelling.
-use Rattle.std.proofs.Common.{◌≡◌, ◌∙◌, sym, ap, subst, refl, ℕ, zero, suc, ◌<◌, ◌≤◌, arith, Bool, true, false, List, [], ◌∷◌, ◌++◌, length, get_or, map, All, Option, Some, None, inl, inr, ◌⊎◌}
+use Rattle.std.proofs.Common.{◌≡◌, ◌∙◌, sym, ap, subst, refl, ℕ, zero, suc, ◌<◌, ◌≤◌, arith, Bool, true, false, List, [], ◌∷◌, ◌++◌, length, get_or, map, Option, Some, None, inl, inr, ◌⊎◌}
 use Rattle.std.specs.Prelude.{◌||◌, slice_index_or}
 use Rattle.std.specs.List.{AllByRecursion, list_any, slice_get}
 use Rattle.std.proofs.lemmas.Bool.{false≢true}
@@ -11,7 +11,6 @@ use Rattle.meta_model.specs.declared.plan.Plan.{Plan}
 use Rattle.meta_model.specs.declared.plan.PlanTask.{PlanTask}
 use Rattle.meta_model.specs.CleanBuild.{Entries, exceeds, is_beyond, is_long, output_limit}
 use Rattle.tree_model.specs.Size.{size_of}
-use Rattle.run_core.specs.Need.{AreOrdered, deps_in}
 use Rattle.plan_model.specs.Sound.{IsSound}
 use Rattle.plan_model.proofs.Meets.{sound_meets}
 use Rattle.store_model.specs.declared.signature.EquivRow.{EquivRow}
@@ -43,6 +42,7 @@ use Rattle.run_queue.specs.Causes.{IsStoreCause}
 use Rattle.run_queue.specs.Puts.{HasPutObject, IsSignedAt}
 use Rattle.run_queue.proofs.Causing.{clash_cause}
 use Rattle.run_queue.proofs.Enduring.{signed_task}
+use Rattle.run_queue.proofs.Known.{sound_ordered}
 
 -- ---- a sound plan's signatures
 
@@ -67,13 +67,6 @@ at_of P (y ∷ xs) (suc t) x all is = at_of P xs t x all.1 is
 
 pub is_own : (plan : Plan) (rows : List EquivRow) (t : ℕ) (s : Signed) → IsSound plan → slice_get (signatures rows plan.tasks) t ≡ Some s → IsOwn s
 is_own plan rows t s sound is = at_of IsOwn (signatures rows plan.tasks) t s (own_from rows [] plan.tasks tt (sound_plan_is_sound plan (sound_meets plan sound))) is
-
-pub ordered : (plan : Plan) → IsSound plan → AreOrdered plan.tasks
-ordered plan sound t = by (slice_get plan.tasks t) refl
-  where
-    by : (x : Option PlanTask) → slice_get plan.tasks t ≡ x → All (λ d. d < t) (deps_in (slice_get plan.tasks t))
-    by None e = subst (λ (o : Option PlanTask). All (λ d. d < t) (deps_in o)) (sym e) (λ k d lt. absurd (omega arith))
-    by (Some task) e = subst (λ (o : Option PlanTask). All (λ d. d < t) (deps_in o)) (sym e) (sound.tasks t task e).below
 
 -- ---- outputs within the limits
 
@@ -123,7 +116,7 @@ known_signature plan rows None t task sig s sound at current known by is = absur
 known_signature plan rows (Some r) t task sig s sound at current known by is =
     let are : AreNamed rows plan.tasks (names_in r) (unihashes_in r) = record { long = current.made.long; wide = current.made.wide; named = current.made.named; hashed = current.hashed } in
     let same = signed_task rows plan.tasks t s task is at in
-    let own = signed_is rows plan.tasks (names_in r) (unihashes_in r) (ordered plan sound) are t s is in
+    let own = signed_is rows plan.tasks (names_in r) (unihashes_in r) (sound_ordered plan sound) are t s is in
     let sigs : s.sig ≡ sig = sym own ∙ ap (signature_by plan.tasks (unihashes_in r)) same ∙ sym (by task at) in
     λ i. record { task = same i; sig = sigs i }
 

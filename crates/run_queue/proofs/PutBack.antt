@@ -48,6 +48,7 @@ use Rattle.build_store.specs.Named.{IsName}
 use Rattle.build_store.specs.Publication.{HasNoObject, IsObjectOf, KeepsOthers, Publishes, Restores, RestoresObject, record_file, restoration}
 use Rattle.build_store.proofs.Others.{others_untouched}
 use Rattle.build_store.proofs.Validity.{published_is_valid}
+use Rattle.setscene_plan.proofs.Naming.{signed_count}
 use Rattle.run_queue.specs.Opening.{HasFolders, Opening}
 use Rattle.run_queue.specs.declared.fault.RunFault.{RunFault}
 use Rattle.run_queue.specs.Keeps.{IsRun, IsRunBut, IsUpToDate, WasThere}
@@ -55,7 +56,7 @@ use Rattle.run_queue.specs.Seen.{IsBegun, Known, Seen}
 use Rattle.run_queue.specs.Own.{IsAside}
 use Rattle.run_queue.specs.Stands.{AllStand, HasEnded, HasStarted, IsAsBegun, IsLeft, KeepObjects}
 use Rattle.run_queue.proofs.Touched.{aside_less, told_halted, tried_as, tried_besides}
-use Rattle.run_queue.proofs.Agreement.{signed_count, some_known}
+use Rattle.run_queue.proofs.Agreement.{some_known}
 use Rattle.run_queue.proofs.Aside.{aside_stays, folders_on, honest_on, object_stays}
 use Rattle.run_queue.proofs.Concluding.{later_moment}
 use Rattle.run_queue.proofs.Enduring.{differ_at, front_book, keeps_object, standing_on}

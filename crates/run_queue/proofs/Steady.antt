@@ -4,7 +4,6 @@ use Rattle.std.specs.Prelude.{IfErr, Option}
 use Rattle.tree_model.specs.declared.hash.Hash.{Hash}
 use Rattle.tree_model.specs.Manifest.{manifest_lines}
 use Rattle.meta_model.specs.CleanBuild.{Entries}
-use Rattle.meta_model.specs.declared.plan.Plan.{Plan}
 use Rattle.run_core.specs.declared.fate.Fate.TheVariants as fate
 use Rattle.run_core.specs.Fates.{fate_at, fates_told}
 use Rattle.run_core.specs.History.{EachAfter, IsOrderly}
@@ -21,7 +20,6 @@ use Rattle.build_store.specs.Publication.{IsAgreed, publication}
 use Rattle.build_store.specs.declared.fault.StoreFault.{StoreFault}
 use Rattle.build_store.specs.declared.fault.StoreFault.TheVariants as fault_of
 use Rattle.run_queue.specs.declared.fault.RunFault.{RunFault}
-use Rattle.run_queue.specs.Asking.{IsUnknown}
 use Rattle.run_queue.specs.Keeps.{IsRun, IsSteady, IsSteadyAnswer, IsUpToDate}
 use Rattle.run_queue.specs.Opening.{Opening}
 use Rattle.run_queue.specs.Puts.{IsCleanOutput, IsSignedAt}
@@ -34,12 +32,6 @@ use Rattle.run_queue.proofs.Turning.{IsReady, ready}
 pub steady_none : (f : Option RunFault) → f ≡ None → IsSteady f
 steady_none None e = tt
 steady_none (Some f) e = absurd (let n : Some f ≡ None = e in cc)
-
-pub unknown_steady : (plan : Plan) (rows : List EquivRow) (before now : ℕ) (f : StoreFault) → IsUnknown plan rows before now f → IsSteadyAnswer f
-unknown_steady plan rows before now fault_of.Disk is = tt
-unknown_steady plan rows before now (fault_of.Collision name held given) is = tt
-unknown_steady plan rows before now (fault_of.Unsteady pn task held given) is = is
-unknown_steady plan rows before now fault_of.Memory is = tt
 
 pub outside_steady : (f : StoreFault) → IsOutside f → IsSteadyAnswer f
 outside_steady fault_of.Disk is = tt

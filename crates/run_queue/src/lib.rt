@@ -5,9 +5,10 @@
 //!
 //! What every state keeps, whatever the disk tells, is the record `IsState` (`specs/Keeps`): each event could be marked, by its seat;
 //! settled tasks have rows; while no fault is kept neither disk nor sink has failed, nor did a task break off by one, and a kept one has its
-//! cause (`specs/Causes`). What a run keeps besides, over an opening whose premises hold, is the record `IsRun`: the book grows by what ended, the tale is legal, settled tasks stand,
-//! whatever a crash left is valid, and has what isn't the own of begun tasks as it was (`IsLeft`), and what was begun is started or restored in the
-//! tale, but for one task where a fault is kept. The turns keep it for every opening.
+//! cause (`specs/Causes`). What a run keeps besides, over an opening whose premises hold, is the record `IsRun`: the book grows by what
+//! ended, the tale is legal, settled tasks stand, whatever a crash left is valid, and has what isn't the own of begun tasks as it was
+//! (`IsLeft`), and what was begun is started or restored in the tale, but for one task where a fault is kept. The turns keep it for every
+//! opening.
 #![tactic(auto)]
 
 mod claims;
