@@ -45,7 +45,7 @@ fn run_over<B: Bench>(
 ) -> Result<Text, BenchFault>
     requires { IsClean path.now }
 {
-    bench.clear(alloc)?;
+    bench.clear(alloc, "hello", "do_build")?;
     bench.put(alloc, path, entry)?;
     let status = bench.run(alloc, script)?;
     if status != 0 {

@@ -151,12 +151,12 @@ impl<B: Bench> Bench for GateBench<B> {
 
     ghost faults = { gate_faults };
 
-    fn clear(&mut self, alloc: Global) -> Result<(), BenchFault>
+    fn clear(&mut self, alloc: Global, recipe: &str, task: &str) -> Result<(), BenchFault>
         ensures told { B.tells → Clears (B.place (gated self.old)) (B.place (gated self.new)) result }
         ensures gives { B.gives (gated self.new) ≡ B.gives (gated self.old) }
         ensures cause { Counts (gate_faults self.old) (gate_faults self.new) (bench_failed result) }
     {
-        let answer = self.bench.clear(alloc);
+        let answer = self.bench.clear(alloc, recipe, task);
         self.count(answer)
     }
 

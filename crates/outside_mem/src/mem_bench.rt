@@ -44,7 +44,7 @@ impl Bench for MemBench {
 
     ghost faults = { λ _. 0 };
 
-    fn clear(&mut self, alloc: Global) -> Result<(), BenchFault>
+    fn clear(&mut self, alloc: Global, _recipe: &str, _task: &str) -> Result<(), BenchFault>
         ensures told { Clears (mem_place self.old) (mem_place self.new) result }
         ensures cause { Counts 0 0 (bench_failed result) }
     {

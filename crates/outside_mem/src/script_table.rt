@@ -71,7 +71,7 @@ impl Bench for ScriptTable {
 
     ghost faults = { table_faults };
 
-    fn clear(&mut self, alloc: Global) -> Result<(), BenchFault>
+    fn clear(&mut self, alloc: Global, _recipe: &str, _task: &str) -> Result<(), BenchFault>
         ensures told { Clears (table_place self.old) (table_place self.new) result }
         ensures gives { table_gives self.new ≡ table_gives self.old }
         ensures cause { Counts (table_faults self.old) (table_faults self.new) (bench_failed result) }

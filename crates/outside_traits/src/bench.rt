@@ -36,8 +36,9 @@ pub trait Bench {
     /// How often the bench has failed, up to 2^64 - 1.
     ghost faults: { Self → ℕ };
 
-    /// Takes away all that is laid, and what the last run left.
-    fn clear(&mut self, alloc: Global) -> Result<(), BenchFault>
+    /// Takes away all that is laid, and what the last run left, for the work of a task of a recipe. What a script gives doesn't
+    /// depend on these names: by them a bench may choose where a task's work stands, the same place each time, and say whose it is.
+    fn clear(&mut self, alloc: Global, recipe: &str, task: &str) -> Result<(), BenchFault>
         ensures told { tells → Clears (place self.old) (place self.new) result }
         ensures gives { gives self.new ≡ gives self.old }
         ensures cause { Counts (faults self.old) (faults self.new) (bench_failed result) };

@@ -22,9 +22,9 @@ abbrev pub OneTask : Type 0
 OneTask = (gives : Gives) (tasks : List PlanTask) (n : ℕ) (task : PlanTask) (outputs : List (ℕ × Entries)) → slice_get tasks n ≡ Some task → AllByRecursion (λ d. d < n) task.deps → map (λ o. o.0) outputs ≡ task.deps → AreClean gives tasks outputs
     → Has gives tasks n (by_itself (task_output gives task.script task.sstate task.places (layout_over tasks task outputs)))
 
--- how a task's output is taken
+-- whose work it is, and how a task's output is taken
 abbrev pub placing_of : PlanTask → Placing
-placing_of task = record { sstate = task.sstate; places = task.places }
+placing_of task = record { id = task.id; sstate = task.sstate; places = task.places }
 
 -- the job of a task over a layout
 abbrev pub job_of : ℕ → PlanTask → Entries → Job

@@ -1,10 +1,13 @@
 // A job, and what comes of it.
+use meta_model::TaskId;
 use outside_traits::BenchFault;
 use tree_model::{ListOf, Manifest, Mem, Text, Tree};
 
-/// How a task's output is taken from its work tree.
+/// Whose work a job is, and how the task's output is taken from its work tree.
 #[derive(Debug, Drop)]
 pub struct Placing {
+    /// The task, by which a bench may choose a place for its work.
+    pub id: TaskId,
     /// Whether the output is kept as a shared state object.
     pub sstate: bool,
     /// Of such a task: folders of the work tree, each with the folder of the output to which it goes.

@@ -11,7 +11,7 @@ ghost use Rattle.task_worker.specs.OneTask.{job_of};
 use crate::given::{Given, Job, Placing, WorkFault};
 use crate::laying::lay_over;
 use crate::running::{Left, is_fit, ran};
-use meta_model::PlanTask;
+use meta_model::{PlanTask, TaskId};
 use outside_traits::{Bench, BenchFault};
 use std::alloc::Global;
 use tree_model::{ListOf, Mem, Text, Tree, TreeFault, manifest_of};
@@ -101,13 +101,25 @@ fn copy_places(alloc: Global, places: &[(Text, Text)]) -> Result<ListOf<(Text, T
     Ok(made)
 }
 
+/// The same name of a task again.
+fn copy_id(id: &TaskId) -> Result<TaskId, Mem>
+    ensures { IfOk result (λ made. made ≡ id.now) }
+{
+    let mc = id.mc.copy()?;
+    let pn = id.pn.copy()?;
+    let task = id.task.copy()?;
+    Ok(TaskId { mc, pn, task })
+}
+
 /// The job of a task of a plan over its layout.
 pub fn job_over(alloc: Global, number: u32, task: &PlanTask, layout: Tree) -> Result<Job, Mem>
     ensures { IfOk result (λ job. job ≡ job_of number task.now layout) }
 {
     let script = task.script.copy()?;
     let places = copy_places(alloc, task.places.as_slice())?;
+    let id = copy_id(&task.id)?;
     let placing = Placing {
+        id,
         sstate: task.sstate,
         places,
     };

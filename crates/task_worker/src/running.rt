@@ -48,15 +48,16 @@ fn put_all<B: Bench>(alloc: Global, bench: &mut B, layout: &Tree) -> Result<(), 
     Ok(())
 }
 
-/// Takes away what the last run left, and lays a tree.
-fn lay<B: Bench>(alloc: Global, bench: &mut B, layout: &Tree) -> Result<(), BenchFault>
-    ensures laid { OnOk result (B.tells → IsLaid layout.now (B.place bench.new)) }
+/// Takes away what the last run left, and lays a job's layout.
+fn lay<B: Bench>(alloc: Global, bench: &mut B, job: &Job) -> Result<(), BenchFault>
+    ensures laid { OnOk result (B.tells → IsLaid job.now.layout (B.place bench.new)) }
     ensures runs { B.tells → (B.place bench.new).runs ≡ (B.place bench.old).runs }
     ensures gives { B.gives bench.new ≡ B.gives bench.old }
     ensures cause { Counts (B.faults bench.old) (B.faults bench.new) (bench_failed result) }
 {
-    bench.clear(alloc)?;
-    put_all(alloc, bench, layout)
+    let id = &job.placing.id;
+    bench.clear(alloc, id.pn.as_str(), id.task.as_str())?;
+    put_all(alloc, bench, &job.layout)
 }
 
 /// Runs the job's script over its layout.
@@ -67,7 +68,7 @@ fn run_once<B: Bench>(alloc: Global, bench: &mut B, job: &Job) -> Result<u32, Be
     ensures gives { B.gives bench.new ≡ B.gives bench.old }
     ensures cause { Counts (B.faults bench.old) (B.faults bench.new) (bench_failed result) }
 {
-    lay(alloc, bench, &job.layout)?;
+    lay(alloc, bench, job)?;
     bench.run(alloc, job.script.as_str())
 }
 
