@@ -5,12 +5,12 @@ use crate::ahead::ReadAhead;
 use crate::faults::{FirstFault, is_memory, one_more};
 use crate::folder::{
     FileFacts, entry_of, is_empty, is_entry, join, lay_entry, look, look_through, move_entry,
-    no_memory, put_joined, read_unchanged,
+    put_joined, read_unchanged,
 };
 use crate::listed::{Listed, Listing, Seen};
 use crate::lock::{BENCHES_FOLDER, LOCK, Locking};
 use crate::seen::SeenFolders;
-use crate::walk::{Part, list_items};
+use crate::walk::{Part, WalkFault, walk_part};
 use outside_traits::{Disk, DiskFault};
 use std::alloc::{AllocError, Global};
 use std::collections::BTreeSet;
@@ -137,6 +137,34 @@ impl<'a, R: AllocGlobal> FolderDisk<'a, R> {
         }
     }
 
+    /// Counts a listing, and the fault where it failed at a place from the current folder.
+    fn count_listing<T: Drop>(
+        &mut self,
+        prefix: &str,
+        done: Result<T, WalkFault>,
+    ) -> Result<T, DiskFault>
+        ensures { Counts self.old.faults self.new.faults (disk_failed result) }
+    {
+        match done {
+            Ok(value) => self.count("listing", prefix, Ok(value)),
+            Err(fault) => {
+                if let Some(place) = &fault.place {
+                    self.note_at("listing", place.as_str(), &fault.error);
+                }
+                self.count("listing", prefix, Err(fault.error))
+            }
+        }
+    }
+
+    /// Keeps what is said of a fault at a place from the current folder.
+    fn note_at(&mut self, call: &str, place: &str, error: &io::Error)
+        ensures { self.new.faults ≡ self.old.faults }
+    {
+        if !is_memory(error) {
+            self.first.keep(self.folder.rt.alloc(), call, place, error);
+        }
+    }
+
     /// Keeps what is said of a fault.
     fn note(&mut self, call: &str, path: &str, error: &io::Error)
         ensures { self.new.faults ≡ self.old.faults }
@@ -200,7 +228,7 @@ impl<R: Files + Locking + AllocGlobal + Clone + Drop> Disk for FolderDisk<'_, R>
 
     fn list(&mut self, alloc: Global, prefix: &str) -> Result<Texts, DiskFault> {
         let paths = self.folder.list(alloc, prefix);
-        self.count("listing", prefix, paths)
+        self.count_listing(prefix, paths)
     }
 
     fn sync(&mut self) -> Result<(), DiskFault> {
@@ -319,20 +347,20 @@ impl<'a, R: Files + Locking + AllocGlobal + Clone + Drop> BuildFolder<'a, R> {
         }
     }
 
-    fn list(&mut self, alloc: Global, prefix: &str) -> io::Result<Texts> {
+    fn list(&mut self, alloc: Global, prefix: &str) -> Result<Texts, WalkFault> {
         self.hold()?;
         if let Some(listing) = self.listing_ahead(prefix) {
             self.listed.take(listing);
-            return listing.texts(alloc);
+            return Ok(listing.texts(alloc)?);
         }
         self.listed.forget();
         let mut paths = Texts::new(alloc);
-        for item in list_items(&self.rt, &part_of(prefix), u64::MAX)?
+        for item in walk_part(&self.rt, &part_of(prefix), u64::MAX)?
             .into_iter()
             .flatten()
         {
             self.listed.put(item.path.as_str(), item.facts)?;
-            paths.push(item.path).map_err(no_memory)?;
+            paths.push(item.path)?;
         }
         Ok(paths)
     }
@@ -391,6 +419,7 @@ pub fn part_of(prefix: &str) -> Part<'_> {
         prefix,
         hidden: BENCHES,
         opens: false,
+        notes: false,
     }
 }
 

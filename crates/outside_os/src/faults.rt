@@ -19,6 +19,35 @@ pub fn is_memory(error: &io::Error) -> bool {
     error.kind() == ErrorKind::OutOfMemory
 }
 
+/// Bytes as text: those that are no UTF-8, and those of control characters, as `\xff`.
+pub fn escaped(alloc: Global, bytes: &[u8]) -> Result<String, AllocError> {
+    let mut text = String::with_capacity(alloc, bytes.len())?;
+    put_escaped(&mut text, bytes)?;
+    Ok(text)
+}
+
+/// Puts bytes as text behind a text.
+pub fn put_escaped(text: &mut String, bytes: &[u8]) -> Result<(), AllocError> {
+    for chunk in bytes.utf8_chunks() {
+        for character in chunk.valid().chars() {
+            put_plain(text, character)?;
+        }
+        for byte in chunk.invalid() {
+            write!(text, "\\x{byte:02x}")?;
+        }
+    }
+    Ok(())
+}
+
+/// Puts a character behind a text, a control character escaped.
+fn put_plain(text: &mut String, character: char) -> Result<(), AllocError> {
+    let code = character as u32;
+    if code < 32 || code == 127 {
+        return write!(text, "\\x{code:02x}");
+    }
+    text.push(character)
+}
+
 /// What a device says of its first fault: which call it was, at which place, and what the system said. Later faults
 /// often follow from the first, so they are counted alone. Where there is no memory for the sentence there is none.
 #[derive(Drop)]

@@ -2,11 +2,11 @@
 ghost use Rattle.std.specs.Prelude.{None};
 
 use crate::faults::{FirstFault, is_memory, one_more};
-use crate::folder::{leads_to_file, look_through, no_memory, read_bytes};
+use crate::folder::{leads_to_file, look_through, read_bytes};
 use crate::seen::SeenFolders;
-use crate::walk::{Part, list_items};
+use crate::walk::{Part, WalkFault, walk_noting};
 use outside_traits::{Layers, ReadFault};
-use std::alloc::Global;
+use std::alloc::{AllocError, Global};
 use std::io;
 use std::rt::Files;
 use tree_model::{Bytes, Texts, is_below, is_clean};
@@ -17,16 +17,20 @@ const HERE: &str = ".";
 /// Where what is built is kept: no part of the layers.
 const BUILT: &str = "build";
 
+/// The most remarks that are kept.
+const MOST_REMARKS: usize = 20;
+
 /// The files of the current folder, without those in its folder `build`.
 ///
 /// A link that leads to a file counts as that file. A linked folder isn't entered, by `read` no more than by `list`,
 /// so links can't lead round in a circle. Each folder is looked at once: a link that another program puts in its place after that is
-/// followed. It tells nothing.
+/// followed. A name that isn't UTF-8 is passed over, which a remark says where a listing came by it. It tells nothing.
 #[derive(Drop)]
 pub struct FolderLayers<R> {
     rt: R,
     faults: u64,
     first: FirstFault,
+    remarks: Vec<String>,
     seen: SeenFolders,
 }
 
@@ -36,11 +40,13 @@ impl<R: AllocGlobal> FolderLayers<R> {
 
     /// The current folder, without a fault so far.
     pub fn new(rt: R) -> Self {
+        let remarks = Vec::new(rt.alloc());
         let seen = SeenFolders::none(rt.alloc());
         FolderLayers {
             rt,
             faults: 0,
             first: FirstFault::none(),
+            remarks,
             seen,
         }
     }
@@ -48,6 +54,43 @@ impl<R: AllocGlobal> FolderLayers<R> {
     /// What is said of the first fault.
     pub fn first_fault(&self) -> Option<&str> {
         self.first.as_str()
+    }
+
+    /// What is said of the names that were passed over, at most twenty of them.
+    pub fn remarks(&self) -> &[String] {
+        self.remarks.as_slice()
+    }
+
+    /// Says of a path, escaped, that it was passed over, unless that was said.
+    fn remark(&mut self, path: &str) -> Result<(), AllocError>
+        ensures { self.new.faults ≡ self.old.faults }
+    {
+        let said = format!(in self.rt.alloc(); "{path}: its name isn't UTF-8, so no pattern names it")?;
+        let is_new = !self.remarks.iter().any(|old| old.as_str() == said.as_str());
+        if is_new && self.remarks.len() < MOST_REMARKS {
+            self.remarks.push(said)?;
+        }
+        Ok(())
+    }
+
+    /// Counts the fault where a listing failed.
+    fn count_listing<T: Drop>(
+        &mut self,
+        prefix: &str,
+        done: Result<T, WalkFault>,
+    ) -> Result<T, ReadFault>
+        ensures cause { Counts self.old.faults self.new.faults (read_failed result) }
+    {
+        match done {
+            Ok(value) => Ok(value),
+            Err(fault) => match fault.place {
+                Some(place) => {
+                    let shown = place.as_str().strip_prefix("./").unwrap_or(place.as_str());
+                    self.count("listing", shown, Err(fault.error))
+                }
+                None => self.count("listing", prefix, Err(fault.error)),
+            },
+        }
     }
 
     /// Counts the fault where a call of the system failed, for a call at a path.
@@ -89,20 +132,34 @@ fn length_of<R: Files + AllocGlobal>(
 }
 
 impl<R: Files + AllocGlobal + Clone + Drop> FolderLayers<R> {
-    fn try_list(&self, alloc: Global, prefix: &str) -> io::Result<Texts> {
+    fn try_list(&mut self, alloc: Global, prefix: &str) -> Result<Texts, WalkFault>
+        ensures { self.new.faults ≡ self.old.faults }
+    {
         let part = Part {
             root: HERE,
             prefix,
             hidden: BUILT,
             opens: false,
+            notes: true,
         };
+        let (items, odd) = walk_noting(&self.rt, &part)?;
+        for path in &odd {
+            self.remark(path.as_str())?;
+        }
         let mut paths = Texts::new(alloc);
-        for item in list_items(&self.rt, &part, u64::MAX)?.into_iter().flatten() {
-            if item.facts.is_file() || leads_to_file(&self.rt, item.path.as_str())? {
-                paths.push(item.path).map_err(no_memory)?;
+        for item in items {
+            if item.facts.is_file() || self.leads_to_file(item.path.as_str())? {
+                paths.push(item.path)?;
             }
         }
         Ok(paths)
+    }
+
+    fn leads_to_file(&self, path: &str) -> Result<bool, WalkFault> {
+        match leads_to_file(&self.rt, path) {
+            Ok(leads) => Ok(leads),
+            Err(error) => Err(WalkFault::at(self.rt.alloc(), path, error)),
+        }
     }
 }
 
@@ -129,6 +186,6 @@ impl<R: Files + AllocGlobal + Clone + Drop> Layers for FolderLayers<R> {
 
     fn list(&mut self, alloc: Global, prefix: &str) -> Result<Texts, ReadFault> {
         let paths = self.try_list(alloc, prefix);
-        self.count("listing", prefix, paths)
+        self.count_listing(prefix, paths)
     }
 }

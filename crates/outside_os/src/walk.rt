@@ -1,12 +1,15 @@
 // The files and links under a folder.
+use crate::faults::{escaped, put_escaped};
 use crate::folder::{
-    FileFacts, is_absent, is_entry, is_folder, is_too_long, join, open_folder, put_joined,
+    FileFacts, is_absent, is_entry, is_folder, is_too_long, join, no_memory, open_folder,
+    put_joined,
 };
+use std::alloc::{AllocError, AllocFailed, Global};
 use std::fs::Metadata;
 use std::io::{ErrorKind, Read};
 use std::rt::Files;
 use std::{fs, io, str};
-use tree_model::{Text, is_below, is_clean};
+use tree_model::{Mem, Text, is_below, is_clean};
 
 /// For how many bytes of names there is room at a time.
 const ROOM: usize = 16_384;
@@ -16,13 +19,14 @@ const IN_A_ROW: u32 = 8;
 
 /// A part of a real folder: what stands at the paths inside `root` that begin with `prefix`. The folder `hidden` of
 /// the root isn't entered. Where `opens` is set, folders that the owner may not read are opened up, and a root that is
-/// a link has nothing.
+/// a link has nothing. A name that isn't UTF-8 is an error, or passed over and noted where `notes` is set.
 #[derive(Clone, Copy)]
 pub struct Part<'a> {
     pub root: &'a str,
     pub prefix: &'a str,
     pub hidden: &'a str,
     pub opens: bool,
+    pub notes: bool,
 }
 
 impl<'a> Part<'a> {
@@ -33,6 +37,7 @@ impl<'a> Part<'a> {
             prefix: "",
             hidden: "",
             opens: false,
+            notes: false,
         }
     }
 
@@ -43,6 +48,7 @@ impl<'a> Part<'a> {
             prefix: "",
             hidden: "",
             opens: true,
+            notes: false,
         }
     }
 }
@@ -61,11 +67,79 @@ struct Place {
     is_seen: bool,
 }
 
+/// Why a walk ended: what the system said of which place, by its path from the current folder, in which bytes that are no
+/// plain text are escaped. Where there is no memory for the path there is none.
+#[derive(Drop)]
+pub struct WalkFault {
+    pub place: Option<String>,
+    pub error: io::Error,
+}
+
+impl WalkFault {
+    /// What the system said of a place.
+    pub fn at(alloc: Global, place: &str, error: io::Error) -> Self {
+        WalkFault {
+            place: escaped(alloc, place.as_bytes()).ok(),
+            error,
+        }
+    }
+}
+
+impl From<AllocError> for WalkFault {
+    fn from(error: AllocError) -> Self {
+        WalkFault {
+            place: None,
+            error: io::Error::from(error),
+        }
+    }
+}
+
+impl<T: Drop> From<AllocFailed<T>> for WalkFault {
+    fn from(failed: AllocFailed<T>) -> Self {
+        WalkFault::from(AllocError::from(failed))
+    }
+}
+
+impl From<io::Error> for WalkFault {
+    fn from(error: io::Error) -> Self {
+        WalkFault { place: None, error }
+    }
+}
+
+impl From<Mem> for WalkFault {
+    fn from(fault: Mem) -> Self {
+        WalkFault {
+            place: None,
+            error: no_memory(fault),
+        }
+    }
+}
+
+/// An error of the system's says nothing of the place, and that of an odd name has as much of the path as there is room for.
+impl From<WalkFault> for io::Error {
+    fn from(fault: WalkFault) -> Self {
+        match fault.place {
+            Some(place) if is_odd(&fault.error) => {
+                io::Error::new(ErrorKind::InvalidFilename, place.as_str())
+            }
+            _ => fault.error,
+        }
+    }
+}
+
+/// Whether an error is that of a name that isn't UTF-8.
+fn is_odd(error: &io::Error) -> bool {
+    error.kind() == ErrorKind::InvalidFilename && !is_too_long(error)
+}
+
 /// What a walk has found, and what it has still to enter.
 #[derive(Drop)]
 struct Walk {
     items: Vec<Item>,
     places: Vec<Place>,
+
+    /// The paths inside the root whose last name isn't UTF-8, escaped, that were passed over.
+    odd: Vec<String>,
 
     /// How many folders were seen in a row where the walk is.
     in_a_row: u32,
@@ -76,15 +150,52 @@ struct Walk {
 
 /// The files and links of a part, in the order of their paths' bytes, or `None` where they are more than `max`.
 /// Follows no link, passes over what is neither file, folder nor link, and enters no folder whose path doesn't begin
-/// as the prefix does.
+/// as the prefix does. A name that isn't UTF-8 is an error whose text is its path, as far as there is room for it.
 pub fn list_items<R: Files + AllocGlobal>(
     rt: &R,
     part: &Part<'_>,
     max: u64,
 ) -> io::Result<Option<Vec<Item>>> {
+    Ok(walk_part(rt, part, max)?)
+}
+
+/// The same, with the place of an error.
+pub fn walk_part<R: Files + AllocGlobal>(
+    rt: &R,
+    part: &Part<'_>,
+    max: u64,
+) -> Result<Option<Vec<Item>>, WalkFault> {
+    let mut walk = walk_all(rt, part, max)?;
+    if walk.items.len() as u64 > max {
+        return Ok(None);
+    }
+    walk.items
+        .sort_by(|a, b| a.path.as_str().cmp(b.path.as_str()))?;
+    Ok(Some(walk.items))
+}
+
+/// All files and links of a part, in the order of their paths' bytes, and the paths that were passed over, escaped, since
+/// their last names aren't UTF-8.
+pub fn walk_noting<R: Files + AllocGlobal>(
+    rt: &R,
+    part: &Part<'_>,
+) -> Result<(Vec<Item>, Vec<String>), WalkFault> {
+    let mut walk = walk_all(rt, part, u64::MAX)?;
+    walk.items
+        .sort_by(|a, b| a.path.as_str().cmp(b.path.as_str()))?;
+    Ok((walk.items, walk.odd))
+}
+
+/// What stands in a part, or more of it than `max`.
+fn walk_all<R: Files + AllocGlobal>(
+    rt: &R,
+    part: &Part<'_>,
+    max: u64,
+) -> Result<Walk, WalkFault> {
     let mut walk = Walk {
         items: Vec::new(rt.alloc()),
         places: Vec::new(rt.alloc()),
+        odd: Vec::new(rt.alloc()),
         in_a_row: 0,
         whole: String::new(rt.alloc()),
     };
@@ -101,24 +212,29 @@ pub fn list_items<R: Files + AllocGlobal>(
         };
         enter(rt, part, &place, max, &mut room, &mut walk)?;
         if walk.items.len() as u64 > max {
-            return Ok(None);
+            break;
         }
     }
-    walk.items
-        .sort_by(|a, b| a.path.as_str().cmp(b.path.as_str()))?;
-    Ok(Some(walk.items))
+    Ok(walk)
 }
 
 /// The folder in which all paths with the prefix stand, if there is such a folder.
-fn first_folder<R: Files + AllocGlobal>(rt: &R, part: &Part<'_>) -> io::Result<Option<String>> {
+fn first_folder<R: Files + AllocGlobal>(
+    rt: &R,
+    part: &Part<'_>,
+) -> Result<Option<String>, WalkFault> {
     let Some((folder, _)) = part.prefix.rsplit_once('/') else {
         return Ok(Some(String::new(rt.alloc())));
     };
     let hidden = folder == part.hidden || is_below(part.hidden, folder);
-    if hidden || !is_clean(folder) || !is_folder(rt, part.root, folder)? {
+    if hidden || !is_clean(folder) {
         return Ok(None);
     }
-    Ok(Some(String::from_str(rt.alloc(), folder)?))
+    match is_folder(rt, part.root, folder) {
+        Ok(true) => Ok(Some(String::from_str(rt.alloc(), folder)?)),
+        Ok(false) => Ok(None),
+        Err(error) => Err(WalkFault::at(rt.alloc(), folder, error)),
+    }
 }
 
 /// Adds what stands in a folder, until more than `max` items are found; or what is no folder after all.
@@ -129,19 +245,37 @@ fn enter<R: Files + AllocGlobal>(
     max: u64,
     room: &mut [u8],
     walk: &mut Walk,
-) -> io::Result<()> {
-    let folder = place.path.as_str();
-    let whole = join(rt.alloc(), part.root, folder)?;
-    if part.opens && !open_folder(rt, whole.as_str())? {
-        return Ok(());
+) -> Result<(), WalkFault> {
+    let whole = match join(rt.alloc(), part.root, place.path.as_str()) {
+        Ok(whole) => whole,
+        Err(error) => return Err(WalkFault::at(rt.alloc(), place.path.as_str(), error)),
+    };
+    match enter_at(rt, part, place, whole.as_str(), walk) {
+        Ok(Some(names)) => add_names(rt, part, whole.as_str(), names, max, room, walk),
+        Ok(None) => Ok(()),
+        Err(error) => Err(WalkFault::at(rt.alloc(), whole.as_str(), error)),
     }
-    match open_names(rt, whole.as_str(), place.is_seen) {
-        Ok(names) => add_names(rt, part, whole.as_str(), names, max, room, walk),
+}
+
+/// Opens a folder, or adds what is none after all.
+fn enter_at<R: Files + AllocGlobal>(
+    rt: &R,
+    part: &Part<'_>,
+    place: &Place,
+    whole: &str,
+    walk: &mut Walk,
+) -> io::Result<Option<R::Dir>> {
+    if part.opens && !open_folder(rt, whole)? {
+        return Ok(None);
+    }
+    match open_names(rt, whole, place.is_seen) {
+        Ok(names) => Ok(Some(names)),
         Err(_) if !place.is_seen => {
-            let path = String::from_str(rt.alloc(), folder)?;
-            add_there(path, fs::symlink_metadata(rt, whole.as_str()), part, walk)
+            let path = String::from_str(rt.alloc(), place.path.as_str())?;
+            add_there(path, fs::symlink_metadata(rt, whole), part, walk)?;
+            Ok(None)
         }
-        Err(error) if is_absent(&error) && !is_too_long(&error) => Ok(()),
+        Err(error) if is_absent(&error) && !is_too_long(&error) => Ok(None),
         Err(error) => Err(error),
     }
 }
@@ -166,14 +300,20 @@ fn add_names<R: Files + AllocGlobal>(
     max: u64,
     room: &mut [u8],
     walk: &mut Walk,
-) -> io::Result<()> {
+) -> Result<(), WalkFault> {
     walk.in_a_row = 0;
     for _ in 0..u64::MAX {
-        let count = names.read(room)?;
+        let count = match names.read(room) {
+            Ok(count) => count,
+            Err(error) => return Err(WalkFault::at(rt.alloc(), folder, error)),
+        };
         if count == 0 {
             break;
         }
-        add_all(rt, part, folder, &room[..count], max, walk)?;
+        match str::from_utf8(&room[..count]) {
+            Ok(names) => add_all(rt, part, folder, names, max, walk)?,
+            Err(_) => add_each(rt, part, folder, &room[..count], max, walk)?,
+        }
         if walk.items.len() as u64 > max {
             break;
         }
@@ -186,13 +326,10 @@ fn add_all<R: Files + AllocGlobal>(
     rt: &R,
     part: &Part<'_>,
     folder: &str,
-    names: &[u8],
+    names: &str,
     max: u64,
     walk: &mut Walk,
-) -> io::Result<()> {
-    let Ok(names) = str::from_utf8(names) else {
-        return Err(io::Error::from(ErrorKind::InvalidFilename));
-    };
+) -> Result<(), WalkFault> {
     for name in names.split('\0') {
         if !name.is_empty() && name != "." && name != ".." {
             add_name(rt, part, folder, name, walk)?;
@@ -204,6 +341,66 @@ fn add_all<R: Files + AllocGlobal>(
     Ok(())
 }
 
+/// The same, where some name isn't UTF-8.
+fn add_each<R: Files + AllocGlobal>(
+    rt: &R,
+    part: &Part<'_>,
+    folder: &str,
+    names: &[u8],
+    max: u64,
+    walk: &mut Walk,
+) -> Result<(), WalkFault> {
+    for name in names.split(|byte| *byte == 0) {
+        match str::from_utf8(name) {
+            Ok(name) => add_all(rt, part, folder, name, max, walk)?,
+            Err(_) => add_odd(rt.alloc(), part, folder, name, walk)?,
+        }
+        if walk.items.len() as u64 > max {
+            break;
+        }
+    }
+    Ok(())
+}
+
+/// Notes a name that isn't UTF-8, where its path has the prefix; or that is an error.
+fn add_odd(
+    alloc: Global,
+    part: &Part<'_>,
+    folder: &str,
+    name: &[u8],
+    walk: &mut Walk,
+) -> Result<(), WalkFault> {
+    let above = inside(part.root, folder);
+    if !name.starts_with(rest_of(part.prefix, above).as_bytes()) {
+        return Ok(());
+    }
+    let shown = if part.notes { above } else { folder };
+    let mut place = escaped(alloc, shown.as_bytes())?;
+    if !place.is_empty() {
+        place.push('/')?;
+    }
+    put_escaped(&mut place, name)?;
+    if part.notes {
+        walk.odd.push(place)?;
+        return Ok(());
+    }
+    Err(WalkFault {
+        place: Some(place),
+        error: io::Error::new(ErrorKind::InvalidFilename, "its name isn't UTF-8"),
+    })
+}
+
+/// How a name in a folder has to begin for its path to have the prefix, where some path in that folder has it.
+fn rest_of<'a>(prefix: &'a str, folder: &str) -> &'a str {
+    if folder.is_empty() {
+        return prefix;
+    }
+    match prefix.strip_prefix(folder) {
+        Some(rest) => rest.strip_prefix('/').unwrap_or(""),
+        None => "",
+    }
+}
+
 /// Adds what has a name in a folder, where its path has the prefix.
 fn add_name<R: Files + AllocGlobal>(
     rt: &R,
@@ -211,7 +408,7 @@ fn add_name<R: Files + AllocGlobal>(
     folder: &str,
     name: &str,
     walk: &mut Walk,
-) -> io::Result<()> {
+) -> Result<(), WalkFault> {
     put_joined(&mut walk.whole, folder, name)?;
     let path = String::from_str(rt.alloc(), inside(part.root, walk.whole.as_str()))?;
     if !path.as_str().starts_with(part.prefix) {
@@ -225,7 +422,10 @@ fn add_name<R: Files + AllocGlobal>(
         return Ok(());
     }
     let metadata = fs::symlink_metadata(rt, walk.whole.as_str());
-    add_there(path, metadata, part, walk)
+    match add_there(path, metadata, part, walk) {
+        Ok(()) => Ok(()),
+        Err(error) => Err(WalkFault::at(rt.alloc(), walk.whole.as_str(), error)),
+    }
 }
 
 /// A path inside the root, of one from the current folder.
