@@ -19,7 +19,7 @@ pub fn tell_failures(
     rt: &HostRuntime,
     plans: &[Plan],
     tales: &[ListOf<Logged>],
-    benches: &[ShBench<HostRuntime>],
+    benches: &[ShBench<'_, HostRuntime>],
 ) -> Result<(), AllocError> {
     let mut runs = Vec::with_capacity(rt.alloc(), benches.len())?;
     for bench in benches {

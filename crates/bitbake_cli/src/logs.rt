@@ -1,5 +1,6 @@
 // The logs of tasks that failed, each in a file under the names of its recipe and its task.
 use meta_model::TaskId;
+use outside_os::{is_own, move_own};
 use std::alloc::{AllocError, Global};
 use std::io::{ErrorKind, Read, Seek, SeekFrom};
 use std::{fs, io};
@@ -23,14 +24,16 @@ fn places_of(alloc: Global, id: &TaskId) -> Result<(String, String), AllocError>
 /// Moves a log to the place of its task, and gives that place.
 pub fn keep_log(rt: &HostRuntime, id: &TaskId, log: &str) -> io::Result<String> {
     let (folder, file) = places_of(rt.alloc(), id)?;
-    fs::create_dir_all(rt, folder.as_str())?;
-    fs::rename(rt, log, file.as_str())?;
+    move_own(rt, log, folder.as_str(), file.as_str())?;
     Ok(file)
 }
 
-/// Removes the log of a task, if one is kept, and its recipe's folder with the last one in it.
+/// Removes the log of a task, if one is kept where no link leads, and its recipe's folder with the last one in it.
 pub fn remove_log(rt: &HostRuntime, id: &TaskId) -> io::Result<()> {
     let (folder, file) = places_of(rt.alloc(), id)?;
+    if !is_own(rt, folder.as_str())? {
+        return Ok(());
+    }
     match fs::remove_file(rt, file.as_str()) {
         Ok(()) => {
             // A folder with another log in it stays.

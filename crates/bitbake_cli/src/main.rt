@@ -14,17 +14,19 @@ mod failures;
 mod faults;
 mod logs;
 mod sentences;
+mod streams;
 
 use ahead::{is_run, read_ahead};
 use bitbake_top::bitbake;
 use build_store::Ahead;
 use failures::tell_failures;
 use faults::tell_fault;
-use outside_os::{FolderDisk, FolderLayers, ReadAhead, ShBench, StdSink, is_memory};
+use outside_os::{FolderDisk, FolderLayers, ReadAhead, Sandboxes, ShBench, StdSink, is_memory};
 use std::process::ExitCode;
 use std::sync::Wait;
 use std::thread::{Threads, join};
 use std::{env, io};
+use streams::closed_streams;
 use tree_model::Text;
 
 /// The number of the last bench, from 0 on. The folders of benches are made at first use.
@@ -38,6 +40,8 @@ const NO_WORD: &str = "--not-utf-8";
 
 /// Ends with the status of the top call over the current folder and standard output.
 fn main(rt: HostRuntime) -> ExitCode {
+    // Held until the program ends.
+    let _streams = closed_streams(&rt);
     match run(&rt, &rt) {
         Ok(status) => ExitCode::from(status),
         Err(_) => {
@@ -82,11 +86,12 @@ fn call<R: Threads + Wait + Sync>(
 ) -> io::Result<u8>
     requires unharmed { disk.faults ≡ 0 }
 {
+    let sandboxes = Sandboxes::unknown();
     let mut benches = Vec::new(rt.alloc());
     for number in 0..LAST_BENCH {
-        benches.push(ShBench::new(rt.clone()?, number)?)?;
+        benches.push(ShBench::new(rt.clone()?, number, &sandboxes)?)?;
     }
-    benches.push(ShBench::new(rt.clone()?, LAST_BENCH)?)?;
+    benches.push(ShBench::new(rt.clone()?, LAST_BENCH, &sandboxes)?)?;
     let layers = FolderLayers::new(rt.clone()?);
     let sink = StdSink::new(rt.clone()?);
     let finish = bitbake(
@@ -104,6 +109,10 @@ fn call<R: Threads + Wait + Sync>(
         tell(rt, "log", Some("out of memory"));
     }
     tell_fault(rt, &finish.status);
+    tell_sandboxes(rt, &sandboxes);
+    for remark in finish.layers.remarks() {
+        tell(rt, "layers", Some(remark.as_str()));
+    }
     tell(rt, "layers", finish.layers.first_fault());
     tell(rt, "disk", finish.disk.first_fault());
     for bench in &finish.benches {
@@ -111,6 +120,16 @@ fn call<R: Threads + Wait + Sync>(
     }
     tell(rt, "output", finish.sink.first_fault());
     Ok(finish.status.code())
+}
+
+/// Says on standard error that scripts had no sandboxes, and why.
+fn tell_sandboxes(rt: &HostRuntime, sandboxes: &Sandboxes) {
+    if let Some(reason) = sandboxes.reason() {
+        let _ = eprintln!(rt;
+            "bitbake: sandbox: none can be made here ({reason}): each task has a place of its own below build/bench/at, \
+            whose path its output may hold, and a process that leaves its script's session outlives it"
+        );
+    }
 }
 
 /// Says on standard error what a device says of its first fault. Where that can't be written the status says it alone.

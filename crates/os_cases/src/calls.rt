@@ -24,21 +24,22 @@ use crate::disk_calls::{disk_answer, other_answer};
 use crate::rooms::{no_call, shell};
 use crate::stamp_calls::stamp_answer;
 use crate::watch::Watch;
-use outside_os::{FolderDisk, FolderLayers, ReadAhead, ShBench, StdSink};
+use outside_os::{FolderDisk, FolderLayers, ReadAhead, Sandboxes, ShBench, StdSink};
 use outside_traits::{Bench, BenchFault, Layers, ReadFault, Sink, Taken};
 use std::cell::RefCell;
 use std::io;
 use tree_model::{Bytes, Mem, Size, is_clean};
 
 /// The bench of the last call that was one of a bench, with its number.
-pub type LastBench = Option<(u32, ShBench<HostRuntime>)>;
+pub type LastBench<'a> = Option<(u32, ShBench<'a, HostRuntime>)>;
 
 /// What the call of a line answers.
 pub fn answer<'a>(
     rt: &HostRuntime,
     ahead: &'a ReadAhead,
     disk: &mut FolderDisk<'a, Watch<'_>>,
-    bench: &mut LastBench,
+    sandboxes: &'a Sandboxes,
+    bench: &mut LastBench<'a>,
     synced: &RefCell<String>,
     line: &str,
 ) -> io::Result<String> {
@@ -61,7 +62,7 @@ pub fn answer<'a>(
             let watch = Watch::new(rt.clone()?, synced);
             other_answer(rt.alloc(), watch, synced, call)
         }
-        "bench" => numbered_answer(rt, bench, call),
+        "bench" => numbered_answer(rt, sandboxes, bench, call),
         "sink" => sink_answer(rt, call),
         _ => Err(no_call()),
     }
@@ -129,13 +130,18 @@ fn read_word(fault: ReadFault) -> &'static str {
 }
 
 /// What the bench with a number answers.
-fn numbered_answer(rt: &HostRuntime, last: &mut LastBench, call: &str) -> io::Result<String> {
+fn numbered_answer<'a>(
+    rt: &HostRuntime,
+    sandboxes: &'a Sandboxes,
+    last: &mut LastBench<'a>,
+    call: &str,
+) -> io::Result<String> {
     let Some((k, call)) = call.split_once(' ') else {
         return Err(no_call());
     };
     let number = u32::try_from(number(k)?).map_err(|_| no_call())?;
     if !matches!(last, Some((before, _)) if *before == number) {
-        *last = Some((number, ShBench::new(rt.clone()?, number)?));
+        *last = Some((number, ShBench::new(rt.clone()?, number, sandboxes)?));
     }
     match last {
         Some((_, bench)) => bench_answer(rt, bench, call),
@@ -145,12 +151,12 @@ fn numbered_answer(rt: &HostRuntime, last: &mut LastBench, call: &str) -> io::Re
 
 fn bench_answer(
     rt: &HostRuntime,
-    bench: &mut ShBench<HostRuntime>,
+    bench: &mut ShBench<'_, HostRuntime>,
     call: &str,
 ) -> io::Result<String> {
     let (word, rest) = call.split_once(' ').unwrap_or((call, ""));
     match word {
-        "clear" => bench_word(rt, bench.clear(rt.alloc())),
+        "clear" => bench_word(rt, bench.clear(rt.alloc(), "hello", "do_build")),
         "put" => put_answer(rt, bench, rest),
         "run" => {
             let script = of_a_line(rt.alloc(), rest)?;
@@ -166,7 +172,7 @@ fn bench_answer(
 }
 
 /// The runs of a bench that failed: the number of each, and the place of its log.
-fn failed_answer(rt: &HostRuntime, bench: &ShBench<HostRuntime>) -> io::Result<String> {
+fn failed_answer(rt: &HostRuntime, bench: &ShBench<'_, HostRuntime>) -> io::Result<String> {
     let mut said = String::new(rt.alloc());
     for run in bench.failed_runs() {
         let number = format!(in rt.alloc(); "{} ", run.number)?;
@@ -191,7 +197,7 @@ fn bench_word(rt: &HostRuntime, done: Result<(), BenchFault>) -> io::Result<Stri
 
 fn put_answer(
     rt: &HostRuntime,
-    bench: &mut ShBench<HostRuntime>,
+    bench: &mut ShBench<'_, HostRuntime>,
     rest: &str,
 ) -> io::Result<String> {
     let alloc = rt.alloc();
@@ -207,7 +213,7 @@ fn put_answer(
 
 fn take_answer(
     rt: &HostRuntime,
-    bench: &mut ShBench<HostRuntime>,
+    bench: &mut ShBench<'_, HostRuntime>,
     rest: &str,
 ) -> io::Result<String> {
     let (entries, rest) = rest.split_once(' ').unwrap_or((rest, ""));

@@ -15,7 +15,7 @@ mod stamp_calls;
 mod watch;
 
 use calls::answer;
-use outside_os::{FolderDisk, ReadAhead};
+use outside_os::{FolderDisk, ReadAhead, Sandboxes};
 use rooms::enter;
 use std::cell::RefCell;
 use std::process::ExitCode;
@@ -55,10 +55,11 @@ fn run_room(rt: &HostRuntime, lines: &str) -> io::Result<()> {
     let synced = RefCell::new(String::new(rt.alloc()));
     let ahead = ReadAhead::none();
     let mut disk = FolderDisk::new(Watch::new(rt.clone()?, &synced));
+    let sandboxes = Sandboxes::unknown();
     let mut bench = None;
     for line in lines.lines() {
         if !line.is_empty() {
-            let said = answer(rt, &ahead, &mut disk, &mut bench, &synced, line)?;
+            let said = answer(rt, &ahead, &mut disk, &sandboxes, &mut bench, &synced, line)?;
             println!(rt; "{line} -> {said}")?;
         }
     }

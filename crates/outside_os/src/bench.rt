@@ -1,63 +1,76 @@
-// A folder in which `sh` runs scripts.
+// Folders in which `sh` runs scripts.
 ghost use Rattle.std.specs.Prelude.{[], Ok, None, true};
 
 use crate::faults::{FirstFault, is_memory, one_more};
-use crate::folder::{is_too_long, join, look, open_up, put_entry, read_entry};
-use crate::lock::BenchLock;
-use crate::runs::{FailedRun, LOG, Runs};
-use crate::walk::{Item, Part, list_items};
+use crate::folder::{join, open_up, put_entry, read_entry};
+use crate::lock::BENCHES_FOLDER;
+use crate::output::look_over;
+use crate::own::{make_own, remove_place};
+use crate::place::{Place, WORK};
+use crate::runs::{FailedRun, Runs};
+use crate::sandboxes::Sandboxes;
+use crate::supervisor::{Supervisor, Way};
+use crate::walk::Item;
 use outside_traits::{Bench, BenchFault, Taken};
 use std::alloc::{AllocError, Global};
-use std::env::VarError;
-use std::fs::{File, FileTimes};
+use std::fs::{File, FileTimes, Permissions};
 use std::io::ErrorKind;
-use std::os::unix::process::ExitStatusExt;
-use std::process::{Command, ExitStatus, Processes};
+use std::os::unix::fs::PermissionsExt;
+use std::process::Processes;
 use std::rt::{Env, Files};
-use std::time::{Duration, UNIX_EPOCH};
-use std::{env, fs, io};
+use std::time::{Clock, Duration, UNIX_EPOCH};
+use std::{fs, io};
 use tree_model::{Entry, Size, Text, Tree, TreeFault};
 
-/// The part of a bench in which the script runs, and whose tree is its output.
-const WORK: &str = "work";
-
-/// The parts of a bench, each with the shell variable that has its place.
-const PARTS: [(&str, &str); 3] = [
-    (WORK, "WORKDIR"),
-    ("deps", "DEPSDIR"),
-    ("files", "FILESDIR"),
-];
-
-/// The only variable that a script has from the program's own environment.
-const SEARCH_PATH: &str = "PATH";
+/// The folder that sandboxes have for their roots to be made in, from the current folder. Nothing ever stands in it.
+const ROOTS: &str = "build/bench/root";
 
 /// The time of change of each file that is laid, in seconds since 1970: the year 2000 begins, by UTC.
 const LAID_AT: u64 = 946_684_800;
 
-/// A folder `build/bench/K` of the current folder, which is made at first use.
+/// A folder below `build/bench`, in which `sh` runs scripts.
 ///
-/// Scripts run in its folder `work`, by the `sh` that the search path names, with an empty standard input; what they
-/// write goes to its file `log`, which the next run writes anew. All files that are laid have one time of change, so
-/// that no script sees when or in which order they were laid; what a script makes has the time of its making. It tells
-/// nothing.
+/// Where the system lets it, scripts run in a sandbox, one for each bench and program: WORKDIR, DEPSDIR and FILESDIR are
+/// `/bitbake/work`, `/bitbake/deps` and `/bitbake/files`, whichever bench and whichever project it is; all else of the machine is there
+/// but the project's folder `build`; they have a session of their own, and all that they start is killed when they end. Elsewhere these
+/// places are below `build/bench/at/PN/TASK`, and what is left of a script's process group is killed when it ends. `sh` is the one that the
+/// search path names, standard input is `/dev/null`, and what a script writes goes to the file `log` beside `work`.
+/// Both end where this program dies. All files that are laid have one time of change, so that no script sees when or in which order they
+/// were laid; what a script makes has the time of its making. An input file is executable where it begins with `#!`, whatever its own
+/// bits are. It tells nothing.
 ///
-/// The first clearing takes the lock of the bench, on the empty file `build/bench/K.lock`. The object has it as long as it
-/// is there, and so has each script, whose input that file is. While a script of an earlier process has it, which may still
-/// write into the folder, clearing is a fault and nothing in the folder is touched. A bench that was never cleared runs
-/// nothing.
+/// Each folder has a lock, which the object has, and each script too. A bench with a sandbox passes over folders whose lock somebody has; the
+/// folder of a task is waited for, for ten seconds. A bench that was never cleared runs nothing.
 ///
 /// The log of a script that fails is kept in a file of its own; `failed_runs` says where.
 #[derive(Drop)]
-pub struct ShBench<R> {
-    rt: R,
-    folder: String,
-    lock: BenchLock,
+pub struct ShBench<'a, R: Processes> {
+    site: Site<'a, R>,
     runs: Runs,
     faults: u64,
     first: FirstFault,
 }
 
-impl<R: AllocGlobal> ShBench<R> {
+/// Where the scripts of a bench run.
+#[derive(Drop)]
+struct Site<'a, R: Processes> {
+    rt: R,
+
+    /// The number of the bench.
+    number: u32,
+    sandboxes: &'a Sandboxes,
+
+    /// The place of the task's work.
+    place: Option<Place>,
+
+    /// The sandbox, which is that of the place.
+    sandbox: Option<Supervisor<R::Started>>,
+
+    /// The files and links that the last run left.
+    left: Option<Vec<Item>>,
+}
+
+impl<'a, R: Processes + AllocGlobal> ShBench<'a, R> {
     ghost use Rattle.outside_traits.specs.Fault.{Counts, bench_failed};
 
     /// What is said of the first fault.
@@ -79,123 +92,162 @@ impl<R: AllocGlobal> ShBench<R> {
             Err(error) if is_memory(&error) => Err(BenchFault::Memory),
             Err(error) => {
                 self.faults = one_more(self.faults);
-                self.first
-                    .keep(self.rt.alloc(), call, self.folder.as_str(), &error);
+                self.site.note(&mut self.first, call, &error);
                 Err(BenchFault::Failed)
             }
         }
     }
 }
 
-impl<R: Files<File = File> + Env + Processes + AllocGlobal + Clone + Drop> ShBench<R> {
+impl<'a, R: Processes + AllocGlobal> Site<'a, R> {
+    /// Keeps what is said of a fault, if it is the first.
+    fn note(&self, first: &mut FirstFault, call: &str, error: &io::Error) {
+        first.keep(self.rt.alloc(), call, self.folder(), error);
+    }
+
+    /// The folder of the task's work, from the current folder.
+    fn folder(&self) -> &str {
+        match &self.place {
+            Some(place) => place.folder(),
+            None => BENCHES_FOLDER,
+        }
+    }
+}
+
+impl<'a, R: Files<File = File> + Env + Processes + Clock + AllocGlobal + Clone + Drop> ShBench<
+    'a,
+    R,
+> {
     /// The bench of a number, without a fault so far.
-    pub fn new(rt: R, number: u32) -> Result<Self, AllocError> {
-        let folder = format!(in rt.alloc(); "build/bench/{number}")?;
-        let lock = BenchLock::none(rt.alloc(), number)?;
+    pub fn new(rt: R, number: u32, sandboxes: &'a Sandboxes) -> Result<Self, AllocError> {
         let runs = Runs::none(rt.alloc(), number)?;
-        Ok(ShBench {
+        let site = Site {
             rt,
-            folder,
-            lock,
+            number,
+            sandboxes,
+            place: None,
+            sandbox: None,
+            left: None,
+        };
+        Ok(ShBench {
+            site,
             runs,
             faults: 0,
             first: FirstFault::none(),
         })
     }
 
-    /// The place of a part of the bench, from the current folder.
-    fn place(&self, part: &str) -> io::Result<String> {
-        join(self.rt.alloc(), self.folder.as_str(), part)
-    }
-
-    /// The place of a part of the bench, from the root of the system.
-    fn whole_place(&self, part: &str) -> io::Result<String> {
-        let here = env::current_dir(&self.rt)?;
-        let bench = join(
-            self.rt.alloc(),
-            here.as_path().as_str(),
-            self.folder.as_str(),
-        )?;
-        join(self.rt.alloc(), bench.as_str(), part)
-    }
-
-    /// Clears the bench, whose lock is taken.
-    fn try_clear(&self) -> io::Result<()> {
-        if self.runs.is_empty() {
-            // Logs of an earlier process. Where they can't go, a log that can't be kept for it says so.
-            let _ = remove_place(&self.rt, self.runs.folder());
+    /// Takes the logs of an earlier process away. Where they can't go, a log that can't be kept for it says so.
+    fn forget_logs(&self) {
+        let rt = &self.site.rt;
+        if self.runs.is_empty() && make_own(rt, self.runs.above()).is_ok() {
+            let _ = remove_place(rt, self.runs.folder());
         }
-        remove_place(&self.rt, self.folder.as_str())?;
-        for (part, _) in PARTS {
-            fs::create_dir_all(&self.rt, self.place(part)?.as_str())?;
+    }
+}
+
+impl<'a, R: Files<File = File> + Env + Processes + Clock + AllocGlobal + Clone + Drop> Site<'a, R> {
+    /// Clears the place of a task's work.
+    fn clear(&mut self, recipe: &str, task: &str) -> io::Result<()> {
+        self.left = None;
+        if self.sandbox.is_none() && !self.sandboxes.are_refused() {
+            self.make_sandbox()?;
         }
-        Ok(())
-    }
-
-    fn try_run(&self, script: &str) -> io::Result<u32> {
-        let file = self.whole_place("script")?;
-        fs::write(&self.rt, file.as_str(), script)?;
-        self.run_file(file.as_str())
-    }
-
-    /// Runs the script that stands in a file.
-    fn run_file(&self, file: &str) -> io::Result<u32> {
-        let mut command = Command::new(self.rt.alloc(), "sh")?;
-        match self.prepare(&mut command, file) {
-            Ok(()) => self.run_command(command),
-            Err(error) => Err(error),
+        if self.sandboxes.are_refused() {
+            self.place = None;
+            self.place = Some(Place::of_task(&self.rt, recipe, task)?);
+        }
+        match &mut self.place {
+            Some(place) => place.clear(&self.rt),
+            None => Err(was_never_cleared()),
         }
     }
 
-    /// Has a command run the script of a file, in the work folder.
-    fn prepare(&self, command: &mut Command, file: &str) -> io::Result<()> {
-        command.arg(file)?;
-        command.current_dir(self.whole_place(WORK)?.as_str())?;
-        self.set_variables(command)
-    }
-
-    /// Runs a command, whose output goes to the log.
-    fn run_command(&self, command: Command) -> io::Result<u32> {
-        match File::create(&self.rt, self.place(LOG)?.as_str()) {
-            Ok(log) => self.run_logged(command, log),
-            Err(error) => Err(error),
-        }
-    }
-
-    /// Runs a command, whose output goes to this file, and gives its status.
-    fn run_logged(&self, mut command: Command, log: File) -> io::Result<u32> {
-        command.stdin(self.lock.input()?);
-        command.stdout(log.try_clone()?);
-        command.stderr(log);
-        Ok(status_of(command.status(&self.rt)?))
-    }
-
-    /// Gives the script the places of the bench's parts and the search path, and no other variable.
-    fn set_variables(&self, command: &mut Command) -> io::Result<()> {
-        command.env_clear();
-        match env::var(&self.rt, SEARCH_PATH) {
-            Ok(path) => {
-                command.env(SEARCH_PATH, path.as_str())?;
+    /// Makes the sandbox of the bench, or finds out that the system makes none.
+    fn make_sandbox(&mut self) -> io::Result<()> {
+        let mut place = Place::numbered(&self.rt, self.number)?;
+        place.clear(&self.rt)?;
+        make_own(&self.rt, ROOTS)?;
+        let lock = place.lock().handle()?;
+        match Supervisor::start(&self.rt, Way::Sandbox, place.folder(), lock)? {
+            Ok(sandbox) => {
+                if self.sandboxes.made() {
+                    self.sandbox = Some(sandbox);
+                    self.place = Some(place);
+                }
+                Ok(())
             }
-            Err(VarError::NotPresent) => {}
-            Err(VarError::OutOfMemory) => return Err(io::Error::from(AllocError)),
-            Err(VarError::NotUnicode) => return Err(io::Error::from(ErrorKind::InvalidData)),
+            Err(reason) => {
+                let error = io::Error::new(ErrorKind::Other, reason.as_str());
+                if self.sandboxes.refused(reason) {
+                    return Ok(());
+                }
+                Err(error)
+            }
         }
-        for (part, variable) in PARTS {
-            command.env(variable, self.whole_place(part)?.as_str())?;
+    }
+
+    /// Runs a script, and gives its status.
+    fn run(&mut self, script: &str) -> io::Result<u32> {
+        let Some(place) = &self.place else {
+            return Err(was_never_cleared());
+        };
+        place.check(&self.rt)?;
+        let file = join(self.rt.alloc(), place.folder(), "script")?;
+        fs::write(&self.rt, file.as_str(), script)?;
+        let status = match &mut self.sandbox {
+            Some(sandbox) => sandbox.run(self.rt.alloc())?,
+            None => run_in_group(&self.rt, place)?,
+        };
+        place.check(&self.rt)?;
+        if status != 0 {
+            return Ok(status);
+        }
+        let found = look_over(&self.rt, place.folder())?;
+        let status = found.status;
+        self.left = found.items;
+        Ok(status)
+    }
+
+    /// Lays an entry.
+    fn put(&self, path: &str, entry: &Entry) -> io::Result<()> {
+        let folder = self.folder();
+        put_entry(&self.rt, folder, path, entry, Some(laid_times()))?;
+        if is_program(path, entry) {
+            let whole = join(self.rt.alloc(), folder, path)?;
+            fs::set_permissions(&self.rt, whole.as_str(), Permissions::from_mode(0o755))?;
         }
         Ok(())
+    }
+
+    /// Takes the output of the work folder.
+    fn take(&mut self, max: &Size) -> io::Result<Option<Tree>> {
+        let Some(place) = &self.place else {
+            return Err(was_never_cleared());
+        };
+        place.check(&self.rt)?;
+        let work = join(self.rt.alloc(), place.folder(), WORK)?;
+        let left = self.left.take();
+        let taken = self.tree_at(work.as_str(), left, max)?;
+        self.leave();
+        Ok(taken)
     }
 
     /// The tree of the work folder, or `None` where it exceeds the limit. That is told by the number and the lengths
     /// of its entries, before a byte of a file is read.
-    fn try_take(&self, max: &Size) -> io::Result<Option<Tree>> {
-        let work = self.place(WORK)?;
-        match list_items(&self.rt, &Part::opened(work.as_str()), max.entries) {
-            Ok(Some(items)) if is_within(&items, max) => self.read_items(work.as_str(), items, max),
-            Ok(_) => Ok(None),
-            Err(error) if is_too_long(&error) => Ok(None),
-            Err(error) => Err(error),
+    fn tree_at(&self, work: &str, left: Option<Vec<Item>>, max: &Size) -> io::Result<Option<Tree>> {
+        match left {
+            Some(items) if is_within(&items, max) => self.read_items(work, items, max),
+            _ => Ok(None),
+        }
+    }
+
+    /// Takes the folder of a task away whose output was taken.
+    fn leave(&mut self) {
+        if self.sandbox.is_none() {
+            if let Some(place) = self.place.take() {
+                place.remove(&self.rt);
+            }
         }
     }
 
@@ -226,6 +278,28 @@ impl<R: Files<File = File> + Env + Processes + AllocGlobal + Clone + Drop> ShBen
     }
 }
 
+/// Runs the script of a place without a sandbox.
+fn run_in_group<R: Env + Processes + AllocGlobal>(rt: &R, place: &Place) -> io::Result<u32> {
+    match Supervisor::start(rt, Way::Groups, place.folder(), place.lock().handle()?)? {
+        Ok(mut shell) => shell.run(rt.alloc()),
+        Err(reason) => Err(io::Error::new(ErrorKind::Other, reason.as_str())),
+    }
+}
+
+fn was_never_cleared() -> io::Error {
+    io::Error::new(ErrorKind::InvalidInput, "it was never cleared")
+}
+
+/// Whether an input file is a script of its own.
+fn is_program(path: &str, entry: &Entry) -> bool {
+    match entry {
+        Entry::File { exec: _, bytes } => {
+            path.starts_with("files/") && bytes.as_slice().starts_with(b"#!")
+        }
+        Entry::Link { target: _ } => false,
+    }
+}
+
 /// The tree of these entries, or `None` where they are none.
 fn tree_of(entries: Vec<(Text, Entry)>) -> io::Result<Option<Tree>> {
     match Tree::from_entries(entries) {
@@ -235,7 +309,8 @@ fn tree_of(entries: Vec<(Text, Entry)>) -> io::Result<Option<Tree>> {
     }
 }
 
-impl<R: Files<File = File> + Env + Processes + AllocGlobal + Clone + Drop> Bench for ShBench<R> {
+impl<'a, R: Files<File = File> + Env + Processes + Clock + AllocGlobal + Clone + Drop> Bench
+    for ShBench<'a, R> {
     ghost use Rattle.outside_traits.specs.Bench.{Workplace};
 
     ghost tells = { ⊥ };
@@ -246,33 +321,26 @@ impl<R: Files<File = File> + Env + Processes + AllocGlobal + Clone + Drop> Bench
 
     ghost faults = { λ s. s.faults };
 
-    fn clear(&mut self, _alloc: Global) -> Result<(), BenchFault> {
-        let done = match self.lock.take(&self.rt) {
-            Ok(()) => self.try_clear(),
-            Err(error) => Err(error),
-        };
+    fn clear(&mut self, _alloc: Global, recipe: &str, task: &str) -> Result<(), BenchFault> {
+        self.forget_logs();
+        let done = self.site.clear(recipe, task);
         self.count("clearing", done)
     }
 
     fn put(&mut self, _alloc: Global, path: &str, entry: &Entry) -> Result<(), BenchFault> {
-        let done = put_entry(
-            &self.rt,
-            self.folder.as_str(),
-            path,
-            entry,
-            Some(laid_times()),
-        );
+        let done = self.site.put(path, entry);
         self.count("laying", done)
     }
 
     fn run(&mut self, _alloc: Global, script: &str) -> Result<u32, BenchFault> {
-        let done = self.try_run(script);
-        let counted = self.runs.count(&self.rt, self.folder.as_str(), done);
+        let done = self.site.run(script);
+        let site = &self.site;
+        let counted = self.runs.count(&site.rt, site.folder(), done);
         self.count("run", counted)
     }
 
     fn take(&mut self, _alloc: Global, max: Size) -> Result<Taken, BenchFault> {
-        let taken = self.try_take(&max);
+        let taken = self.site.take(&max);
         match self.count("taking", taken)? {
             Some(tree) => Ok(Taken::Tree(tree)),
             None => Ok(Taken::TooLarge),
@@ -285,29 +353,12 @@ fn laid_times() -> FileTimes {
     FileTimes::new().set_modified(UNIX_EPOCH + Duration::from_secs(LAID_AT))
 }
 
-/// Removes what stands at a path, a folder with all that it holds.
-fn remove_place<R: Files + AllocGlobal + Clone + Drop>(rt: &R, path: &str) -> io::Result<()> {
-    match look(rt, path)? {
-        Some(metadata) if metadata.is_dir() => remove_folder(rt, path),
-        Some(_) => fs::remove_file(rt, path),
-        None => Ok(()),
-    }
-}
-
-/// Removes a folder with all that it holds. Folders in it that the owner may not change are opened up first.
-fn remove_folder<R: Files + AllocGlobal + Clone + Drop>(rt: &R, folder: &str) -> io::Result<()> {
-    match fs::remove_dir_all(rt, folder) {
-        Err(error) if error.kind() == ErrorKind::PermissionDenied => {
-            list_items(rt, &Part::opened(folder), u64::MAX)?;
-            fs::remove_dir_all(rt, folder)
-        }
-        done => done,
-    }
-}
-
 /// Whether the sum of the lengths, and each of them, is within the limit.
 fn is_within(items: &[Item], max: &Size) -> bool {
     let mut bytes = 0u64;
+    if items.len() as u64 > max.entries {
+        return false;
+    }
     for item in items {
         let length = item.facts.length;
         bytes = bytes.saturating_add(length);
@@ -316,13 +367,4 @@ fn is_within(items: &[Item], max: &Size) -> bool {
         }
     }
     bytes <= max.bytes
-}
-
-/// The status of a script: what `sh` gave, or 128 and the number of the signal that ended it.
-fn status_of(status: ExitStatus) -> u32 {
-    match (status.code(), status.signal()) {
-        (Some(code), _) => code.unsigned_abs(),
-        (None, Some(signal)) => signal.unsigned_abs().saturating_add(128),
-        (None, None) => u32::MAX,
-    }
 }

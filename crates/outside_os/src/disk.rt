@@ -9,6 +9,7 @@ use crate::folder::{
 };
 use crate::listed::{Listed, Listing, Seen};
 use crate::lock::{BENCHES_FOLDER, LOCK, Locking};
+use crate::own::make_own;
 use crate::seen::SeenFolders;
 use crate::walk::{Part, WalkFault, walk_part};
 use outside_traits::{Disk, DiskFault};
@@ -165,12 +166,14 @@ impl<'a, R: AllocGlobal> FolderDisk<'a, R> {
         }
     }
 
-    /// Keeps what is said of a fault.
+    /// Keeps what is said of a fault. Without the lock nothing else was tried.
     fn note(&mut self, call: &str, path: &str, error: &io::Error)
         ensures { self.new.faults ≡ self.old.faults }
     {
         let alloc = self.folder.rt.alloc();
-        if let Ok(place) = join(alloc, ROOT, path) {
+        if self.folder.lock.is_none() {
+            self.first.keep(alloc, "lock", LOCK, error);
+        } else if let Ok(place) = join(alloc, ROOT, path) {
             self.first.keep(alloc, call, place.as_str(), error);
         }
     }
@@ -245,7 +248,7 @@ impl<'a, R: Files + Locking + AllocGlobal + Clone + Drop> BuildFolder<'a, R> {
     /// Takes the lock of a run, unless this object has it.
     fn hold(&mut self) -> io::Result<()> {
         if self.lock.is_none() {
-            fs::create_dir_all(&self.rt, BENCHES_FOLDER)?;
+            make_own(&self.rt, BENCHES_FOLDER)?;
             self.lock = Some(self.rt.take_lock(LOCK)?);
         }
         Ok(())

@@ -77,15 +77,12 @@ impl FirstFault {
     }
 }
 
-/// A call would block only where it asks for the lock of a run.
+/// What was done where, and what the system said.
 fn sentence(
     alloc: Global,
     call: &str,
     place: &str,
     error: &io::Error,
 ) -> Result<String, AllocError> {
-    if error.kind() == ErrorKind::WouldBlock {
-        return format!(in alloc; "{call} of {place}: another run is at work in this folder");
-    }
     format!(in alloc; "{call} of {place}: {error}")
 }

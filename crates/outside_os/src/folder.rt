@@ -58,6 +58,12 @@ pub struct FileFacts {
     kind: FileType,
     mode: u32,
 
+    /// How many names it has.
+    pub names: u64,
+
+    /// The number of the user who owns it.
+    pub owner: u32,
+
     /// How many bytes it has.
     pub length: u64,
 }
@@ -68,6 +74,8 @@ impl FileFacts {
         FileFacts {
             kind: metadata.file_type(),
             mode: metadata.mode(),
+            names: metadata.nlink(),
+            owner: metadata.uid(),
             length: metadata.len(),
         }
     }
@@ -75,6 +83,18 @@ impl FileFacts {
     /// Whether it is a file.
     pub fn is_file(&self) -> bool {
         self.kind.is_file()
+    }
+
+    /// Whether it is a file whose mode says what no entry keeps: to run as another user or group, or that others than the owner alone
+    /// may run it.
+    pub fn loses_mode(&self) -> bool {
+        let others_alone = self.mode & 0o111 != 0 && self.mode & OWNER_RUNS == 0;
+        self.is_file() && (self.mode & 0o7000 != 0 || others_alone)
+    }
+
+    /// Whether the owner may read it.
+    pub fn is_readable(&self) -> bool {
+        self.mode & OWNER_READS != 0
     }
 }
 

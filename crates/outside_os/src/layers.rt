@@ -65,7 +65,9 @@ impl<R: AllocGlobal> FolderLayers<R> {
     fn remark(&mut self, path: &str) -> Result<(), AllocError>
         ensures { self.new.faults ≡ self.old.faults }
     {
-        let said = format!(in self.rt.alloc(); "{path}: its name isn't UTF-8, so no pattern names it")?;
+        let said = format!(in self.rt.alloc();
+            "{path}: its name isn't UTF-8, so no pattern names it"
+        )?;
         let is_new = !self.remarks.iter().any(|old| old.as_str() == said.as_str());
         if is_new && self.remarks.len() < MOST_REMARKS {
             self.remarks.push(said)?;

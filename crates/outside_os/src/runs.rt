@@ -1,5 +1,6 @@
 // The runs of a bench, and the logs of those that failed.
 use crate::folder::join;
+use crate::own::move_own;
 use std::alloc::{AllocError, Global};
 use std::io::ErrorKind;
 use std::rt::Files;
@@ -44,6 +45,14 @@ impl Runs {
         self.folder.as_str()
     }
 
+    /// The folder in which that stands.
+    pub fn above(&self) -> &str {
+        match self.folder.as_str().rsplit_once('/') {
+            Some((above, _)) => above,
+            None => self.folder.as_str(),
+        }
+    }
+
     /// Whether no run was begun.
     pub fn is_empty(&self) -> bool {
         self.begun == 0
@@ -79,8 +88,7 @@ impl Runs {
         if !fs::symlink_metadata(rt, log.as_str())?.is_file() {
             return Err(io::Error::new(ErrorKind::InvalidInput, "it is no file"));
         }
-        fs::create_dir_all(rt, self.folder.as_str())?;
-        fs::rename(rt, log.as_str(), kept.as_str())?;
+        move_own(rt, log.as_str(), self.folder.as_str(), kept.as_str())?;
         Ok(kept)
     }
 }

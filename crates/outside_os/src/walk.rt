@@ -141,6 +141,10 @@ struct Walk {
     /// The paths inside the root whose last name isn't UTF-8, escaped, that were passed over.
     odd: Vec<String>,
 
+    /// Where folders are opened up: those that were entered, and what is neither file, folder nor link, by their paths inside the root.
+    folders: Vec<String>,
+    others: Vec<String>,
+
     /// How many folders were seen in a row where the walk is.
     in_a_row: u32,
 
@@ -186,16 +190,70 @@ pub fn walk_noting<R: Files + AllocGlobal>(
     Ok((walk.items, walk.odd))
 }
 
-/// What stands in a part, or more of it than `max`.
-fn walk_all<R: Files + AllocGlobal>(
+/// What stands in a folder of which an output is taken.
+#[derive(Drop)]
+pub struct Found {
+    /// Its files and links, in the order of their paths' bytes.
+    pub items: Vec<Item>,
+
+    /// The folders under which no file and no link stands.
+    pub empty: Vec<String>,
+
+    /// What is neither file, folder nor link.
+    pub others: Vec<String>,
+}
+
+/// What stands in a folder, which is opened up with the folders in it; or `None` where it has more than `max` files and links.
+pub fn walk_output<R: Files + AllocGlobal>(
     rt: &R,
-    part: &Part<'_>,
+    root: &str,
     max: u64,
-) -> Result<Walk, WalkFault> {
+) -> Result<Option<Found>, WalkFault> {
+    let mut walk = walk_all(rt, &Part::opened(root), max)?;
+    if walk.items.len() as u64 > max {
+        return Ok(None);
+    }
+    walk.items
+        .sort_by(|a, b| a.path.as_str().cmp(b.path.as_str()))?;
+    let mut empty = Vec::new(rt.alloc());
+    for folder in walk.folders {
+        if !folder.is_empty() && !has_items(&walk.items, folder.as_str()) {
+            empty.push(folder)?;
+        }
+    }
+    Ok(Some(Found {
+        items: walk.items,
+        empty,
+        others: walk.others,
+    }))
+}
+
+/// Whether one of these items, which are in the order of their paths' bytes, stands below a folder.
+fn has_items(items: &[Item], folder: &str) -> bool {
+    let first = items.partition_point(|item| !is_behind(item.path.as_str(), folder));
+    match items.get(first) {
+        Some(item) => is_below(folder, item.path.as_str()),
+        None => false,
+    }
+}
+
+/// Whether a path stands behind all that sort before what is below a folder.
+fn is_behind(path: &str, folder: &str) -> bool {
+    let (path, folder) = (path.as_bytes(), folder.as_bytes());
+    match path.strip_prefix(folder) {
+        Some(rest) => rest.first().copied() >= Some(b'/'),
+        None => path > folder,
+    }
+}
+
+/// What stands in a part, or more of it than `max`.
+fn walk_all<R: Files + AllocGlobal>(rt: &R, part: &Part<'_>, max: u64) -> Result<Walk, WalkFault> {
     let mut walk = Walk {
         items: Vec::new(rt.alloc()),
         places: Vec::new(rt.alloc()),
         odd: Vec::new(rt.alloc()),
+        folders: Vec::new(rt.alloc()),
+        others: Vec::new(rt.alloc()),
         in_a_row: 0,
         whole: String::new(rt.alloc()),
     };
@@ -267,6 +325,10 @@ fn enter_at<R: Files + AllocGlobal>(
 ) -> io::Result<Option<R::Dir>> {
     if part.opens && !open_folder(rt, whole)? {
         return Ok(None);
+    }
+    if part.opens {
+        walk.folders
+            .push(String::from_str(rt.alloc(), place.path.as_str())?)?;
     }
     match open_names(rt, whole, place.is_seen) {
         Ok(names) => Ok(Some(names)),
@@ -468,6 +530,8 @@ fn add(path: String, metadata: &Metadata, part: &Part<'_>, walk: &mut Walk) -> i
             path: Text::from_string(path),
             facts: FileFacts::of(metadata),
         })?;
+    } else if part.opens {
+        walk.others.push(path)?;
     }
     Ok(())
 }
