@@ -2,7 +2,7 @@
 use Rattle.std.proofs.Common.{◌≡◌, ◌++◌, ◌∙◌, sym, ap, ℕ, List, append_assoc, Result, Ok, Err}
 use Rattle.std.specs.Prelude.{OnErr, OnOk}
 use Rattle.std.proofs.lemmas.Result.{on_err_weaker, on_ok_weaker}
-use Rattle.bb_report.specs.Written.{WritesFront}
+use Rattle.run_model.specs.Written.{WritesFront}
 
 -- a front of the first text is one of both
 pub front_first : (old new first second : List ℕ) → WritesFront old new first → WritesFront old new (first ++ second)

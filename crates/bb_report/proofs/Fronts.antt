@@ -1,7 +1,7 @@
 -- A text is written piece by piece.
 use Rattle.std.proofs.Common.{◌≡◌, ◌++◌, ◌∙◌, sym, ap, refl, ℕ, List, [], length, ◌-◌, ◌≤◌, subst, arith, take, drop, append_assoc, append-nil, length-drop}
 use Rattle.std.proofs.lemmas.List.{take-append-drop, take_all}
-use Rattle.bb_report.specs.Written.{WritesFront}
+use Rattle.run_model.specs.Written.{WritesFront}
 
 -- the text up to this rest is written
 pub record IsPartWritten (old now text rest : List ℕ) : Type 0 where

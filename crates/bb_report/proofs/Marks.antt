@@ -9,8 +9,9 @@ use Rattle.meta_model.specs.declared.event.Event.TheVariants.{Failed}
 use Rattle.meta_model.specs.declared.event.Why.{Why}
 use Rattle.meta_model.specs.declared.event.Logged.{Logged}
 use Rattle.meta_model.specs.declared.plan.PlanTask.{PlanTask}
-use Rattle.bb_report.specs.Texts.{task_label}
-use Rattle.bb_report.specs.Runs.{AreMarks, behind_comma, comma_joined, failed_from, fails, has_failed, marked, name_text}
+use Rattle.run_model.specs.Texts.{task_label}
+use Rattle.bb_report.specs.Runs.{AreMarks, behind_comma, marked, name_text}
+use Rattle.run_model.specs.Report.{comma_joined, failed_from, fails, has_failed}
 
 abbrev pub is_some : List (List ℕ) → Bool
 is_some [] = false

@@ -1,10 +1,11 @@
 // The last line of a run that no fault ended.
 ghost use Rattle.std.specs.Prelude.{◌≡◌, ◌++◌, ◌∷◌, ◌||◌, [], List, IfOk, OnOk, length};
-ghost use Rattle.bb_report.specs.Texts.{task_label};
+ghost use Rattle.run_model.specs.Texts.{task_label};
 ghost use Rattle.std.specs.Fmt.{decimal};
 ghost use Rattle.meta_model.specs.declared.event.Logged.{Logged as Entry};
 ghost use Rattle.bb_report.specs.Runs as runs;
-ghost use Rattle.bb_report.specs.Runs.{AreMarks, comma_joined, count_events, failed_line, has_failure, is_found, is_restored, is_started, marked, name_text, ok_line};
+ghost use Rattle.bb_report.specs.Runs.{AreMarks, marked, name_text};
+ghost use Rattle.run_model.specs.Report.{comma_joined, count_events, failed_line, has_failure, is_found, is_restored, is_started, ok_line};
 
 use crate::plans::push_label;
 use itoa::Buffer;

@@ -1,9 +1,9 @@
 // The lines of events, as they are written.
 ghost use Rattle.std.specs.Prelude.{◌≡◌, ◌++◌, ◌<◌, OnOk, OnErr, codes, length};
 ghost use Rattle.outside_traits.specs.Fault.{Counts, sink_failed};
-ghost use Rattle.bb_report.specs.Texts.{task_label};
-ghost use Rattle.bb_report.specs.Written.{WritesFront};
-ghost use Rattle.bb_report.specs.Runs.{cut_text, event_line, line_of, task_of, why_text};
+ghost use Rattle.run_model.specs.Texts.{task_label};
+ghost use Rattle.run_model.specs.Written.{WritesFront};
+ghost use Rattle.run_model.specs.Report.{cut_text, event_line, line_of, task_of, why_text};
 
 use crate::written::write_all;
 use itoa::Buffer;

@@ -1,6 +1,6 @@
 // The last line of a run that has no end.
 ghost use Rattle.std.specs.Prelude.{◌≡◌, ◌++◌, IfOk, OnOk, codes};
-ghost use Rattle.bb_report.specs.Texts as texts;
+ghost use Rattle.run_model.specs.Texts as texts;
 
 use itoa::Buffer;
 use meta_model::Status;

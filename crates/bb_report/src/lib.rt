@@ -1,6 +1,6 @@
 //! The texts that the program prints, and how a text is written.
 //!
-//! The definitions stand in `specs/Texts.antt`, as functions from plain values to bytes; each call gives just that text, and
+//! The definitions stand in `run_model` (`Texts`, `Report`), as functions from plain values to bytes; each call gives just that text, and
 //! fails for want of memory alone. `write_all` writes a text whole, or a front of it where the sink failed, and takes no
 //! memory.
 #![tactic(auto)]

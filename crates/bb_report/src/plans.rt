@@ -1,6 +1,6 @@
 // Plans.
 ghost use Rattle.std.specs.Prelude.{◌≡◌, ◌++◌, IfOk, OnOk, flat_map, take};
-ghost use Rattle.bb_report.specs.Texts as texts;
+ghost use Rattle.run_model.specs.Texts as texts;
 
 use itoa::Buffer;
 use meta_model::{Plan, PlanTask, TaskId};

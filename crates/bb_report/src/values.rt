@@ -1,6 +1,6 @@
 // Names with their values.
 ghost use Rattle.std.specs.Prelude.{◌≡◌, ◌++◌, IfOk, OnOk};
-ghost use Rattle.bb_report.specs.Texts as texts;
+ghost use Rattle.run_model.specs.Texts as texts;
 
 use meta_model::{Quoting, push_escaped};
 use std::alloc::Global;

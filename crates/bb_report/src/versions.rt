@@ -1,6 +1,6 @@
 // What was read, in a few words.
 ghost use Rattle.std.specs.Prelude.{◌≡◌, ◌++◌, IfOk, OnOk};
-ghost use Rattle.bb_report.specs.Texts as texts;
+ghost use Rattle.run_model.specs.Texts as texts;
 
 use itoa::Buffer;
 use meta_model::{FactSet, RecipeFacts};

@@ -1,7 +1,7 @@
 // How a text is written.
 ghost use Rattle.std.specs.Prelude.{◌≡◌, ◌++◌, OnOk, OnErr};
 ghost use Rattle.outside_traits.specs.Fault.{Counts, sink_failed};
-ghost use Rattle.bb_report.specs.Written.{WritesFront};
+ghost use Rattle.run_model.specs.Written.{WritesFront};
 
 use outside_traits::{Sink, SinkFault};
 

@@ -1,13 +1,14 @@
 // What a run reads in a thread of its own while the metadata is read.
+use answer_model::Mode;
 use build_store::{Ahead, Known};
-use command_words::{Mode, read_words};
+use command_words::{mode_of, read_words};
 use outside_os::ReadAhead;
 use tree_model::Text;
 
 /// Whether these words ask for a run.
 pub fn is_run(rt: &HostRuntime, words: &[Text]) -> bool {
     match read_words(rt.alloc(), words) {
-        Ok(request) => request.mode() == Mode::Run,
+        Ok(request) => mode_of(&request) == Mode::Run,
         Err(_) => false,
     }
 }

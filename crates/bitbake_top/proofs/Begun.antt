@@ -9,14 +9,16 @@ use Rattle.outside_traits.specs.Store.{IsListing}
 use Rattle.meta_model.specs.declared.event.Status.{Status}
 use Rattle.meta_model.specs.declared.event.Status.TheVariants as status
 use Rattle.meta_model.specs.declared.plan.Plan.{Plan}
-use Rattle.project_reading.specs.Answered.{is_failed_read, is_refusal}
-use Rattle.project_reading.specs.Project.{not_built}
+use Rattle.project_reading.specs.Answered.{is_failed_read}
+use Rattle.answer_model.specs.Answers.{is_refusal}
+use Rattle.answer_model.specs.Project.{not_built}
 use Rattle.run_plan.proofs.OnePlan.{plan_not_refused, plans_are_one}
-use Rattle.build_resume.specs.Build.{MayEndSo, is_collision, is_unsteady}
-use Rattle.bitbake_top.specs.Devices.{IsUnchanged}
-use Rattle.bitbake_top.specs.declared.asked.RunRequest.{RunRequest}
+use Rattle.run_model.specs.Build.{MayEndSo, is_unsteady}
+use Rattle.build_resume.specs.Build.{is_collision}
+use Rattle.answer_model.specs.Devices.{IsUnchanged}
+use Rattle.answer_model.specs.declared.asked.RunRequest.{RunRequest}
 use Rattle.bitbake_top.specs.Answers.{is_words_refusal}
-use Rattle.bitbake_top.specs.Run.{Files, HasBuild, HasCause, IsCertain, IsRunPlan, IsUnrun}
+use Rattle.answer_model.specs.Run.{Files, HasBuild, HasCause, IsCertain, IsRunPlan, IsUnrun}
 use Rattle.bitbake_top.proofs.Devices.{unchanged_rose}
 use Rattle.bitbake_top.proofs.Refusals.{plan_refused_is_built}
 

@@ -1,8 +1,8 @@
 -- Counts of faults.
 use Rattle.std.proofs.Common.{◌≡◌, ap, ℕ, ◌<◌, ◌≤◌, List, arith, get_or}
 use Rattle.outside_traits.specs.Fault.{Rose}
-use Rattle.build_resume.specs.Benches.{SomeRose}
-use Rattle.bitbake_top.specs.Devices.{AreUnchanged, IsUnchanged}
+use Rattle.run_model.specs.Benches.{SomeRose}
+use Rattle.answer_model.specs.Devices.{AreUnchanged, IsUnchanged}
 
 -- an unchanged count didn't rise
 pub unchanged_rose : (before now : ℕ) → IsUnchanged before now → Rose before now → ⊥

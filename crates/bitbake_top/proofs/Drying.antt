@@ -6,16 +6,18 @@ use Rattle.meta_model.specs.declared.event.Status.{Status}
 use Rattle.meta_model.specs.declared.event.Status.TheVariants as status
 use Rattle.meta_model.specs.declared.plan.Plan.{Plan}
 use Rattle.outside_traits.specs.Store.{IsListing}
-use Rattle.bb_report.specs.Texts.{dry_text}
+use Rattle.run_model.specs.Texts.{dry_text}
 use Rattle.plan_model.specs.Inputs.{Files}
-use Rattle.project_reading.specs.Answered.{is_refusal}
-use Rattle.run_plan.specs.Plans.{HasPlan, IsNoPlan}
+use Rattle.answer_model.specs.Answers.{is_refusal}
+use Rattle.answer_model.specs.Plans.{HasPlan}
+use Rattle.run_plan.specs.Plans.{IsNoPlan}
 use Rattle.run_plan.proofs.OnePlan.{plans_are_one, plan_not_refused}
-use Rattle.bitbake_top.specs.declared.asked.Asked.{Asked}
-use Rattle.bitbake_top.specs.declared.asked.Asked.TheVariants.{Plans}
-use Rattle.bitbake_top.specs.declared.asked.DryRequest.{DryRequest}
-use Rattle.bitbake_top.specs.Asked.{AskDry, asked_of}
-use Rattle.bitbake_top.specs.Dry.{HasDry, IsDryPlan, IsDryRefused, IsDryText}
+use Rattle.answer_model.specs.declared.asked.Asked.{Asked}
+use Rattle.answer_model.specs.declared.asked.Asked.TheVariants.{Plans}
+use Rattle.answer_model.specs.declared.asked.DryRequest.{DryRequest}
+use Rattle.answer_model.specs.Asked.{AskDry, asked_of}
+use Rattle.answer_model.specs.Dry.{HasDry, IsDryPlan, IsDryRefused}
+use Rattle.bitbake_top.specs.Dry.{IsDryText}
 
 -- a request has one text
 pub one_text : (files : Files) (paths : List (List ℕ)) (request : DryRequest) (text : List ℕ) (plan : Plan) → IsListing [] files paths → IsDryText files paths request text → IsDryPlan files paths request plan → text ≡ dry_text plan

@@ -4,9 +4,10 @@ use Rattle.std.specs.Prelude.{Option, IfErr, IfOk}
 use Rattle.outside_traits.specs.Store.{IsListing}
 use Rattle.meta_model.specs.declared.event.Status.{Status}
 use Rattle.meta_model.specs.declared.plan.Plan.{Plan}
-use Rattle.run_plan.specs.Plans.{HasPlan, IsNoPlan}
-use Rattle.bitbake_top.specs.declared.asked.RunRequest.{RunRequest}
-use Rattle.bitbake_top.specs.Run.{Files, IsRunPlan, IsUnrun}
+use Rattle.answer_model.specs.Plans.{HasPlan}
+use Rattle.run_plan.specs.Plans.{IsNoPlan}
+use Rattle.answer_model.specs.declared.asked.RunRequest.{RunRequest}
+use Rattle.answer_model.specs.Run.{Files, IsRunPlan, IsUnrun}
 
 -- the search found no plan
 unrun_from : (files : Files) (paths : List (List ℕ)) (request : RunRequest) (s : Status) → IsNoPlan files paths request.targets request.task request.force s → IsUnrun files paths request s

@@ -1,6 +1,6 @@
 -- What is kept of a run over the plan of its words.
-use Rattle.std.proofs.Common.{◌≡◌, ◌⊎◌, ◌∙◌, ap, sym, subst, refl, ℕ, false, List, [], ◌∷◌, ◌++◌}
-use Rattle.std.specs.Prelude.{◌≢◌, All, Contains}
+use Rattle.std.proofs.Common.{◌≡◌, ◌∙◌, ap, sym, subst, refl, ℕ, false, List, [], ◌∷◌, ◌++◌}
+use Rattle.std.specs.Prelude.{◌≢◌, All}
 use Rattle.std.proofs.lemmas.List.{append-nil}
 use Rattle.std.specs.List.{AllByRecursion}
 use Rattle.std.proofs.lemmas.List.Elements.{All-cons, All-nil}
@@ -17,11 +17,12 @@ use Rattle.plan_model.specs.Spellings.{HasSpellings}
 use Rattle.store_model.specs.Origins.{Book, Reading}
 use Rattle.store_model.specs.Valid.{IsValid}
 use Rattle.store_model.proofs.Lasting.{empty_is_valid}
-use Rattle.build_store.specs.Sound.{IsReadable}
-use Rattle.run_workers.specs.Runs.{Runs}
-use Rattle.build_resume.specs.Benches.{AtSeats, BreaksByFault}
-use Rattle.build_resume.specs.Build.{FailsClean, HasRun, IsCrash, IsEachFailureTold, IsEntry, Leaves, LeavesOthers, failed_in, is_unsteady}
-use Rattle.bitbake_top.specs.Headline.{BeginsAgain, BeginsFirst, Keeps, MayBegin}
+use Rattle.store_model.specs.Readable.{IsReadable}
+use Rattle.run_model.specs.Runs.{Runs}
+use Rattle.run_model.specs.Benches.{AtSeats, BreaksByFault}
+use Rattle.run_model.specs.Build.{IsCrash, is_unsteady}
+use Rattle.build_resume.specs.Build.{IsEntry, Leaves}
+use Rattle.run_model.specs.Headline.{BeginsAgain, BeginsFirst, Keeps, MayBegin}
 
 pub begins_first : BeginsFirst
 begins_first gives reading plan trees may = record {
@@ -82,16 +83,7 @@ unbegun_keeps gives reading book plan options tales s old story before now fresh
 pub begun_keeps : (gives : Gives) (reading : Reading) (book : Book) (held : Store) (plan : Plan) (options : Options) (tales : List (List Logged)) (tale : List Logged) (s : Status) (story : Story) (before now : List Runs)
     → tales ≡ tale ∷ [] → Leaves gives reading book held plan options tale s story before now → Keeps gives reading book held plan options tales s story before now
 begun_keeps gives reading book held plan options tales tale s story before now one kept =
-    subst (λ (l : List (List Logged)). Keeps gives reading book held plan options l s story before now) (sym one) (record {
-      exact = kept.exact;
-      crashes = kept.crashes;
-      legal = All-cons (λ x. (x ≡ []) ⊎ HasRun gives reading book held plan options x s story) tale [] kept.legal (All-nil _);
-      all_told = λ wanted is going. All-cons (IsEachFailureTold gives plan) tale [] (kept.all_told wanted is going) (All-nil _);
-      real = All-cons (λ x. (t : ℕ) → Contains (failed_in x) t → FailsClean gives plan t) tale [] kept.real (All-nil _);
-      others = All-cons (λ x. LeavesOthers gives book held plan options x s story) tale [] kept.others (All-nil _);
-      steady = kept.steady;
-      ran = kept.ran;
-    })
+    subst (λ (l : List (List Logged)). Keeps gives reading book held plan options l s story before now) (sym one) kept.keeps
 
 -- the causes of broken tasks, of the one tale
 pub begun_broke : (tales : List (List Logged)) (tale : List Logged) (before now : List ℕ) → tales ≡ tale ∷ [] → AtSeats (BreaksByFault tale) before now → All (λ x. AtSeats (BreaksByFault x) before now) tales

@@ -16,17 +16,18 @@ use Rattle.load_model.specs.Loading.{Sources, sources_of}
 use Rattle.load_model.specs.Layers.{Config, LayerRefusal, no_such_layer, bad_pattern, load as layer_load, no_list, config}
 use Rattle.load_model.specs.Recipes.{SetRefusal, bad_name, dangling_append, load as set_load, too_many, no_value as set_value, text_of}
 use Rattle.load_model.specs.Facts.{RecipeSet, recipe_set}
-use Rattle.project_reading.specs.Said.{value_status, cause_status, layer_status, set_status, lack_status}
-use Rattle.project_reading.specs.Project.{not_built, read_config, read_recipes}
-use Rattle.run_targets.specs.Targets.{target_of}
-use Rattle.run_targets.specs.Refused.{IsGraphStatus, lacking, cycle, many}
-use Rattle.run_targets.specs.Asked.{Asked, asked, asked_under, asked_over, asked_with, config_text, default_task, moved, target_in, targets_in, targets_of, threads_text}
-use Rattle.run_targets.specs.Runs.{IsRunRefused, asking, graph as no_graph, value as no_text, threads as no_threads}
+use Rattle.answer_model.specs.Said.{value_status, cause_status, layer_status, set_status, lack_status}
+use Rattle.answer_model.specs.Project.{not_built, read_config, read_recipes}
+use Rattle.answer_model.specs.Targets.{target_of}
+use Rattle.answer_model.specs.GraphStatus.{IsGraphStatus, lacking, cycle, many}
+use Rattle.answer_model.specs.RunAsked.{Asked, asked, asked_under, asked_over, asked_with, config_text, default_task, moved, target_in, targets_in, targets_of, threads_text}
+use Rattle.answer_model.specs.Runs.{IsRunRefused, asking, graph as no_graph}
+use Rattle.run_targets.specs.Runs.{value as no_text, threads as no_threads}
 use Rattle.plan_model.specs.Inputs.{Files}
 use Rattle.plan_model.specs.PlanRefusal.{PlanRefusal, bad_flag, no_value as plan_no_value, missing_file, input_bytes, plan_bytes}
-use Rattle.run_plan.specs.Plans.{IsPlanRefused}
-use Rattle.run_plan.specs.Plans.IsPlanRefused.{no_plan, no_run}
-use Rattle.run_plan.specs.Refused.{plan_status}
+use Rattle.answer_model.specs.Plans.{IsPlanRefused}
+use Rattle.answer_model.specs.Plans.IsPlanRefused.{no_plan, no_run}
+use Rattle.answer_model.specs.PlanStatus.{plan_status}
 
 -- whether a status says that something isn't built
 abbrev says_unbuilt : Status → Bool

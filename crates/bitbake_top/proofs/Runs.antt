@@ -1,9 +1,9 @@
 -- Which run the words ask for.
 use Rattle.std.proofs.Common.{◌≡◌, ◌∙◌, ap, sym, subst, Ok, ℕ, List}
-use Rattle.bitbake_top.specs.declared.asked.Asked.{Asked}
-use Rattle.bitbake_top.specs.declared.asked.Asked.TheVariants.{Runs}
-use Rattle.bitbake_top.specs.declared.asked.RunRequest.{RunRequest}
-use Rattle.bitbake_top.specs.Asked.{AskRun, asked_of}
+use Rattle.answer_model.specs.declared.asked.Asked.{Asked}
+use Rattle.answer_model.specs.declared.asked.Asked.TheVariants.{Runs}
+use Rattle.answer_model.specs.declared.asked.RunRequest.{RunRequest}
+use Rattle.answer_model.specs.Asked.{AskRun, asked_of}
 
 -- words ask for one run alone
 pub same_request : (words : List (List ℕ)) (asked request : RunRequest) → AskRun words asked → AskRun words request → asked ≡ request

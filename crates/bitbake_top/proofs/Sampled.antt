@@ -6,12 +6,13 @@ use Rattle.meta_model.specs.declared.event.Logged.{Logged}
 use Rattle.meta_model.specs.declared.event.Status.{Status}
 use Rattle.meta_model.specs.declared.event.Status.TheVariants as status
 use Rattle.meta_model.specs.declared.plan.Plan.{Plan}
-use Rattle.bb_report.specs.Texts.{fault_text}
-use Rattle.bb_report.specs.Written.{WritesFront}
-use Rattle.build_resume.specs.Benches.{SomeRose}
-use Rattle.bitbake_top.specs.Answers.{Says}
-use Rattle.bitbake_top.specs.Run.{HasCause}
-use Rattle.bitbake_top.specs.Sample.{IsLine, MayEnd, SaysSample, answered}
+use Rattle.run_model.specs.Texts.{fault_text}
+use Rattle.run_model.specs.Written.{WritesFront}
+use Rattle.run_model.specs.Benches.{SomeRose}
+use Rattle.answer_model.specs.Answers.{Says}
+use Rattle.answer_model.specs.Run.{HasCause}
+use Rattle.answer_model.specs.Sample.{IsLine, SaysSample}
+use Rattle.bitbake_top.specs.Sample.{MayEnd, answered}
 
 -- ---- devices that never fail
 

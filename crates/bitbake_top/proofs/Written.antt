@@ -4,13 +4,14 @@ use Rattle.outside_traits.specs.Fault.{Rose}
 use Rattle.meta_model.specs.declared.event.Logged.{Logged}
 use Rattle.meta_model.specs.declared.event.Status.{Status}
 use Rattle.meta_model.specs.declared.plan.Plan.{Plan}
-use Rattle.bb_report.specs.Runs.{report, run_text}
-use Rattle.bb_report.specs.Texts.{fault_text, plan_text}
-use Rattle.bb_report.specs.Written.{WritesFront}
-use Rattle.build_resume.specs.Build.{RanPrinted, WritesReport}
-use Rattle.bitbake_top.specs.Answers.{Says}
-use Rattle.run_workers.specs.Runs.{Runs}
-use Rattle.bitbake_top.specs.Run.{RanPrintedCall, WritesCall}
+use Rattle.run_model.specs.Report.{report, run_text}
+use Rattle.run_model.specs.Texts.{fault_text, plan_text}
+use Rattle.run_model.specs.Written.{WritesFront}
+use Rattle.run_model.specs.Build.{RanPrinted}
+use Rattle.build_resume.specs.Build.{WritesReport}
+use Rattle.answer_model.specs.Answers.{Says}
+use Rattle.run_model.specs.Runs.{Runs}
+use Rattle.answer_model.specs.Run.{RanPrintedCall, WritesCall}
 use Rattle.bitbake_top.proofs.Devices.{rose_from}
 
 -- a front of a text that stands behind another one is a front of both

@@ -1,40 +1,10 @@
--- What is answered where there is no run.
-use Rattle.std.specs.Prelude.{◌≡◌, ◌⊎◌, ℕ, Bool, true, false, List, ◌++◌, Result, Err, IsOk}
-use Rattle.outside_traits.specs.Fault.{Rose}
+-- How words are refused.
+use Rattle.std.specs.Prelude.{Bool, true, false}
 use Rattle.meta_model.specs.declared.event.Status.{Status}
 use Rattle.meta_model.specs.declared.event.Status.TheVariants as status
-use Rattle.bb_report.specs.Written.{WritesFront}
-use Rattle.project_reading.specs.Answered.{is_refusal}
-
--- the status is that of the refusal that was meant, unless memory ran out
-abbrev pub IsRefusal : {A : Type 0} → Result A Status → Status → Type 0
-IsRefusal meant s = (meant ≡ Err s) ⊎ (s ≡ status.OutOfMemory)
 
 -- the statuses of words that are refused: no reading, want of memory
 abbrev pub is_words_refusal : Status → Bool
 is_words_refusal status.Usage = true
 is_words_refusal status.OutOfMemory = true
 is_words_refusal _ = false
-
--- the statuses of a reading
-abbrev pub is_read_status : Status → Bool
-is_read_status status.Ok = true
-is_read_status status.WriteFault = true
-is_read_status s = is_refusal s
-
--- The status of a reading fits what was meant, a text or the status of a refusal: it is `Ok` or, where the sink failed,
--- `WriteFault` only where there is a text, and a fault of metadata or a limit only where that is the refusal. It may say
--- besides that the layers failed or that memory was wanting, and nothing else.
-abbrev pub HasRead : Status → Result (List ℕ) Status → Type 0
-HasRead status.Ok meant = IsOk meant
-HasRead status.WriteFault meant = IsOk meant
-HasRead (status.Metadata file line kind detail) meant = meant ≡ Err (status.Metadata file line kind detail)
-HasRead (status.Limit kind) meant = meant ≡ Err (status.Limit kind)
-HasRead status.ReadFault meant = Unit {0}
-HasRead status.OutOfMemory meant = Unit {0}
-HasRead _ meant = ⊥
-
--- A text was written behind the base, or, where the sink failed, a front of it. The numbers are the counts of the sink's faults,
--- before and after.
-abbrev pub Says : List ℕ → List ℕ → List ℕ → ℕ → ℕ → Type 0
-Says text base now before after = (now ≡ base ++ text) ⊎ (Rose before after × WritesFront base now text)

@@ -3,15 +3,16 @@ ghost use Rattle.std.specs.Prelude.{◌≡◌, ◌≢◌, ◌≤◌, ◌⊎◌, 
 ghost use Rattle.outside_traits.specs.Fault.{Rose};
 ghost use Rattle.outside_traits.specs.Store.{IsListing};
 ghost use Rattle.load_model.specs.Loading.{sources_of};
-ghost use Rattle.bb_report.specs.Texts.{fault_text};
-ghost use Rattle.bb_report.specs.Written.{WritesFront};
-ghost use Rattle.read_modes.specs.Modes.{mode_text};
-ghost use Rattle.bitbake_top.specs.Answers.{HasRead, Says, is_read_status};
+ghost use Rattle.run_model.specs.Texts.{fault_text};
+ghost use Rattle.run_model.specs.Written.{WritesFront};
+ghost use Rattle.answer_model.specs.Modes.{mode_text};
+ghost use Rattle.answer_model.specs.Answers.{HasRead, Says, is_read_status};
 
+use answer_model::ReadMode;
 use bb_report::{fault_text, write_all};
 use meta_model::Status;
 use outside_traits::{Layers, Sink};
-use read_modes::{ReadMode, read_mode};
+use read_modes::read_mode;
 use std::alloc::Global;
 use tree_model::Text;
 

@@ -1,56 +1,15 @@
 // What the words ask for.
 ghost use Rattle.std.specs.Prelude.{◌≡◌, true, Ok, IfOk, IfErr};
-ghost use Rattle.bitbake_top.specs.Answers.{IsRefusal, is_words_refusal};
-ghost use Rattle.bitbake_top.specs.Asked as asked;
-ghost use Rattle.bitbake_top.specs.declared.asked.Asked.TheVariants.{Reads};
+ghost use Rattle.answer_model.specs.Answers.{IsRefusal};
+ghost use Rattle.bitbake_top.specs.Answers.{is_words_refusal};
+ghost use Rattle.answer_model.specs.Asked as asked;
+ghost use Rattle.answer_model.specs.declared.asked.Asked.TheVariants.{Reads};
 
-use command_words::{Mode, Request, WordsFault, read_words};
+use answer_model::{Asked, DryRequest, Mode, ReadMode, Request, RunRequest};
+use command_words::{WordsFault, mode_of, read_words};
 use meta_model::{Options, Status};
-use read_modes::ReadMode;
 use std::alloc::Global;
-use tree_model::{Text, Texts};
-
-/// What words ask for.
-#[derive(Debug, Drop)]
-pub enum Asked {
-    /// A run of targets.
-    Runs(RunRequest),
-
-    /// What a mode that only reads metadata prints of these targets.
-    Reads { mode: ReadMode, targets: Texts },
-
-    /// The plan of targets.
-    Plans(DryRequest),
-
-    /// The sample of so many recipes.
-    Sample(u32),
-}
-
-/// What a dry run is asked for.
-#[derive(Debug, Drop)]
-pub struct DryRequest {
-    /// The targets, `NAME` or `NAME:TASK`.
-    pub targets: Texts,
-
-    /// The task of the targets that name none, where one was given.
-    pub task: Option<Text>,
-}
-
-/// What a run is asked for.
-#[derive(Debug, Drop)]
-pub struct RunRequest {
-    /// The targets, `NAME` or `NAME:TASK`.
-    pub targets: Texts,
-
-    /// The task of the targets that name none, where one was given.
-    pub task: Option<Text>,
-
-    /// Whether the tasks of the targets run in any case.
-    pub force: bool,
-
-    /// How the run goes on.
-    pub options: Options,
-}
+use tree_model::Text;
 
 /// The run of a request.
 fn run_of(request: Request) -> RunRequest
@@ -93,7 +52,7 @@ fn asked_for(alloc: Global, request: Request) -> Result<Asked, Status>
     ensures err { IfErr result (λ status. IsRefusal (asked.asked_for request) status) }
     ensures refusal { IfErr result (λ status. is_words_refusal status ≡ true) }
 {
-    match request.mode() {
+    match mode_of(&request) {
         Mode::Run => Ok(Asked::Runs(run_of(request))),
         Mode::Environment => Ok(reading_of(ReadMode::Environment, request)),
         Mode::Versions => Ok(reading_of(ReadMode::Versions, request)),
@@ -107,7 +66,7 @@ fn asked_for(alloc: Global, request: Request) -> Result<Asked, Status>
 ///
 /// # Errors
 /// `Usage` where the words have no reading, `OutOfMemory`.
-#[tactic(auto, unfolding(crate::specs::Asked::asked_of))]
+#[tactic(auto, unfolding(answer_model::specs::Asked::asked_of))]
 pub fn asked_of(alloc: Global, words: &[Text]) -> Result<Asked, Status>
     ensures ok { IfOk result (λ made. asked.asked_of words.now ≡ Ok made) }
     ensures err { IfErr result (λ status. IsRefusal (asked.asked_of words.now) status) }

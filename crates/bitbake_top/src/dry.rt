@@ -3,15 +3,16 @@ ghost use Rattle.std.specs.Prelude.{◌≡◌, ◌≢◌, ◌++◌, [], ℕ, Lis
 ghost use Rattle.outside_traits.specs.Fault.{Counts, Rose};
 ghost use Rattle.outside_traits.specs.Store.{IsListing};
 ghost use Rattle.meta_model.specs.declared.plan.Plan.{Plan as Whole};
-ghost use Rattle.project_reading.specs.Answered.{is_refusal, mode_failed};
-ghost use Rattle.bb_report.specs.Texts.{dry_text as text_of, fault_text};
-ghost use Rattle.bb_report.specs.Written.{WritesFront};
-ghost use Rattle.bitbake_top.specs.Answers.{Says, is_read_status};
-ghost use Rattle.bitbake_top.specs.Dry.{HasDry, IsDryPlan, IsDryText};
+ghost use Rattle.answer_model.specs.Answers.{is_refusal, Says, is_read_status};
+ghost use Rattle.project_reading.specs.Answered.{mode_failed};
+ghost use Rattle.run_model.specs.Texts.{dry_text as text_of, fault_text};
+ghost use Rattle.run_model.specs.Written.{WritesFront};
+ghost use Rattle.answer_model.specs.Dry.{HasDry, IsDryPlan};
+ghost use Rattle.bitbake_top.specs.Dry.{IsDryText};
 ghost use Rattle.run_plan.specs.Plans.{IsNoPlan};
 
 use crate::answer::{print, refuse};
-use crate::asked::DryRequest;
+use answer_model::DryRequest;
 use bb_report::dry_text;
 use meta_model::Status;
 use outside_traits::{Layers, Sink};

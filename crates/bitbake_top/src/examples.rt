@@ -1,17 +1,16 @@
 // Worked words, and where a run may begin. Each expected answer is derived from the rules by hand.
 ghost use Rattle.std.specs.Prelude.{◌≡◌, [], ◌∷◌, Ok, Err, Some, None, true, false, codes};
 ghost use Rattle.meta_model.specs.declared.event.Status.TheVariants.{Usage};
-ghost use Rattle.read_modes.specs.declared.modes.ReadMode.TheVariants.{Parse, Versions, Environment};
-ghost use Rattle.bitbake_top.specs.declared.asked.Asked.TheVariants.{Runs, Reads, Plans, Sample};
-ghost use Rattle.bitbake_top.specs.Asked.{asked_of};
-ghost use Rattle.bitbake_top.specs.Headline.{MayBegin};
+ghost use Rattle.answer_model.specs.declared.asked.ReadMode.TheVariants.{Parse, Versions, Environment};
+ghost use Rattle.answer_model.specs.declared.asked.Asked.TheVariants.{Runs, Reads, Plans, Sample};
+ghost use Rattle.answer_model.specs.Asked.{asked_of};
+ghost use Rattle.run_model.specs.Headline.{MayBegin, nothing};
 ghost use Rattle.bitbake_top.specs.Worked.{no_plan, stray};
-ghost use Rattle.build_resume.specs.Laws.{nothing};
 ghost use Rattle.run_workers.specs.Nothing.{nothing_given};
 ghost use Rattle.store_model.specs.Hello.{hello_reading};
 
 /// Runs, and what a mode prints.
-#[tactic(auto, unfolding(crate::specs::Asked::asked_of, command_words::specs::Command::command, clap::proofs::OnLiterals::clap_on_literals))]
+#[tactic(auto, unfolding(answer_model::specs::Asked::asked_of, answer_model::specs::Command::command, clap::proofs::OnLiterals::clap_on_literals))]
 pub fn example_of_asking()
     ensures one_name { asked_of (codes "hello" ∷ [])
         ≡ Ok (Runs
@@ -60,7 +59,7 @@ pub fn example_of_asking()
 {}
 
 /// Dry runs.
-#[tactic(auto, unfolding(crate::specs::Asked::asked_of, command_words::specs::Command::command, clap::proofs::OnLiterals::clap_on_literals))]
+#[tactic(auto, unfolding(answer_model::specs::Asked::asked_of, answer_model::specs::Command::command, clap::proofs::OnLiterals::clap_on_literals))]
 pub fn example_of_dry_runs()
     ensures target { asked_of (codes "-n" ∷ codes "hello" ∷ [])
         ≡ Ok (Plans (record { targets = codes "hello" ∷ []; task = None })) }
@@ -72,7 +71,7 @@ pub fn example_of_dry_runs()
 {}
 
 /// Options of runs, and the sample.
-#[tactic(auto, unfolding(crate::specs::Asked::asked_of, command_words::specs::Command::command, clap::proofs::OnLiterals::clap_on_literals))]
+#[tactic(auto, unfolding(answer_model::specs::Asked::asked_of, answer_model::specs::Command::command, clap::proofs::OnLiterals::clap_on_literals))]
 pub fn example_of_options()
     ensures force { asked_of (codes "-f" ∷ codes "hello" ∷ [])
         ≡ Ok (Runs
@@ -106,7 +105,7 @@ pub fn example_of_options()
 {}
 
 /// Words without a reading.
-#[tactic(auto, unfolding(crate::specs::Asked::asked_of, command_words::specs::Command::command, clap::proofs::OnLiterals::clap_on_literals))]
+#[tactic(auto, unfolding(answer_model::specs::Asked::asked_of, answer_model::specs::Command::command, clap::proofs::OnLiterals::clap_on_literals))]
 pub fn example_of_misread_words()
     // a run needs a target
     ensures no_words { asked_of [] ≡ Err Usage }

@@ -4,11 +4,11 @@
 //! and runs it (`build_resume`), prints what a mode gives that only reads metadata (`read_modes`), prints the plan of targets, or
 //! refuses the words. It hands the devices back with its status, the plan and the tale.
 //!
-//! The definitions stand in `specs/`: what words ask for (`Asked`), what is promised of a run whose devices tell (`Headline`), which plan a
-//! run has, why others aren't begun, and what is written (`Run`), and how the status and the printed text of an answer without a run fit
-//! what was meant (`Answers`, and `Dry` for a dry run).
-//! The plan of targets is defined in `run_plan`, the clean build in `meta_model`, stores and reuse in `store_model` and `build_store`,
-//! the text of a run in `bb_report`, the text of a mode in `read_modes`, the reading of words in `command_words`.
+//! The definitions stand in crates of their own. `answer_model` says how words are read and what they ask for (`Reading`, `Asked`), what a
+//! mode prints (`Modes`), which plan a run has, why others aren't begun, and what is written (`Plans`, `Run`), and how the status and the
+//! printed text of an answer without a run fit what was meant (`Answers`, and `Dry` for a dry run). `run_model` says what is promised of a
+//! run whose devices tell (`Headline`), and has the text of a run (`Report`). The clean build is defined in `meta_model`, stores and reuse in
+//! `store_model`.
 //!
 //! Promised of a run that may begin on what the disk holds (`MayBegin`): an empty disk, or what a crash of any earlier run left, where its
 //! plan may reuse the book there (`begin_laws`):

@@ -3,13 +3,14 @@ ghost use Rattle.std.specs.Prelude.{◌≡◌, ◌≢◌, ◌<◌, ◌↔◌, �
 ghost use Rattle.outside_traits.specs.Fault.{Rose};
 ghost use Rattle.outside_traits.specs.Story.{IsFresh};
 ghost use Rattle.outside_mem.specs.Told.{story_of};
-ghost use Rattle.bitbake_top.specs.Run.{Concludes, HasCause};
-ghost use Rattle.bitbake_top.specs.Sample.{IsLine, MayEnd, SaysSample, answered, plainly};
+ghost use Rattle.answer_model.specs.Run.{Concludes, HasCause};
+ghost use Rattle.answer_model.specs.Sample.{IsLine, SaysSample};
+ghost use Rattle.bitbake_top.specs.Sample.{MayEnd, answered, plainly};
 
 use crate::answer::{print, refuse};
-use crate::asked::RunRequest;
 use crate::finish::Finish;
 use crate::run::run;
+use answer_model::RunRequest;
 use bb_report::{end_text, fault_text};
 use build_store::Ahead;
 use meta_model::{Logged, Options, Plan, Status};

@@ -3,15 +3,15 @@ ghost use Rattle.std.specs.Prelude.{◌≡◌, ◌<◌, ◌≤◌, ◌↔◌, �
 ghost use Rattle.outside_traits.specs.Bench.{Gives};
 ghost use Rattle.outside_traits.specs.Fault.{Rose};
 ghost use Rattle.outside_traits.specs.Story.{IsFresh};
-ghost use Rattle.bb_report.specs.Texts.{plan_text as text_of};
+ghost use Rattle.run_model.specs.Texts.{plan_text as text_of};
 ghost use Rattle.plan_model.specs.Sound.{AreWanted, IsSound};
 ghost use Rattle.plan_model.specs.Spellings.{HasSpellings};
 ghost use Rattle.store_model.specs.Origins.{Book, Reading};
-ghost use Rattle.build_resume.specs.Build.{AllClean, MayEndSo, TellsDifference};
-ghost use Rattle.build_resume.specs.Benches.{AtSeats, BreaksByFault, SomeRose};
-ghost use Rattle.bitbake_top.specs.Devices.{AreUnchanged};
-ghost use Rattle.bitbake_top.specs.Headline.{Keeps, MayBegin};
-ghost use Rattle.bitbake_top.specs.Run.{Concludes, IsBegun, IsCertain, RanPrintedCall, WritesCall};
+ghost use Rattle.run_model.specs.Build.{AllClean, MayEndSo, TellsDifference};
+ghost use Rattle.run_model.specs.Benches.{AtSeats, BreaksByFault, SomeRose};
+ghost use Rattle.answer_model.specs.Devices.{AreUnchanged};
+ghost use Rattle.run_model.specs.Headline.{Keeps, MayBegin};
+ghost use Rattle.answer_model.specs.Run.{Concludes, IsBegun, IsCertain, RanPrintedCall, WritesCall};
 
 use crate::answer::refuse;
 use bb_report::{plan_text, write_all};

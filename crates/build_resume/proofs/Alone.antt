@@ -21,21 +21,23 @@ use Rattle.store_model.specs.declared.signature.EquivRow.{EquivRow}
 use Rattle.store_model.specs.Available.{IsAvailable, object_folder, stamp_path, work_folder}
 use Rattle.store_model.specs.Origins.{Book, rows_of}
 use Rattle.store_model.specs.Signatures.{Signed, signatures}
-use Rattle.build_store.specs.Opening.{Clears, IsElsewhere, IsOpened}
-use Rattle.build_store.specs.Reopened.{HaveSameLines}
+use Rattle.build_store.specs.Opening.{Clears}
+use Rattle.store_model.specs.Opened.{IsElsewhere, IsOpened}
+use Rattle.store_model.specs.Lines.{HaveSameLines}
 use Rattle.build_store.proofs.Areas.{differ, heads_differ}
 use Rattle.build_store.proofs.StillThere.{opened_stays}
-use Rattle.run_queue.specs.Books.{book_after}
+use Rattle.run_model.specs.Books.{book_after}
 use Rattle.run_queue.specs.declared.fault.RunFault.{RunFault}
 use Rattle.run_queue.specs.Keeps.{WasThere}
-use Rattle.run_queue.specs.Opening.{Opening}
-use Rattle.run_queue.specs.Own.{IsAside}
+use Rattle.run_model.specs.Opening.{Opening}
+use Rattle.run_model.specs.Own.{IsAside}
 use Rattle.run_queue.specs.Seen.{IsBegun}
-use Rattle.run_queue.specs.Stands.{HasStarted, IsAsBegun}
+use Rattle.run_model.specs.Stands.{HasStarted}
+use Rattle.run_queue.specs.Stands.{IsAsBegun}
 use Rattle.run_queue.proofs.Enduring.{signed_task}
 use Rattle.run_queue.proofs.Placing.{has_place}
-use Rattle.build_resume.specs.Build.{IsLeftAlone, LeavesOthers, MayTouch}
-use Rattle.build_resume.specs.Ends.{is_faultless}
+use Rattle.run_model.specs.Build.{IsLeftAlone, LeavesOthers, MayTouch}
+use Rattle.run_model.specs.Ends.{is_faultless}
 use Rattle.build_resume.specs.Outcome.{KeptTo}
 use Rattle.build_resume.proofs.Outcomes.{fresh_image}
 

@@ -11,21 +11,24 @@ use Rattle.meta_model.specs.declared.plan.Plan.{Plan}
 use Rattle.meta_model.specs.CleanBuild.{Gives}
 use Rattle.build_store.specs.declared.fault.StoreFault.{StoreFault}
 use Rattle.build_store.specs.declared.fault.StoreFault.TheVariants as fault
-use Rattle.bb_report.specs.Runs.{has_failure}
+use Rattle.run_model.specs.Report.{has_failure}
 use Rattle.run_queue.specs.declared.fault.RunFault.{RunFault}
 use Rattle.run_queue.specs.declared.fault.RunFault.TheVariants as kept
-use Rattle.run_queue.specs.Causes.{fault_broke}
+use Rattle.run_model.specs.Causes.{fault_broke}
 use Rattle.run_queue.specs.Keeps.{IsRun}
-use Rattle.run_queue.specs.Opening.{Opening}
+use Rattle.run_model.specs.Opening.{Opening}
 use Rattle.run_queue.specs.Seen.{RunView, seen}
-use Rattle.run_queue.specs.Turns.{IsAtEnd, SameRun}
+use Rattle.run_model.specs.Outcome.{IsAtEnd, EndsAs}
+use Rattle.run_queue.specs.Turns.{SameRun}
 use Rattle.outside_traits.specs.Fault.{Counts}
-use Rattle.run_workers.specs.Runs.{RanScripts, RanThese, Runs, by_bench}
-use Rattle.build_resume.specs.Benches.{broken_at, started_by}
-use Rattle.build_resume.specs.Build.{RanJust, RanStarted}
+use Rattle.run_model.specs.Runs.{RanScripts, RanThese, Runs}
+use Rattle.run_workers.specs.Runs.{by_bench}
+use Rattle.run_model.specs.Benches.{broken_at, started_by}
+use Rattle.run_model.specs.Build.{RanJust, RanStarted}
 use Rattle.build_resume.specs.Drive.{Drove, Grows, IsHalted, RanOn, WentOn}
-use Rattle.build_resume.specs.Ends.{EndsBy, bench_broke, halt_by, is_faultless, is_of_fault, is_plain, memory_broke, status_by, status_of}
-use Rattle.build_resume.specs.Outcome.{EndsAs, KeptTo}
+use Rattle.build_resume.specs.Ends.{EndsBy, halt_by, status_by, status_of}
+use Rattle.run_model.specs.Ends.{bench_broke, is_faultless, is_of_fault, is_plain, memory_broke}
+use Rattle.build_resume.specs.Outcome.{KeptTo}
 use Rattle.run_workers.specs.declared.worker.Halt.{Halt}
 use Rattle.run_workers.specs.declared.worker.Halt.TheVariants as halt
 use Rattle.build_resume.proofs.Outcomes.{failure_told}

@@ -9,10 +9,10 @@ use Rattle.outside_traits.specs.Fault.{Rose}
 use Rattle.meta_model.specs.declared.event.Logged.{Logged}
 use Rattle.meta_model.specs.declared.plan.Plan.{Plan}
 use Rattle.meta_model.specs.CleanBuild.{Gives}
-use Rattle.run_workers.specs.Runs.{RanThese, Runs, broken_off, started_in}
-use Rattle.run_workers.specs.Told.{own}
-use Rattle.build_resume.specs.Benches.{AtSeats, AtWorkers, BreaksBench, BreaksByFault, SomeRose, broken_at, started_by}
-use Rattle.build_resume.specs.Build.{RanJust, RanStarted}
+use Rattle.run_model.specs.Runs.{RanThese, Runs, broken_off, started_in}
+use Rattle.run_model.specs.Seats.{own}
+use Rattle.run_model.specs.Benches.{AtSeats, AtWorkers, BreaksBench, BreaksByFault, SomeRose, broken_at, started_by}
+use Rattle.run_model.specs.Build.{RanJust, RanStarted}
 use Rattle.build_resume.specs.Drive.{IsAlone}
 use Rattle.build_resume.proofs.Seating.{breaks_before, breaks_nil, broken_behind, own_split, started_split}
 use Rattle.build_resume.proofs.Turning.{these_still}

@@ -1,6 +1,7 @@
 -- What a run leaves of a disk on which it began, over a book.
 use Rattle.std.proofs.Common.{◌≡◌, sym, subst, refl, ℕ, ◌+◌, ◌-◌, ◌^◌, ◌<◌, false, List, [], ◌++◌, take, slice_get, Some, arith, inl, inr}
 use Rattle.std.specs.Prelude.{◌≢◌, ◌⊎◌, Contains}
+use Rattle.std.proofs.lemmas.List.Elements.{All-cons, All-nil}
 use Rattle.outside_traits.specs.Passes.{EachNow, Passes}
 use Rattle.outside_traits.specs.Store.{Store}
 use Rattle.outside_traits.specs.Story.{IsFresh, IsImageSince, IsSound as IsStorySound, Story}
@@ -14,18 +15,22 @@ use Rattle.plan_model.specs.Sound.{AreWanted}
 use Rattle.store_model.specs.Origins.{Book, Reading}
 use Rattle.store_model.specs.Valid.{IsValid}
 use Rattle.store_model.specs.declared.signature.EquivRow.{EquivRow}
-use Rattle.build_store.specs.Opening.{Clears, IsOpened}
+use Rattle.build_store.specs.Opening.{Clears}
+use Rattle.store_model.specs.Opened.{IsOpened}
 use Rattle.build_store.specs.Reopened.{IsBookAgain}
 use Rattle.build_store.proofs.Reopened.{opened_is_valid}
-use Rattle.run_queue.specs.Books.{book_after}
-use Rattle.run_queue.specs.Courses.{IsLegalTale}
+use Rattle.run_model.specs.Books.{book_after}
+use Rattle.run_model.specs.Courses.{IsLegalTale}
 use Rattle.run_queue.specs.Keeps.{IsOpening}
-use Rattle.run_queue.specs.Opening.{MayRun, Opening}
-use Rattle.run_queue.specs.Stands.{AllStand}
-use Rattle.run_workers.specs.Runs.{Runs}
-use Rattle.build_resume.specs.Benches.{AtSeats}
-use Rattle.build_resume.specs.Build.{AllClean, FailsClean, HasRun, HasTargets, IsCrash, IsEntry, IsLeftByRun, Leaves, LeavesOthers, RanStarted, failed_in, is_unsteady}
-use Rattle.build_resume.specs.Outcome.{EndsAs, KeptTo}
+use Rattle.run_queue.specs.Opening.{MayRun}
+use Rattle.run_model.specs.Opening.{Opening}
+use Rattle.run_model.specs.Stands.{AllStand}
+use Rattle.run_model.specs.Runs.{Runs}
+use Rattle.run_model.specs.Benches.{AtSeats}
+use Rattle.run_model.specs.Build.{AllClean, FailsClean, HasRun, HasTargets, IsCrash, IsEachFailureTold, IsLeftByRun, LeavesOthers, RanStarted, failed_in, is_unsteady}
+use Rattle.build_resume.specs.Build.{IsEntry, Leaves}
+use Rattle.run_model.specs.Outcome.{EndsAs}
+use Rattle.build_resume.specs.Outcome.{KeptTo}
 use Rattle.build_resume.proofs.Alone.{kept_others, opened_alone, opening_clears}
 use Rattle.build_resume.proofs.Told.{all_told}
 use Rattle.build_resume.proofs.Outcomes.{kept_all, kept_clean, kept_crash, kept_exact, kept_real, opened_crash, opened_may_run, opening_of}
@@ -104,15 +109,17 @@ module _ (gives : Gives) (reading : Reading) (book : Book) (plan : Plan) (option
     -- all together
     pub built_leaves : IsStorySound story → is_unsteady s ≡ false → (runs now : List Runs) → AtSeats (RanStarted gives plan tale) runs now → Leaves gives reading book before.held plan options tale s story runs now
     built_leaves lawful steady runs now ran = record {
-      exact = built_exact;
-      crashes = built_crashes;
-      others = built_others;
+      keeps = record {
+        exact = built_exact;
+        crashes = built_crashes;
+        legal = All-cons (λ x. (x ≡ []) ⊎ HasRun gives reading book before.held plan options x s story) tale [] (inr built_legal) (All-nil _);
+        real = All-cons (λ x. (t : ℕ) → Contains (failed_in x) t → FailsClean gives plan t) tale [] (built_real) (All-nil _);
+        all_told = λ wanted failed going. All-cons (IsEachFailureTold gives plan) tale [] (all_told opening plan options tale s story k lawful entry.sound wanted (ends.went_on failed going)) (All-nil _);
+        others = All-cons (λ x. LeavesOthers gives book before.held plan options x s story) tale [] (built_others) (All-nil _);
+        steady = steady;
+        ran = ran;
+      };
       complete = built_complete lawful;
-      steady = steady;
-      legal = inr built_legal;
-      real = built_real;
-      all_told = λ wanted failed going. all_told opening plan options tale s story k lawful entry.sound wanted (ends.went_on failed going);
-      ran = ran;
     }
 
 -- The plan and the options of a run are those that it was begun with.
@@ -126,15 +133,17 @@ as_begun o p plan x options tale story s plan_is options_are kept ends = (
 pub unbegun_leaves : (gives : Gives) (reading : Reading) (book : Book) (plan : Plan) (options : Options) (before after story : Story) (tale : List Logged) (s : Status) (runs now : List Runs) → IsFresh before → IsEntry gives reading book before.held plan → Passes before after (Clears before.held) → story ≡ after
     → tale ≡ [] → s ≢ status.Ok → s ≢ status.TaskFailed → is_unsteady s ≡ false → AtSeats (RanStarted gives plan tale) runs now → Leaves gives reading book before.held plan options tale s story runs now
 unbegun_leaves gives reading book plan options before after story tale s runs now fresh entry clears same none ok failed steady ran = record {
-  exact = λ e. absurd (ok e);
-  crashes = λ image since. opened_crash gives reading book plan before after image fresh entry clears (subst (λ (x : Story). IsImageSince x 0 image) same since);
-  others = subst (λ (x : Story). LeavesOthers gives book before.held plan options tale s x) (sym same) (opened_alone gives book before after plan options tale s fresh clears);
+  keeps = record {
+    exact = λ e. absurd (ok e);
+    crashes = λ image since. opened_crash gives reading book plan before after image fresh entry clears (subst (λ (x : Story). IsImageSince x 0 image) same since);
+    legal = All-cons (λ x. (x ≡ []) ⊎ HasRun gives reading book before.held plan options x s story) tale [] (inl none) (All-nil _);
+    real = All-cons (λ x. (t : ℕ) → Contains (failed_in x) t → FailsClean gives plan t) tale [] (λ t has. absurd (none_fails t (subst (λ (l : List Logged). Contains (failed_in l) t) none has))) (All-nil _);
+    all_told = λ wanted e going. absurd (failed e);
+    others = All-cons (λ x. LeavesOthers gives book before.held plan options x s story) tale [] (subst (λ (x : Story). LeavesOthers gives book before.held plan options tale s x) (sym same) (opened_alone gives book before after plan options tale s fresh clears)) (All-nil _);
+    steady = steady;
+    ran = ran;
+  };
   complete = λ wanted. (λ e. absurd (ok e), λ clean e. absurd (failed e));
-  steady = steady;
-  legal = inl none;
-  all_told = λ wanted e going. absurd (failed e);
-  real = λ t has. absurd (none_fails t (subst (λ (l : List Logged). Contains (failed_in l) t) none has));
-  ran = ran;
 }
   where
     none_fails : (t : ℕ) → Contains (failed_in []) t → ⊥

@@ -7,15 +7,16 @@ use Rattle.meta_model.specs.declared.event.Event.TheVariants as events
 use Rattle.meta_model.specs.declared.event.Logged.{Logged}
 use Rattle.meta_model.specs.declared.plan.Plan.{Plan}
 use Rattle.meta_model.specs.CleanBuild.{Entries, Gives}
-use Rattle.run_core.specs.Fates.{task_of}
+use Rattle.tale_model.specs.Fates.{task_of}
 use Rattle.task_worker.specs.declared.given.Job.{Job}
-use Rattle.run_queue.specs.Opening.{Opening}
+use Rattle.run_model.specs.Opening.{Opening}
 use Rattle.run_queue.specs.Seen.{Seen}
 use Rattle.run_queue.specs.Turns.{IsCleanJob, Marks}
-use Rattle.run_workers.specs.Runs.{AllRan, IsRunOf, RanSoFar, RanThese, Runs}
-use Rattle.run_workers.specs.Told.{own}
+use Rattle.run_workers.specs.Runs.{AllRan, RanSoFar}
+use Rattle.run_model.specs.Runs.{IsRunOf, RanThese, Runs}
+use Rattle.run_model.specs.Seats.{own}
 use Rattle.run_workers.specs.Worked.{BrokeOff}
-use Rattle.build_resume.specs.Benches.{broken_at, started_by}
+use Rattle.run_model.specs.Benches.{broken_at, started_by}
 use Rattle.build_resume.specs.Drive.{Closes, Drove, Grows}
 use Rattle.run_workers.specs.declared.worker.Halt.{Halt}
 use Rattle.build_resume.proofs.Seating.{alone_nil, alone_one, alone_then, breaks_nil, breaks_one, breaks_split, broken_behind, broken_marked, started_split}
@@ -104,15 +105,15 @@ drove_same {gives} {other} {plan} {now} halt old new before after same plan_is d
 -- ---- a tale that seat 0 goes on with
 
 -- no event is both the start of a task and that it broke off since its bench failed
-not_both : (x : Event) (t s : ℕ) → x ≡ events.Started t s → Rattle.run_workers.specs.Worked.is_bench_break x ≡ true → ⊥
-not_both x t s is breaks = false≢true (sym (ap Rattle.run_workers.specs.Worked.is_bench_break is) ∙ breaks)
+not_both : (x : Event) (t s : ℕ) → x ≡ events.Started t s → Rattle.run_model.specs.Seats.is_bench_break x ≡ true → ⊥
+not_both x t s is breaks = false≢true (sym (ap Rattle.run_model.specs.Seats.is_bench_break is) ∙ breaks)
 
 -- by nothing
 pub grows_none : (halt : Option Halt) (old new : List Logged) → new ≡ old → Grows halt old new
 grows_none halt old new same = record { more = []; is = same ∙ sym (append-nil old); alone = alone_nil; breaks = λ b. absurd (breaks_nil 0 b) }
 
 -- by one event, which isn't that a task broke off since its bench failed
-pub grows_one : (halt : Option Halt) (event : Event) (old new : List Logged) → Marks 0 event old new → Rattle.run_workers.specs.Worked.is_bench_break event ≡ false → Grows halt old new
+pub grows_one : (halt : Option Halt) (event : Event) (old new : List Logged) → Marks 0 event old new → Rattle.run_model.specs.Seats.is_bench_break event ≡ false → Grows halt old new
 grows_one halt event old new m calm = record {
   more = entry ∷ [];
   is = m.is;

@@ -7,7 +7,7 @@ use Rattle.meta_model.specs.declared.event.Event.{Event}
 use Rattle.meta_model.specs.declared.event.Event.TheVariants as events
 use Rattle.meta_model.specs.declared.event.Logged.{Logged}
 use Rattle.meta_model.specs.declared.event.Why.{Why}
-use Rattle.build_resume.specs.Build.{failed_by, failed_in}
+use Rattle.run_model.specs.Build.{failed_by, failed_in}
 
 failed_step : (event : Event) (more : List ℕ) → failed_by event more ≡ failed_by event [] ++ more
 failed_step (events.Found t) more = refl

@@ -8,7 +8,7 @@ use Rattle.tree_model.specs.declared.text.Mem.{Mem}
 use Rattle.run_queue.specs.declared.fault.RunFault.{RunFault}
 use Rattle.run_queue.specs.declared.state.Claim.{Claim}
 use Rattle.run_queue.specs.declared.state.Claim.TheVariants as claim
-use Rattle.run_queue.specs.Opening.{Opening}
+use Rattle.run_model.specs.Opening.{Opening}
 use Rattle.run_queue.specs.Seen.{RunView, seen}
 use Rattle.run_queue.specs.Turns.{IsCleanJob}
 use Rattle.build_resume.specs.Drive.{IsHalted, left_over}
@@ -36,9 +36,9 @@ clean_still story written o old new job same j = record {
   is_task = subst (λ (p : Plan). Rattle.std.specs.List.slice_get p.tasks job.task ≡ Some j.task) (sym same) j.is_task;
   outputs = j.outputs;
   numbers = j.numbers;
-  clean = subst (λ (p : Plan). Rattle.task_worker.specs.OneTask.AreClean o.gives p.tasks j.outputs) (sym same) j.clean;
+  clean = subst (λ (p : Plan). Rattle.run_model.specs.CleanOutputs.AreClean o.gives p.tasks j.outputs) (sym same) j.clean;
   script = j.script;
-  layout = subst (λ (p : Plan). job.layout ≡ Rattle.task_worker.specs.Layouts.layout_over p.tasks j.task j.outputs) (sym same) j.layout;
+  layout = subst (λ (p : Plan). job.layout ≡ Rattle.run_model.specs.Layouts.layout_over p.tasks j.task j.outputs) (sym same) j.layout;
   placing = j.placing;
   within = j.within;
 }

@@ -17,30 +17,35 @@ use Rattle.meta_model.specs.declared.plan.Plan.{Plan}
 use Rattle.meta_model.specs.declared.plan.PlanTask.{PlanTask}
 use Rattle.meta_model.specs.CleanBuild.{Built, Entries, Gives, Lack, clean_build, fails}
 use Rattle.plan_model.specs.Sound.{AreWanted, IsSound}
-use Rattle.run_core.specs.declared.fate.Fate.{Fate}
-use Rattle.run_core.specs.declared.fate.Fate.TheVariants as fate
-use Rattle.run_core.specs.Fates.{HoldsFailure, fate_at, fate_by, fates_told, task_of}
+use Rattle.tale_model.specs.declared.fate.Fate.{Fate}
+use Rattle.tale_model.specs.declared.fate.Fate.TheVariants as fate
+use Rattle.tale_model.specs.Fates.{HoldsFailure, fate_at, fate_by, fates_told, task_of}
 use Rattle.store_model.specs.Origins.{Book, Reading}
 use Rattle.store_model.specs.Valid.{IsValid}
 use Rattle.store_model.specs.declared.signature.EquivRow.{EquivRow}
-use Rattle.build_store.specs.Opening.{Clears, IsOpened}
-use Rattle.build_store.specs.Reopened.{HaveSameLines, IsBookAgain}
-use Rattle.build_store.specs.Sound.{IsReadable}
+use Rattle.build_store.specs.Opening.{Clears}
+use Rattle.store_model.specs.Opened.{IsOpened}
+use Rattle.store_model.specs.Lines.{HaveSameLines}
+use Rattle.build_store.specs.Reopened.{IsBookAgain}
+use Rattle.store_model.specs.Readable.{IsReadable}
 use Rattle.build_store.proofs.Reopened.{cleared_is_valid, opened_holds_no_more}
 use Rattle.build_store.proofs.Reused.{reuse_again}
-use Rattle.bb_report.specs.Runs.{has_failure, is_failure}
-use Rattle.run_queue.specs.Opening.{HasFolders, MayRun, Opening}
-use Rattle.run_queue.specs.Turns.{IsAtEnd}
+use Rattle.run_model.specs.Report.{has_failure, is_failure}
+use Rattle.run_model.specs.Opening.{HasFolders, Opening}
+use Rattle.run_queue.specs.Opening.{MayRun}
+use Rattle.run_model.specs.Outcome.{IsAtEnd}
 use Rattle.run_queue.proofs.Ending.{exact_at_end}
 use Rattle.run_queue.proofs.Failing.{failed_is_real}
 use Rattle.run_queue.proofs.Wanted.{all_have_outputs}
-use Rattle.build_resume.specs.Build.{AllClean, FailsClean, HasTargets, IsCrash, IsEntry, failed_in}
+use Rattle.run_model.specs.Build.{AllClean, FailsClean, HasTargets, IsCrash, failed_in}
+use Rattle.build_resume.specs.Build.{IsEntry}
 use Rattle.build_resume.specs.Outcome.{KeptTo}
 use Rattle.build_resume.proofs.Failed.{failed_entry}
 use Rattle.meta_model.specs.declared.event.Why.{Why}
 use Rattle.meta_model.specs.declared.event.Why.TheVariants as why
-use Rattle.run_core.specs.History as said
-use Rattle.run_queue.specs.Courses.{IsReal, clean_says, said_of}
+use Rattle.tale_model.specs.History as said
+use Rattle.run_queue.specs.Courses.{IsReal}
+use Rattle.run_model.specs.Courses.{clean_says, said_of}
 use Rattle.run_queue.proofs.ReadyJobs.{built_task, task_at}
 use Rattle.outside_traits.proofs.Images.{held-image, now-since}
 use Rattle.outside_traits.specs.Story.{IsSound as IsStorySound}
@@ -73,9 +78,9 @@ failed_before (x ∷ xs) (suc t) zero f e = inl e
 failed_before (x ∷ xs) zero (suc u) f e = inl e
 failed_before (x ∷ xs) (suc t) (suc u) f e = failed_before xs t u f e
 
-folded_failed : (tale : List Logged) (fates : List Fate) (t : ℕ) → fate_at (Rattle.std.specs.Prelude.fold Rattle.run_core.specs.Fates.fates_by fates (Rattle.std.specs.Prelude.map (λ (e : Logged). e.event) tale)) t ≡ fate.Failed → (fate_at fates t ≡ fate.Failed) ⊎ (has_failure tale ≡ true)
+folded_failed : (tale : List Logged) (fates : List Fate) (t : ℕ) → fate_at (Rattle.std.specs.Prelude.fold Rattle.tale_model.specs.Fates.fates_by fates (Rattle.std.specs.Prelude.map (λ (e : Logged). e.event) tale)) t ≡ fate.Failed → (fate_at fates t ≡ fate.Failed) ⊎ (has_failure tale ≡ true)
 folded_failed [] fates t e = inl e
-folded_failed (x ∷ tale) fates t e = elim (folded_failed tale (Rattle.run_core.specs.Fates.fates_by fates x.event) t e) [
+folded_failed (x ∷ tale) fates t e = elim (folded_failed tale (Rattle.tale_model.specs.Fates.fates_by fates x.event) t e) [
   | inl now ↦ elim (failed_before fates t (task_of x.event) (fate_by x.event) now) [
     | inl was ↦ inl was
     | inr said ↦ inr (or_left (is_failure x.event) (has_failure tale) (failure_by x.event said))
@@ -100,7 +105,7 @@ pub some_failed : (tale : List Logged) → has_failure tale ≡ true → (t : �
 some_failed [] is = absurd (false≢true is)
 some_failed (e ∷ tale) is = by e.event is (some_failed tale)
   where
-    by : (x : Event) → Rattle.std.specs.Prelude.◌||◌ (is_failure x) (has_failure tale) ≡ true → (has_failure tale ≡ true → (t : ℕ) × Contains (failed_in tale) t) → (t : ℕ) × Contains (Rattle.build_resume.specs.Build.failed_by x (failed_in tale)) t
+    by : (x : Event) → Rattle.std.specs.Prelude.◌||◌ (is_failure x) (has_failure tale) ≡ true → (has_failure tale ≡ true → (t : ℕ) × Contains (failed_in tale) t) → (t : ℕ) × Contains (Rattle.run_model.specs.Build.failed_by x (failed_in tale)) t
     by (events.Found u) h rest = rest h
     by (events.Restored u) h rest = rest h
     by (events.Started u s) h rest = rest h

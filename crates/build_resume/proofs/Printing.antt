@@ -6,15 +6,16 @@ use Rattle.meta_model.specs.declared.event.Event.TheVariants as events
 use Rattle.meta_model.specs.declared.event.Logged.{Logged}
 use Rattle.meta_model.specs.declared.plan.Plan.{Plan}
 use Rattle.meta_model.specs.CleanBuild.{Entries}
-use Rattle.bb_report.specs.Runs.{tale_text}
+use Rattle.run_model.specs.Report.{tale_text}
 use Rattle.run_queue.specs.declared.fault.RunFault.{RunFault}
 use Rattle.run_queue.specs.Keeps.{IsFront, Prints}
 use Rattle.run_queue.specs.Turns.{Marks}
-use Rattle.run_workers.specs.Runs.{AllScripts, IsScriptOf, RanScripts, Runs, ScriptsSoFar}
-use Rattle.run_workers.specs.Told.{own}
+use Rattle.run_workers.specs.Runs.{AllScripts, ScriptsSoFar}
+use Rattle.run_model.specs.Runs.{IsScriptOf, RanScripts, Runs}
+use Rattle.run_model.specs.Seats.{own}
 use Rattle.run_workers.specs.Worked.{BrokeOff}
-use Rattle.build_resume.specs.Benches.{AtSeats, broken_at, started_by}
-use Rattle.build_resume.specs.Build.{RanJust, RanPrinted}
+use Rattle.run_model.specs.Benches.{AtSeats, broken_at, started_by}
+use Rattle.run_model.specs.Build.{RanJust, RanPrinted}
 use Rattle.build_resume.specs.Drive.{Closes, IsAlone, RanSaid, SaidByWorkers, SaidTo}
 use Rattle.run_workers.specs.declared.worker.Halt.{Halt}
 use Rattle.run_workers.proofs.Working.{said_all as all_said}

@@ -4,7 +4,7 @@ use Rattle.outside_traits.specs.Fault.{Counts, Rose}
 use Rattle.meta_model.specs.declared.event.Logged.{Logged}
 use Rattle.meta_model.specs.declared.event.Status.{Status}
 use Rattle.meta_model.specs.declared.plan.Plan.{Plan}
-use Rattle.bb_report.specs.Runs.{last_line, tale_text}
+use Rattle.run_model.specs.Report.{last_line, tale_text}
 use Rattle.bb_report.proofs.Chains.{front_first}
 use Rattle.run_queue.specs.Keeps.{Prints}
 use Rattle.build_resume.specs.Build.{WritesReport}

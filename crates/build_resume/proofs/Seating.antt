@@ -8,12 +8,12 @@ use Rattle.std.proofs.lemmas.Option.{none-some, same_Some}
 use Rattle.meta_model.specs.declared.event.Event.{Event}
 use Rattle.meta_model.specs.declared.event.Logged.{Logged}
 use Rattle.run_queue.specs.Turns.{Marks}
-use Rattle.run_workers.specs.Runs.{broken_by, broken_off, started_in}
-use Rattle.run_workers.specs.Told.{own}
-use Rattle.run_workers.specs.Worked.{is_bench_break}
+use Rattle.run_model.specs.Runs.{broken_by, broken_off, started_in}
+use Rattle.run_model.specs.Seats.{own, is_bench_break}
 use Rattle.run_workers.proofs.Working.{started_split as in_split}
-use Rattle.build_resume.specs.Benches.{BreaksBench, SomeBreak, broken_at, started_by}
-use Rattle.build_resume.specs.Ends.{bench_broke}
+use Rattle.run_model.specs.Benches.{BreaksBench, broken_at, started_by}
+use Rattle.build_resume.specs.Benches.{SomeBreak}
+use Rattle.run_model.specs.Ends.{bench_broke}
 use Rattle.std.proofs.lemmas.Bool.{false≢true}
 use Rattle.build_resume.specs.Drive.{IsAlone}
 

@@ -9,8 +9,8 @@ use Rattle.meta_model.specs.declared.event.Logged.{Logged}
 use Rattle.meta_model.specs.declared.event.Status.{Status}
 use Rattle.meta_model.specs.declared.event.Status.TheVariants as status
 use Rattle.meta_model.specs.declared.plan.Plan.{Plan}
-use Rattle.bb_report.specs.Runs.{last_line, tale_text}
-use Rattle.bb_report.specs.Written.{WritesFront}
+use Rattle.run_model.specs.Report.{last_line, tale_text}
+use Rattle.run_model.specs.Written.{WritesFront}
 use Rattle.bb_report.proofs.Chains.{front_then}
 use Rattle.store_model.specs.declared.signature.EquivRow.{EquivRow}
 use Rattle.build_store.specs.Faults.{IsOutside, is_disk_fault}
@@ -21,8 +21,10 @@ use Rattle.run_queue.specs.declared.fault.RunFault.TheVariants as kept
 use Rattle.run_queue.specs.Causes.{IsCause, IsStoreCause}
 use Rattle.run_queue.specs.Keeps.{IsFront, IsSteady, IsSteadyAnswer}
 use Rattle.run_queue.proofs.Printed.{front_all, front_some}
-use Rattle.build_resume.specs.Build.{DiffersOver, MayEndSo, TellsDifference, WritesReport, is_collision, is_unsteady}
-use Rattle.build_resume.specs.Ends.{EndsBy, is_plain, status_at, status_by, status_of}
+use Rattle.run_model.specs.Build.{DiffersOver, MayEndSo, TellsDifference, is_unsteady}
+use Rattle.build_resume.specs.Build.{WritesReport, is_collision}
+use Rattle.build_resume.specs.Ends.{EndsBy, status_at, status_by, status_of}
+use Rattle.run_model.specs.Ends.{is_plain}
 use Rattle.run_workers.specs.declared.worker.Halt.{Halt}
 use Rattle.run_workers.specs.declared.worker.Halt.TheVariants as halt
 

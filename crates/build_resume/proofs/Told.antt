@@ -19,18 +19,18 @@ use Rattle.meta_model.specs.CleanBuild.{Built, Entries, Gives, Lack, built_over,
 use Rattle.meta_model.specs.Layout.{Needed}
 use Rattle.meta_model.specs.Walks.{Walk}
 use Rattle.plan_model.specs.Sound.{AreWanted, IsSound}
-use Rattle.run_core.specs.declared.fate.Fate.{Fate}
-use Rattle.run_core.specs.declared.fate.Fate.TheVariants as fate
-use Rattle.run_core.specs.Choice.{IsHeldUp, WaitsOn}
-use Rattle.run_core.specs.Fates.{fate_at, fate_by, fates_by, fates_told, is_settled, task_of}
-use Rattle.run_core.specs.Need.{IsIn, deps_in, deps_of}
+use Rattle.tale_model.specs.declared.fate.Fate.{Fate}
+use Rattle.tale_model.specs.declared.fate.Fate.TheVariants as fate
+use Rattle.tale_model.specs.Choice.{IsHeldUp, WaitsOn}
+use Rattle.tale_model.specs.Fates.{fate_at, fate_by, fates_by, fates_told, is_settled, task_of}
+use Rattle.tale_model.specs.Need.{IsIn, deps_in, deps_of}
 use Rattle.run_queue.specs.Laws.{HasOutput}
-use Rattle.run_queue.specs.Opening.{Opening}
-use Rattle.run_queue.specs.Stands.{AllStand}
-use Rattle.run_queue.specs.Turns.{IsAtEnd}
+use Rattle.run_model.specs.Opening.{Opening}
+use Rattle.run_model.specs.Stands.{AllStand}
+use Rattle.run_model.specs.Outcome.{IsAtEnd}
 use Rattle.run_queue.proofs.Failing.{has_task}
 use Rattle.run_queue.proofs.Wanted.{built_long, dep_ok, is_below, under_ok}
-use Rattle.build_resume.specs.Build.{FailsClean, failed_by, failed_in}
+use Rattle.run_model.specs.Build.{FailsClean, failed_by, failed_in}
 use Rattle.build_resume.specs.Outcome.{KeptTo}
 use Rattle.build_resume.proofs.Outcomes.{built_at, failed_within, kept_real, none_failed}
 

@@ -10,19 +10,22 @@ use Rattle.meta_model.specs.declared.event.Logged.{Logged}
 use Rattle.meta_model.specs.declared.plan.Plan.{Plan}
 use Rattle.meta_model.specs.declared.plan.PlanTask.{PlanTask}
 use Rattle.meta_model.specs.CleanBuild.{Entries, Gives}
-use Rattle.run_core.specs.declared.fate.Fate.{Fate}
-use Rattle.run_core.specs.declared.fate.Fate.TheVariants as fate
-use Rattle.run_core.specs.Fates.{CanMark, NoneRuns, fate_at, fate_by, fates_told, is_running, task_of}
-use Rattle.run_core.specs.History.{EachAfter, IsInOrder, IsOfSeat, IsOrderly}
+use Rattle.tale_model.specs.declared.fate.Fate.{Fate}
+use Rattle.tale_model.specs.declared.fate.Fate.TheVariants as fate
+use Rattle.run_core.specs.Fates.{CanMark}
+use Rattle.tale_model.specs.Fates.{NoneRuns, fate_at, fate_by, fates_told, is_running, task_of}
+use Rattle.tale_model.specs.History.{EachAfter}
+use Rattle.run_core.specs.History.{IsInOrder, IsOfSeat, IsOrderly}
 use Rattle.run_core.proofs.Marking.{fate_kept, fate_set}
 use Rattle.run_core.proofs.Seats.{within}
 use Rattle.run_core.proofs.Steps.{count_told, told_push}
 use Rattle.run_queue.specs.declared.fault.RunFault.{RunFault}
 use Rattle.run_queue.specs.Seen.{RunView}
 use Rattle.run_queue.specs.Turns.{Marks, Settles, fates_of}
-use Rattle.run_workers.specs.Runs.{AllRan, RanThese}
-use Rattle.run_workers.specs.Worked.{is_bench_break}
-use Rattle.build_resume.specs.Benches.{started_by}
+use Rattle.run_workers.specs.Runs.{AllRan}
+use Rattle.run_model.specs.Runs.{RanThese}
+use Rattle.run_model.specs.Seats.{is_bench_break}
+use Rattle.run_model.specs.Benches.{started_by}
 use Rattle.build_resume.specs.Drive.{Closes, fault_once, left_over, waiting_count, waits_once}
 use Rattle.run_workers.specs.declared.worker.Halt.{Halt}
 

@@ -6,7 +6,7 @@ use Rattle.std.proofs.lemmas.Bool.{false≢true}
 use Rattle.std.proofs.lemmas.Bool.Decides.{eqb_tells}
 use Rattle.std.proofs.lemmas.List.{append_assoc, length-append, take-append-drop}
 use Rattle.std.proofs.lemmas.Option.{get_or_from_slice_get, none-some, same_Some, slice_get_within}
-use Rattle.bb_report.specs.Runs.{tale_text}
+use Rattle.run_model.specs.Report.{tale_text}
 use Rattle.meta_model.specs.declared.plan.Plan.{Plan}
 use Rattle.run_queue.specs.declared.fault.RunFault.{RunFault}
 use Rattle.run_queue.specs.Keeps.{IsFront, Prints}
@@ -14,12 +14,13 @@ use Rattle.outside_traits.specs.Fault.{Rose}
 use Rattle.meta_model.specs.declared.event.Event.{Event}
 use Rattle.meta_model.specs.declared.event.Event.TheVariants as events
 use Rattle.meta_model.specs.declared.event.Logged.{Logged}
-use Rattle.run_workers.specs.Runs.{RanScripts, RanThese, Runs, started_in}
+use Rattle.run_model.specs.Runs.{RanScripts, RanThese, Runs, started_in}
 use Rattle.meta_model.specs.CleanBuild.{Gives}
-use Rattle.run_workers.specs.Told.{own}
-use Rattle.run_workers.specs.Worked.{Breaks, NoneBroke, RanPrinted, is_bench_break, is_break}
-use Rattle.build_resume.specs.Benches.{AtWorkers, BreaksBench, BreaksByFault, HasSeats, broken_at, started_by}
-use Rattle.build_resume.specs.Build.{RanJust, RanStarted}
+use Rattle.run_model.specs.Seats.{own, is_bench_break}
+use Rattle.run_workers.specs.Worked.{Breaks, NoneBroke, RanPrinted, is_break}
+use Rattle.run_model.specs.Benches.{AtWorkers, BreaksBench, BreaksByFault, broken_at, started_by}
+use Rattle.build_resume.specs.Benches.{HasSeats}
+use Rattle.run_model.specs.Build.{RanJust, RanStarted}
 use Rattle.build_resume.specs.Drive.{IsAlone, SaidByWorkers}
 
 -- ---- entries of a seat

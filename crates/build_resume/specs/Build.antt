@@ -1,47 +1,27 @@
--- What a run of a plan leaves.
-use Rattle.std.specs.Prelude.{◌≡◌, ◌≢◌, ◌⊎◌, ◌<◌, ◌+◌, ◌-◌, ◌^◌, ℕ, Bool, true, false, List, [], ◌∷◌, ◌++◌, take, Contains, Option, Some, Ok, Err}
-use Rattle.std.specs.List.{slice_get, AllByRecursion}
-use Rattle.sha2.specs.Sha256.{sha256}
-use Rattle.tree_model.specs.Path.{IsAtOrBelow}
+-- What is asked of a run, and all that it leaves and writes.
+use Rattle.std.specs.Prelude.{◌≡◌, ◌≢◌, ◌⊎◌, ℕ, Bool, true, false, List, [], ◌∷◌, ◌++◌, Ok}
+use Rattle.std.specs.List.{AllByRecursion}
 use Rattle.tree_model.specs.Tree.{IsTree}
-use Rattle.outside_traits.specs.Passes.{EachNow}
 use Rattle.outside_traits.specs.Store.{Store}
-use Rattle.outside_traits.specs.Story.{IsImageSince, Story}
-use Rattle.meta_model.specs.declared.event.Avail.TheVariants.{Object}
-use Rattle.meta_model.specs.declared.event.Event.{Event}
-use Rattle.meta_model.specs.declared.event.Event.TheVariants as events
+use Rattle.outside_traits.specs.Story.{Story}
 use Rattle.meta_model.specs.declared.event.Logged.{Logged}
 use Rattle.meta_model.specs.declared.event.Status.{Status}
 use Rattle.meta_model.specs.declared.event.Status.TheVariants as status
 use Rattle.meta_model.specs.declared.plan.Options.{Options}
 use Rattle.meta_model.specs.declared.plan.Plan.{Plan}
-use Rattle.meta_model.specs.declared.plan.PlanTask.{PlanTask}
-use Rattle.meta_model.specs.CleanBuild.{Built, Entries, Gives, clean_build, fails}
+use Rattle.meta_model.specs.CleanBuild.{Entries, Gives}
+use Rattle.store_model.specs.Origins.{Book, Reading}
+use Rattle.store_model.specs.Reuse.{MayReuse}
+use Rattle.store_model.specs.Valid.{IsValid}
+use Rattle.store_model.specs.Readable.{IsReadable}
 use Rattle.plan_model.specs.Sound.{AreWanted, IsSound}
 use Rattle.plan_model.specs.Spellings.{HasSpellings}
-use Rattle.store_model.specs.declared.signature.EquivRow.{EquivRow}
-use Rattle.store_model.specs.Available.{HoldsClean, IsAvailable, object_folder, stamp_path, work_folder}
-use Rattle.store_model.specs.Origins.{Book, Line, Reading, rows_of}
-use Rattle.store_model.specs.Reuse.{MayReuse}
-use Rattle.store_model.specs.Signatures.{Signed, signatures}
-use Rattle.store_model.specs.Valid.{IsValid}
-use Rattle.build_store.specs.Laws.{HasLine}
-use Rattle.build_store.specs.Opening.{IsLeft, IsOpened}
-use Rattle.build_store.specs.Reopened.{HaveSameLines}
-use Rattle.build_store.specs.Sound.{HoldsRecords, IsReadable}
-use Rattle.bb_report.specs.Runs.{run_text, tale_text}
-use Rattle.bb_report.specs.Written.{WritesFront}
-use Rattle.run_queue.specs.Books.{book_after}
-use Rattle.run_queue.specs.Causes.{IsClashOf, IsUnsteadyOf}
-use Rattle.run_queue.specs.Courses.{IsLegalTale}
-use Rattle.run_queue.specs.Opening.{HasFolders, Opening}
-use Rattle.run_queue.specs.Own.{IsAside, IsOfNone}
-use Rattle.run_queue.specs.Stands.{AllStand, HasStarted, IsHonest, IsTakenUp}
-use Rattle.run_workers.specs.Runs.{RanScripts, Runs}
-use Rattle.run_workers.specs.Told.{own}
-use Rattle.run_workers.specs.Worked as worked
-use Rattle.build_resume.specs.Benches.{AtSeats, broken_at, started_by}
-use Rattle.build_resume.specs.Ends.{is_faultless}
+use Rattle.run_model.specs.Report.{run_text}
+use Rattle.run_model.specs.Written.{WritesFront}
+use Rattle.run_model.specs.Opening.{HasFolders}
+use Rattle.run_model.specs.Runs.{Runs}
+use Rattle.run_model.specs.Headline.{Keeps}
+use Rattle.run_model.specs.Build.{AllClean}
 
 -- What is asked of a run: the plan is sound; what the disk holds is valid with a book of lines that can be read again, and has folders
 -- where the store keeps them; the plan may reuse of the book what it wants; what scripts give are trees; and a program can hold the
@@ -55,126 +35,6 @@ pub record IsEntry (gives : Gives) (reading : Reading) (book : Book) (held : Sto
   pub trees : (script : List ℕ) (tree out : Entries) → gives script tree ≡ Ok out → IsTree out
   pub spellings : HasSpellings plan
 
--- *Exact outputs*: for each target what a crash now leaves holds in its work folder exactly its clean output.
-abbrev pub HasTargets : Gives → Plan → Store → Type 0
-HasTargets gives plan image = (t : ℕ) (task : PlanTask) (built : Built) → Contains plan.targets t → slice_get plan.tasks t ≡ Some task → slice_get (clean_build gives plan.tasks) t ≡ Some built → HoldsClean image (work_folder task) built
-
--- every task of the plan has a clean output
-abbrev pub AllClean : Gives → Plan → Type 0
-AllClean gives plan = (t : ℕ) (built : Built) → slice_get (clean_build gives plan.tasks) t ≡ Some built → (tree : Entries) × (built.outcome ≡ Ok tree)
-
--- *Every crash leaves a valid store*: its book has the lines of the entry's, and behind them others (those that the run recorded: `HasRun`);
--- all of them can be read again, and folders stand where the store keeps them.
-pub record IsCrash (gives : Gives) (reading : Reading) (book : Book) (image : Store) : Type 0 where
-  pub again : Book
-  pub same : HaveSameLines book again
-  pub lines : Book
-  pub valid : IsValid gives reading image (again ++ lines)
-  pub readable : AllByRecursion IsReadable (again ++ lines)
-  pub folders : HasFolders image
-
--- A crash behind the opening left the store valid with the first of these lines behind the opening's, and no stamp of a task of the plan lies:
--- its stamp and its work folder are as they were opened, or it has no stamp, or what its stamp tells of is there.
-pub record IsLeftByRun (opening : Opening) (plan : Plan) (lines : Book) (image : Store) : Type 0 where
-  pub count : ℕ
-  pub valid : IsValid opening.gives opening.reading image (opening.book ++ take count lines)
-  pub honest : (t : ℕ) (task : PlanTask) → slice_get plan.tasks t ≡ Some task → IsHonest opening.story.held image task
-
--- A tale that is legal over the store as it was opened, with the lines of the entry's book in its own order. Behind these the run recorded
--- the lines of what ended, and where it met a fault maybe one more. Each settled task stands to the end, and since the moment of its event.
-pub record HasRun (gives : Gives) (reading : Reading) (book : Book) (held : Store) (plan : Plan) (options : Options) (tale : List Logged) (s : Status) (now : Story) : Type 0 where
-  pub opening : Opening
-  pub same_gives : opening.gives ≡ gives
-  pub same_reading : opening.reading ≡ reading
-  pub same_lines : HaveSameLines book opening.book
-  pub opened : IsOpened held opening.story.held (rows_of opening.book)
-  pub legal : IsLegalTale opening plan options tale
-  pub lines : Book
-  pub grown : book_after gives plan opening.book tale ≡ opening.book ++ lines
-  pub last : Book
-  pub none_last : is_faultless s ≡ true → last ≡ []
-  pub recorded : is_faultless s ≡ true → EachNow now (λ image. IsValid gives reading image (opening.book ++ lines))
-  pub images : (image : Store) → IsImageSince now 0 image → IsImageSince opening.story 0 image ⊎ IsLeftByRun opening plan (lines ++ last) image
-  pub stands : EachNow now (AllStand opening plan tale)
-  pub since : (k : ℕ) (entry : Logged) → slice_get tale k ≡ Some entry → entry.moment < 2 ^ 64 - 1 → (image : Store) → IsImageSince now entry.moment image → AllStand opening plan (take (k + 1) tale) image
-
--- ---- the bench runs
-
--- The bench of a seat ran what that seat started. Only the last of these tasks may have no run, where the last entry of the seat is that it
--- broke off.
-abbrev pub RanStarted : Gives → Plan → List Logged → ℕ → Runs → Runs → Type 0
-RanStarted gives plan tale seat before now = worked.RanStarted gives plan (own seat tale) before now
-
--- ---- what ran was printed
-
--- The bench ran just the scripts of these tasks. Only the last one may have no run, and only where it is the one that broke off.
-pub record RanJust (plan : Plan) (broke : Option ℕ) (tasks : List ℕ) (before now : Runs) : Type 0 where
-  pub runs : Runs
-  pub ran : now ≡ before ++ runs
-  pub these : RanScripts plan broke tasks runs
-
--- What ran had been printed: each bench ran the scripts of just those tasks that its seat starts in a front of the tale, and behind what was
--- written before the run the lines of that front stand whole. Only the last one of a seat may have no run, where the last entry of the seat
--- in the whole tale is that it broke off.
-pub record RanPrinted (plan : Plan) (tale : List Logged) (before now : List Runs) (old new : List ℕ) : Type 0 where
-  pub front : List Logged
-  pub back : List Logged
-  pub cut : tale ≡ front ++ back
-  pub ran : AtSeats (λ seat. RanJust plan (broken_at seat tale) (started_by seat front)) before now
-  pub rest : List ℕ
-  pub written : new ≡ old ++ (tale_text plan.tasks front ++ rest)
-
--- ---- what a run leaves alone
-
--- All that is at or under a task's work folder, the objects of the book's lines that are of it, and its stamp, where opening the store
--- leaves that alone, are as they were.
-pub record IsLeftAlone (book : Book) (held image : Store) (of : PlanTask) : Type 0 where
-  pub work : (q : List ℕ) → IsAtOrBelow (work_folder of) q → image q ≡ held q
-  pub objects : (line : Line) → HasLine book line → line.sig.pn ≡ of.id.pn → line.sig.task ≡ of.id.task → (q : List ℕ) → IsAtOrBelow (object_folder line.unihash) q → image q ≡ held q
-  pub stamp : IsLeft held (stamp_path of) → image (stamp_path of) ≡ held (stamp_path of)
-
--- The run was halted while it restored the task: it met a fault, so its status isn't one of those that come without; and the task had an
--- object to be restored from, by its signature over the lines of the book and those that the tale puts behind them.
-pub record WasHalted (gives : Gives) (book : Book) (held : Store) (plan : Plan) (options : Options) (tale : List Logged) (s : Status) (t : ℕ) : Type 0 where
-  pub faulty : is_faultless s ≡ false
-  pub object : (sg : Signed) → slice_get (signatures (rows_of (book_after gives plan book tale)) plan.tasks) t ≡ Some sg → IsAvailable held (rows_of (book_after gives plan book tale)) options.setscene sg Object
-
--- The run may have touched the task: the tale starts it or restores it, or it is the one at which the run was halted.
-abbrev pub MayTouch : Gives → Book → Store → Plan → Options → List Logged → Status → ℕ → ℕ → Type 0
-MayTouch gives book held plan options tale s halted t = IsTakenUp tale t ⊎ ((t ≡ halted) × WasHalted gives book held plan options tale s t)
-
--- Whatever a crash leaves since the run began, all else is left alone: each task of the plan that the run can't have touched, with the objects
--- of the book's lines of it; the object of each line of the book of which the tale starts no task; and, be it of a task of the plan or not, each
--- path that opening the store leaves alone, that isn't under `tmp/`, that is neither the stamp nor at or under the work folder of a task which the
--- run may have touched, and, where the tale starts a task, not at or under `rec` or `obj`. (What is under `rec` there, `IsCrash` says.) The lines
--- of the book have some order.
-pub record LeavesOthers (gives : Gives) (book : Book) (held : Store) (plan : Plan) (options : Options) (tale : List Logged) (s : Status) (story : Story) : Type 0 where
-  pub again : Book
-  pub same : HaveSameLines book again
-  pub halted : ℕ
-  pub others : (image : Store) → IsImageSince story 0 image → (t : ℕ) (task : PlanTask) → slice_get plan.tasks t ≡ Some task → (MayTouch gives again held plan options tale s halted t → ⊥) → IsLeftAlone book held image task
-  pub objects : (image : Store) → IsImageSince story 0 image → (line : Line) → HasLine book line → IsOfNone plan (HasStarted tale) line.sig.pn line.sig.task → (q : List ℕ) → IsAtOrBelow (object_folder line.unihash) q → image q ≡ held q
-  pub paths : (image : Store) → IsImageSince story 0 image → (q : List ℕ) → IsLeft held q → IsAside plan (MayTouch gives again held plan options tale s halted) (HasStarted tale) q → image q ≡ held q
-
--- ---- failed tasks
-
--- the task of an event, if it is that the task failed
-abbrev pub failed_by : Event → List ℕ → List ℕ
-failed_by (events.Failed t why) more = t ∷ more
-failed_by _ more = more
-
--- the tasks that failed in a tale, in its order
-abbrev pub failed_in : List Logged → List ℕ
-failed_in [] = []
-failed_in (entry ∷ tale) = failed_by entry.event (failed_in tale)
-
-abbrev pub FailsClean : Gives → Plan → ℕ → Type 0
-FailsClean gives plan t = (built : Built) → slice_get (clean_build gives plan.tasks) t ≡ Some built → (cause : Rattle.meta_model.specs.declared.event.Why.Why) × (built.outcome ≡ Err (fails cause))
-
--- each task that fails by itself in the clean build failed in the tale
-abbrev pub IsEachFailureTold : Gives → Plan → List Logged → Type 0
-IsEachFailureTold gives plan tale = (t : ℕ) (built : Built) → slice_get (clean_build gives plan.tasks) t ≡ Some built → (cause : Rattle.meta_model.specs.declared.event.Why.Why) → built.outcome ≡ Err (fails cause) → Contains (failed_in tale) t
-
 -- ---- kinds of statuses
 
 -- whether the status is that two signatures have one digest
@@ -182,65 +42,17 @@ abbrev pub is_collision : Status → Bool
 is_collision (status.Collision name held given) = true
 is_collision _ = false
 
--- whether the status is that an output differs from one run to another
-abbrev pub is_unsteady : Status → Bool
-is_unsteady (status.Unsteady pn task held given) = true
-is_unsteady _ = false
-
 -- ---- all together
 
 -- *What a run leaves* where its devices tell, by the book with which it began: what the disk held then, and the story of the disk now; what
 -- each bench ran before, and now.
 pub record Leaves (gives : Gives) (reading : Reading) (book : Book) (held : Store) (plan : Plan) (options : Options) (tale : List Logged) (s : Status) (story : Story) (before now : List Runs) : Type 0 where
-  -- under Ok each target's work folder holds exactly its clean output, whatever a crash leaves
-  pub exact : s ≡ status.Ok → EachNow story (HasTargets gives plan)
-  -- whatever the status is, each crash since the run began leaves a valid store
-  pub crashes : (image : Store) → IsImageSince story 0 image → IsCrash gives reading book image
-  -- each crash since the run began leaves alone what isn't the own of tasks that the tale starts or restores, but for `tmp/` and, where one is
-  -- started, for folders of `obj/` that are no line's object; under the status of a fault one task more may have been touched
-  pub others : LeavesOthers gives book held plan options tale s story
+  -- all that the headline promises of this one tale
+  pub keeps : Keeps gives reading book held plan options (tale ∷ []) s story before now
   -- whatever failed, Ok comes only where every task of the plan has a clean output, and TaskFailed only where one hasn't
   pub complete : AreWanted plan → (s ≡ status.Ok → AllClean gives plan) × (AllClean gives plan → s ≢ status.TaskFailed)
-  -- no output is found to differ from one run to another
-  pub steady : is_unsteady s ≡ false
-  -- the tale is legal over the store as it was opened; what ended is recorded, no stamp lies, and settled tasks stand from their events on
-  pub legal : (tale ≡ []) ⊎ HasRun gives reading book held plan options tale s story
-  -- each task that failed fails by itself in the clean build
-  pub real : (t : ℕ) → Contains (failed_in tale) t → FailsClean gives plan t
-  -- and with `-k` each task that fails by itself in the clean build is told
-  pub all_told : AreWanted plan → s ≡ status.TaskFailed → options.keep_going ≡ true → IsEachFailureTold gives plan tale
-  -- each bench ran the tasks that its seat started, each over the clean outputs of what it needs, but for maybe the last one, where the last
-  -- entry of the seat is that it broke off
-  pub ran : AtSeats (RanStarted gives plan tale) before now
 
 -- ---- how a run may end
-
--- Each status has its cause: the disk's count is above 0, the bench's rose, the sink's rose, two signatures have one digest as their name,
--- two manifests of one record differ. Ok, TaskFailed and want of memory have none outside. No other status comes.
-abbrev pub MayEndSo : ℕ → Type 0 → Type 0 → Status → Type 0
-MayEndSo disk bench sink status.Ok = Unit {0}
-MayEndSo disk bench sink status.TaskFailed = Unit {0}
-MayEndSo disk bench sink status.DiskFault = 0 < disk
-MayEndSo disk bench sink status.BenchFault = bench
-MayEndSo disk bench sink status.WriteFault = sink
-MayEndSo disk bench sink (status.Collision name held given) = (held ≢ given) × (sha256 held ≡ name.bytes) × (sha256 given ≡ name.bytes)
-MayEndSo disk bench sink (status.Unsteady pn task held given) = held ≢ given
-MayEndSo disk bench sink status.OutOfMemory = Unit {0}
-MayEndSo disk bench sink _ = ⊥
-
--- What the status says of two that differ, over these rows: a collision of two signatures of one digest, that of a row and that of a task of
--- the plan; and an output that isn't steady of two manifests of a task of the plan.
-abbrev pub DiffersOver : Plan → List EquivRow → Status → Type 0
-DiffersOver plan rows (status.Collision name held given) = IsClashOf plan rows name held given
-DiffersOver plan rows (status.Unsteady pn task held given) = IsUnsteadyOf plan rows pn task held given
-DiffersOver plan rows _ = Unit {0}
-
--- *What is held differs from what was given*: the status says so over rows whose records are all held under `rec/`, each by its name, whatever
--- a crash now leaves. So the one of the two is that of a stored record, and the other is of a task of the plan.
-pub record TellsDifference (tells : Type 0) (plan : Plan) (story : Story) (s : Status) : Type 0 where
-  pub rows : List EquivRow
-  pub kept : tells → HoldsRecords story rows
-  pub differs : DiffersOver plan rows s
 
 -- What was written is the text of the run, or, where the sink failed, some front of the text that some status gives.
 abbrev pub WritesReport : Type 0 → List ℕ → List ℕ → Plan → List Logged → Status → Type 0

@@ -6,19 +6,21 @@ use Rattle.meta_model.specs.declared.event.Event.TheVariants as events
 use Rattle.meta_model.specs.declared.event.Logged.{Logged}
 use Rattle.meta_model.specs.declared.plan.Plan.{Plan}
 use Rattle.meta_model.specs.CleanBuild.{Gives}
-use Rattle.bb_report.specs.Runs.{tale_text}
-use Rattle.run_core.specs.declared.fate.Fate.{Fate}
-use Rattle.run_core.specs.declared.fate.Fate.TheVariants as fate
-use Rattle.run_core.specs.Fates.{HoldsFailure, fate_by, is_running, task_of}
+use Rattle.run_model.specs.Report.{tale_text}
+use Rattle.tale_model.specs.declared.fate.Fate.{Fate}
+use Rattle.tale_model.specs.declared.fate.Fate.TheVariants as fate
+use Rattle.tale_model.specs.Fates.{HoldsFailure, fate_by, is_running, task_of}
 use Rattle.run_queue.specs.Seen.{RunView}
-use Rattle.run_queue.specs.Turns.{IsAtEnd, Marks, fates_of}
+use Rattle.run_model.specs.Outcome.{IsAtEnd}
+use Rattle.run_queue.specs.Turns.{Marks, fates_of}
 use Rattle.run_queue.specs.declared.fault.RunFault.{RunFault}
 use Rattle.run_workers.specs.declared.worker.Halt.{Halt}
 use Rattle.run_workers.specs.declared.worker.Halt.TheVariants as halts
-use Rattle.run_workers.specs.Runs.{RanSoFar, Runs, ScriptsSoFar, by_bench}
-use Rattle.run_workers.specs.Worked.{is_bench_break}
-use Rattle.build_resume.specs.Benches.{AtWorkers, BreaksBench, BreaksByFault, broken_at, started_by}
-use Rattle.build_resume.specs.Build.{RanJust, RanStarted}
+use Rattle.run_workers.specs.Runs.{RanSoFar, ScriptsSoFar, by_bench}
+use Rattle.run_model.specs.Runs.{Runs}
+use Rattle.run_model.specs.Seats.{is_bench_break}
+use Rattle.run_model.specs.Benches.{AtWorkers, BreaksBench, BreaksByFault, broken_at, started_by}
+use Rattle.run_model.specs.Build.{RanJust, RanStarted}
 
 -- events that only seat 0 marked
 pub record IsAlone (more : List Logged) : Type 0 where
@@ -103,7 +105,7 @@ pub record Closes (t : ℕ) (halt : Option Halt) (old new : List Logged) : Type 
 
 -- where the run goes on, its task doesn't wait again, or a fault is kept
 abbrev pub GoesOnBehind : {D W : Type 0} → ℕ → RunView D W → Option Halt → Type 0
-GoesOnBehind t new halt = halt ≡ None → (Rattle.run_core.specs.Fates.fate_at (fates_of new) t ≢ fate.Waiting) ⊎ IsSome new.fault
+GoesOnBehind t new halt = halt ≡ None → (Rattle.tale_model.specs.Fates.fate_at (fates_of new) t ≢ fate.Waiting) ⊎ IsSome new.fault
 
 -- 1 for a task that waits
 abbrev pub waits_once : Fate → ℕ

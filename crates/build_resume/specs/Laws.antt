@@ -1,14 +1,16 @@
 -- Where a run may begin.
-use Rattle.std.specs.Prelude.{◌≡◌, ℕ, List, [], ◌++◌, None, Ok}
+use Rattle.std.specs.Prelude.{◌≡◌, ℕ, List, [], ◌++◌, Ok}
 use Rattle.tree_model.specs.Tree.{IsTree}
 use Rattle.outside_traits.specs.Store.{Store}
 use Rattle.meta_model.specs.declared.plan.Plan.{Plan}
 use Rattle.meta_model.specs.CleanBuild.{Entries, Gives}
-use Rattle.plan_model.specs.Sound.{IsSound}
-use Rattle.plan_model.specs.Spellings.{HasSpellings}
 use Rattle.store_model.specs.Origins.{Book, Reading}
 use Rattle.store_model.specs.Reuse.{MayReuse}
-use Rattle.build_resume.specs.Build.{IsCrash, IsEntry}
+use Rattle.plan_model.specs.Sound.{IsSound}
+use Rattle.plan_model.specs.Spellings.{HasSpellings}
+use Rattle.run_model.specs.Build.{IsCrash}
+use Rattle.run_model.specs.Headline.{nothing}
+use Rattle.build_resume.specs.Build.{IsEntry}
 
 -- What is asked of a plan whatever a disk holds: it is sound, what its scripts give are trees, and a program can hold the signatures of its
 -- tasks.
@@ -16,10 +18,6 @@ pub record IsPlanned (gives : Gives) (plan : Plan) : Type 0 where
   pub sound : IsSound plan
   pub trees : (script : List ℕ) (tree out : Entries) → gives script tree ≡ Ok out → IsTree out
   pub spellings : HasSpellings plan
-
--- a disk that holds nothing
-abbrev pub nothing : Store
-nothing path = None
 
 -- A run may begin on an empty disk.
 abbrev pub FirstEntry : Type 0

@@ -11,9 +11,9 @@ use Rattle.store_model.specs.Available.{stamp_path}
 use Rattle.store_model.specs.Hello.{first_line, hello_name, hello_reading, hello_task}
 use Rattle.store_model.specs.Origins.{Book}
 use Rattle.store_model.specs.Recording.{with_record}
-use Rattle.build_store.specs.Publication.{stamp_file}
-use Rattle.run_queue.specs.Opening.{Opening}
-use Rattle.build_resume.specs.Laws.{nothing}
+use Rattle.store_model.specs.Publication.{stamp_file}
+use Rattle.run_model.specs.Opening.{Opening}
+use Rattle.run_model.specs.Headline.{nothing}
 
 -- its script ends with 3
 abbrev pub failing_plan : Plan

@@ -2,14 +2,15 @@
 ghost use Rattle.std.specs.Prelude.{◌≡◌, ◌<◌, ◌≤◌, ◌⊎◌, ℕ, List, IfSome, IsSome, MatchOption, None, Some};
 ghost use Rattle.outside_traits.specs.Fault.{Counts};
 ghost use Rattle.meta_model.specs.declared.event.Logged.{Logged as Entry};
-ghost use Rattle.run_core.specs.Fates.{NoneRuns};
+ghost use Rattle.tale_model.specs.Fates.{NoneRuns};
 ghost use Rattle.task_worker.specs.Jobs.{ran_job};
-ghost use Rattle.run_queue.specs.Opening.{Opening};
+ghost use Rattle.run_model.specs.Opening.{Opening};
 ghost use Rattle.run_queue.specs.Seen.{seen};
 ghost use Rattle.run_queue.specs.Keeps.{IsRun, IsSteady, KeepsCount, KeepsFront, PrintsOn};
 ghost use Rattle.run_queue.specs.Turns.{IsCleanJob, RunsUnder, SameRun, fates_of};
-ghost use Rattle.run_workers.specs.Runs.{Runs, by_bench};
-ghost use Rattle.run_workers.specs.Told.{own};
+ghost use Rattle.run_model.specs.Runs.{Runs};
+ghost use Rattle.run_workers.specs.Runs.{by_bench};
+ghost use Rattle.run_model.specs.Seats.{own};
 ghost use Rattle.run_workers.specs.Worked.{BrokeOff};
 ghost use Rattle.build_resume.specs.Drive.{Closes, Drove, GoesOnBehind, Grows, IsHalted, RanSaid, left_over};
 

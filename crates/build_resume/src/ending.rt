@@ -5,12 +5,14 @@ ghost use Rattle.meta_model.specs.declared.event.Status.{Status as End};
 ghost use Rattle.meta_model.specs.declared.event.Status.TheVariants as ends;
 ghost use Rattle.meta_model.specs.declared.event.Logged.{Logged as Entry};
 ghost use Rattle.meta_model.specs.declared.plan.Plan.{Plan as ThePlan};
-ghost use Rattle.bb_report.specs.Runs.{has_failure, last_line, tale_text};
+ghost use Rattle.run_model.specs.Report.{has_failure, last_line, tale_text};
 ghost use Rattle.run_queue.specs.Keeps.{IsFront, Prints};
-ghost use Rattle.build_resume.specs.Build.{WritesReport, failed_by, failed_in};
+ghost use Rattle.build_resume.specs.Build.{WritesReport};
+ghost use Rattle.run_model.specs.Build.{failed_by, failed_in};
 ghost use Rattle.run_workers.specs.declared.worker.Halt.TheVariants as halts;
 ghost use Rattle.build_resume.specs.Benches.{SomeBreak};
-ghost use Rattle.build_resume.specs.Ends.{EndsBy, bench_broke, halt_by, is_plain, memory_broke, status_at, status_by, status_of};
+ghost use Rattle.build_resume.specs.Ends.{EndsBy, halt_by, status_at, status_by, status_of};
+ghost use Rattle.run_model.specs.Ends.{bench_broke, is_plain, memory_broke};
 
 use bb_report::{end_text, fault_text, some_failed, write_all};
 use build_store::StoreFault;

@@ -1,7 +1,7 @@
 // Worked rows of what a run leaves: of each definition one that has it, and one that hasn't.
 ghost use Rattle.std.specs.Prelude.{[]};
 ghost use Rattle.meta_model.specs.Worked.{shell};
-ghost use Rattle.build_resume.specs.Build.{IsEachFailureTold, IsLeftByRun};
+ghost use Rattle.run_model.specs.Build.{IsEachFailureTold, IsLeftByRun};
 ghost use Rattle.build_resume.specs.Worked.{empty_opening, failing_plan, failing_tale, hello_book, hello_plan, recorded_alone, stamped_alone};
 
 /// A plan whose one task fails.

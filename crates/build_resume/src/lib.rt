@@ -3,10 +3,10 @@
 //!
 //! `build` opens the store that earlier runs left (`build_store`), takes turns on the state of the run (`run_queue`) until nothing more may be
 //! done, and writes a line for each event and a last one for its status. Contracts see disk, benches and sink by what they tell, and the
-//! tale. Each bench has a seat (`specs/Benches`): the last one is that of the calling thread, whose seat is 0, and each other one a worker's.
+//! tale. Each bench has a seat (`Benches` of `run_model`): the last one is that of the calling thread, whose seat is 0, and each other one a worker's.
 //!
 //! What is promised where they tell holds for a sound plan over a disk that holds a valid store with a book that the plan may reuse
-//! (`IsEntry` in `specs/Build`): an empty disk, or what a crash of any earlier run left (`entry_laws`). It is one record, `Leaves`:
+//! (`IsEntry` in `specs/Build`): an empty disk, or what a crash of any earlier run left (`entry_laws`). It is one record, `Leaves`: what the headline promises (`Keeps` of `run_model`), and `complete`:
 //!
 //! - under Ok each target's work folder holds exactly its clean output, in every image (`exact`);
 //! - whatever the status, every image since the run began holds a valid store, in which the next run may begin (`crashes`), and has what

@@ -1,13 +1,14 @@
 // The workers of a run.
 ghost use Rattle.std.specs.Prelude.{◌≡◌, ◌≤◌, ◌<◌, ◌++◌, ◌∷◌, [], All, None, false, length, vec_capacity, vec_len};
 ghost use Rattle.outside_traits.specs.Bench.{Gives};
-ghost use Rattle.run_core.specs.Fates.{NoneRuns};
+ghost use Rattle.tale_model.specs.Fates.{NoneRuns};
 ghost use Rattle.run_queue.specs.Keeps.{IsRun, IsSteady, KeepsCount, KeepsFront, PrintsOn};
-ghost use Rattle.run_queue.specs.Opening.{Opening};
+ghost use Rattle.run_model.specs.Opening.{Opening};
 ghost use Rattle.run_queue.specs.Seen.{seen};
 ghost use Rattle.run_queue.specs.Turns.{SameRun, fates_of};
-ghost use Rattle.build_resume.specs.Benches.{AtWorkers, BreaksBench, BreaksByFault, HasSeats, started_by};
-ghost use Rattle.build_resume.specs.Build.{RanStarted};
+ghost use Rattle.run_model.specs.Benches.{AtWorkers, BreaksBench, BreaksByFault, started_by};
+ghost use Rattle.build_resume.specs.Benches.{HasSeats};
+ghost use Rattle.run_model.specs.Build.{RanStarted};
 ghost use Rattle.build_resume.specs.Drive.{SaidByWorkers};
 
 use outside_traits::{Bench, Disk, Sink};

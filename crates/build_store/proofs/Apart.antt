@@ -3,7 +3,7 @@ use Rattle.std.proofs.Common.{◌≡◌, ◌≢◌, ◌∙◌, sym, ap, subst, r
 use Rattle.tree_model.specs.Path.{IsAtOrBelow, IsBelow, inside}
 use Rattle.outside_traits.specs.Store.{IsApart}
 use Rattle.outside_traits.proofs.Folders.{under_same}
-use Rattle.build_store.specs.Paths.{slashes}
+use Rattle.store_model.specs.Paths.{slashes}
 use Rattle.build_store.proofs.Slashes.{slashes_inside}
 
 -- of two folders in which one path lies, one is the other or lies in it

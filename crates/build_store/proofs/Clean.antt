@@ -20,8 +20,10 @@ use Rattle.store_model.specs.declared.signature.SigRecord.{SigRecord}
 use Rattle.store_model.specs.Spelling.{name_of, signature_bytes}
 use Rattle.stamp_store.specs.Stamp.{IsFolder}
 use Rattle.build_store.specs.Named.{IsName}
-use Rattle.build_store.specs.Paths.{HasPlace, record_path, slashes, staged_record_path}
-use Rattle.build_store.specs.Publication.{AreShort, work_at}
+use Rattle.build_store.specs.Paths.{HasPlace, staged_record_path}
+use Rattle.store_model.specs.Paths.{record_path, slashes}
+use Rattle.build_store.specs.Publication.{AreShort}
+use Rattle.store_model.specs.Publication.{work_at}
 use Rattle.build_store.proofs.Hexed.{digit, digit_is, div_small, name_bytes_are}
 use Rattle.build_store.proofs.Rows.{name_digest}
 use Rattle.build_store.proofs.Slashes.{slashes_inside}

@@ -13,10 +13,10 @@ use Rattle.outside_traits.specs.Story.{Story}
 use Rattle.outside_traits.specs.Answers.{Removes}
 use Rattle.outside_traits.proofs.Held.{removed_none, removes_ok}
 use Rattle.outside_traits.proofs.Folders.{under_same}
-use Rattle.record_belief.specs.declared.candidate.Candidate.{Candidate}
-use Rattle.build_store.specs.Opening.{IsElsewhere, IsLeft, IsRecordFile, IsStamp}
-use Rattle.build_store.specs.Paths.{record_path, slashes}
-use Rattle.build_store.specs.Publication.{stamp_at, stamp_file}
+use Rattle.store_model.specs.declared.candidate.Candidate.{Candidate}
+use Rattle.store_model.specs.Opened.{IsElsewhere, IsLeft, IsRecordFile, IsStamp}
+use Rattle.store_model.specs.Paths.{record_path, slashes}
+use Rattle.store_model.specs.Publication.{stamp_at, stamp_file}
 use Rattle.build_store.specs.Survey.{Dooms, IsAt, IsOneOf, IsStampFile, IsTop, NotesStamp, TakesOut, VisitsStamp}
 use Rattle.build_store.proofs.Areas.{differ, heads_differ}
 use Rattle.build_store.proofs.Slashes.{slashes_inside}

@@ -19,7 +19,8 @@ use Rattle.store_model.specs.Recording.{recorded}
 use Rattle.store_model.specs.Valid.{stored_of}
 use Rattle.store_model.proofs.Ordered.{map_each}
 use Rattle.sig_gen.specs.Sound.{Spells}
-use Rattle.sig_gen.specs.Stored.{IsInOrder, SpellsStored}
+use Rattle.sig_gen.specs.Stored.{IsInOrder}
+use Rattle.store_model.specs.Stored.{SpellsStored}
 use Rattle.sig_gen.proofs.Records.{signature_again}
 use Rattle.sig_gen.proofs.Trees.{tree_paths}
 use Rattle.build_store.specs.declared.drafting.Draft.{Draft}
@@ -28,10 +29,11 @@ use Rattle.build_store.specs.declared.fault.StoreFault.{StoreFault}
 use Rattle.build_store.specs.declared.fault.StoreFault.TheVariants as fault
 use Rattle.build_store.specs.Drafts.{IsDraft, IsKnownFault, IsNewFor, file_of, new_stored}
 use Rattle.build_store.specs.Faults.{IsRefusal}
-use Rattle.build_store.specs.Paths.{record_path}
+use Rattle.store_model.specs.Paths.{record_path}
 use Rattle.build_store.specs.Phases.{IsFileOf, put_of}
-use Rattle.build_store.specs.Publication.{AreShort, IsAgreed, line_for, object_for, publication, record_file, rows_with}
-use Rattle.build_store.specs.Sound.{HasShortPaths, IsHeld, IsReadable, IsRow, row_of_stored}
+use Rattle.build_store.specs.Publication.{AreShort, IsAgreed, line_for, object_for, publication, rows_with}
+use Rattle.store_model.specs.Publication.{record_file}
+use Rattle.store_model.specs.Readable.{HasShortPaths, IsHeld, IsReadable, IsRow, row_of_stored}
 use Rattle.build_store.proofs.Rows.{clash, row_has, row_named}
 
 -- a fault of a row is a refusal of a tree with the manifest

@@ -18,10 +18,12 @@ use Rattle.sig_gen.specs.Sound.{Spells}
 use Rattle.build_store.specs.declared.drafting.NewRecord.{NewRecord}
 use Rattle.build_store.specs.declared.fault.StoreFault.{StoreFault}
 use Rattle.build_store.specs.Drafts.{IsNewFor, file_of, row_of_new, rows_behind}
-use Rattle.build_store.specs.Paths.{record_path}
+use Rattle.store_model.specs.Paths.{record_path}
 use Rattle.build_store.specs.Phases.{IsFileOf, put_of}
-use Rattle.build_store.specs.Publication.{AreShort, IsAgreed, IsPublished, Publishes, object_for, publication, record_file}
-use Rattle.build_store.specs.Sound.{IsKept, IsRow}
+use Rattle.build_store.specs.Publication.{AreShort, IsAgreed, IsPublished, Publishes, object_for, publication}
+use Rattle.store_model.specs.Publication.{record_file}
+use Rattle.build_store.specs.Sound.{IsKept}
+use Rattle.store_model.specs.Readable.{IsRow}
 use Rattle.build_store.proofs.Drafted.{File, file_is, line_new, put_is, row_is}
 use Rattle.build_store.proofs.Stays.{kept_more}
 

@@ -17,8 +17,8 @@ use Rattle.build_store.specs.declared.fault.StoreFault.{StoreFault}
 use Rattle.build_store.specs.declared.fault.StoreFault.TheVariants as fault
 use Rattle.build_store.specs.Faults.{IsClash}
 use Rattle.build_store.specs.Finding.{IsAnswered, IsOtherOrOutside, IsSharedOf, IsThere, IsThereAtAll, IsWorkOf}
-use Rattle.build_store.specs.Publication.{stamp_file}
-use Rattle.build_store.specs.Sound.{IsRow}
+use Rattle.store_model.specs.Publication.{stamp_file}
+use Rattle.store_model.specs.Readable.{IsRow}
 use Rattle.build_store.proofs.Rows.{clash, row_named}
 
 some_same : {A : Type 0} (x y : A) (o : Option A) → o ≡ Some x → o ≡ Some y → x ≡ y

@@ -9,7 +9,8 @@ use Rattle.outside_traits.proofs.Folders.{above_under}
 use Rattle.outside_traits.proofs.Held.{none_unless}
 use Rattle.stamp_store.specs.Stamp.{old_path, stamp_path, staged_path}
 use Rattle.build_store.specs.Named.{IsName}
-use Rattle.build_store.specs.Paths.{IsLaidOut, IsTemporary, record_path, slashes, staged_record_path}
+use Rattle.build_store.specs.Paths.{IsLaidOut, IsTemporary, staged_record_path}
+use Rattle.store_model.specs.Paths.{record_path, slashes}
 use Rattle.build_store.proofs.Areas.{differ}
 use Rattle.build_store.proofs.Clean.{name_slashes}
 use Rattle.build_store.proofs.Slashes.{slashes_inside}

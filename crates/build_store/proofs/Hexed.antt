@@ -13,8 +13,8 @@ use Rattle.hex.specs.Hex.{encode_with, encode_lower, lower_digits}
 use Rattle.store_model.specs.declared.signature.SigRecord.{SigRecord}
 use Rattle.store_model.specs.Spelling.{name_of, signature_bytes}
 use Rattle.store_model.proofs.Ordered.{each_append}
-use Rattle.record_belief.specs.Believed.{name_cmp}
-use Rattle.build_store.specs.Paths.{record_path}
+use Rattle.store_model.specs.Believed.{name_cmp}
+use Rattle.store_model.specs.Paths.{record_path}
 use Rattle.build_store.proofs.Rows.{name_digest}
 
 abbrev pub digit : ℕ → ℕ

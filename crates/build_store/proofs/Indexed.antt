@@ -16,10 +16,10 @@ use Rattle.store_model.specs.declared.signature.EquivRow.{EquivRow}
 use Rattle.store_model.specs.Rows.{hash_eq, row_at}
 use Rattle.store_model.specs.Spelling.{name_of}
 use Rattle.store_model.proofs.Listing.{hash_other}
-use Rattle.record_belief.specs.declared.candidate.Candidate.{Candidate}
-use Rattle.record_belief.specs.Believed.{AreBelieved, Ascend, IsBelievedWithin, ComesBefore, name_cmp}
-use Rattle.build_store.specs.Opening.{rows_at}
-use Rattle.build_store.specs.Sound.{IsRow, row_of_stored}
+use Rattle.store_model.specs.declared.candidate.Candidate.{Candidate}
+use Rattle.store_model.specs.Believed.{AreBelieved, Ascend, IsBelievedWithin, ComesBefore, name_cmp}
+use Rattle.store_model.specs.Opened.{rows_at}
+use Rattle.store_model.specs.Readable.{IsRow, row_of_stored}
 use Rattle.build_store.specs.Survey.{IsGood}
 use Rattle.build_store.proofs.Hexed.{ways}
 use Rattle.build_store.proofs.Surveyed.{each_of}

@@ -6,8 +6,8 @@ use Rattle.std.proofs.lemmas.Bool.{cases_eq}
 use Rattle.std.proofs.lemmas.List.{get_or_default, take_more}
 use Rattle.std.proofs.lemmas.List.Elements.{Contains-append_left, Contains-push, Contains-push_cases}
 use Rattle.build_store.specs.Survey.{AreMarks, DoomsUnless, DoomsUnmarked}
-use Rattle.build_store.specs.Paths.{record_path}
-use Rattle.record_belief.specs.declared.candidate.Candidate.{Candidate}
+use Rattle.store_model.specs.Paths.{record_path}
+use Rattle.store_model.specs.declared.candidate.Candidate.{Candidate}
 
 pub place_in : (places : List ℕ) (i : ℕ) → i < length places → Contains places (get_or places i 0)
 place_in places i lt = (i, lt, get_or_default places i (get_or places i 0) 0 lt)

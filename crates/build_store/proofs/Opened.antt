@@ -15,12 +15,15 @@ use Rattle.outside_traits.proofs.Runs.{passes_so}
 use Rattle.outside_traits.proofs.Held.{none_unless}
 use Rattle.outside_traits.proofs.Puts.{bool_cases, path_cases}
 use Rattle.store_model.specs.declared.signature.EquivRow.{EquivRow}
-use Rattle.record_belief.specs.declared.candidate.Candidate.{Candidate}
-use Rattle.record_belief.specs.Believed.{AreBelieved, IsAmong, IsBelieved, IsBelievedWithin, IsShared}
-use Rattle.build_store.specs.Opening.{AreFound, Clears, IsBelievedRecord, IsElsewhere, IsLeft, IsOpened, IsRecordFile, rows_at}
+use Rattle.store_model.specs.declared.candidate.Candidate.{Candidate}
+use Rattle.store_model.specs.Believed.{AreBelieved, IsAmong, IsBelieved, IsBelievedWithin, IsShared}
+use Rattle.store_model.specs.Opened.{AreFound, IsBelievedRecord, IsElsewhere, IsLeft, IsOpened, IsRecordFile, rows_at}
+use Rattle.build_store.specs.Opening.{Clears}
 use Rattle.build_store.specs.Named.{IsName}
-use Rattle.build_store.specs.Paths.{IsLaidOut, record_path, slashes}
-use Rattle.build_store.specs.Sound.{IsHeld, IsKept, row_of_stored}
+use Rattle.build_store.specs.Paths.{IsLaidOut}
+use Rattle.store_model.specs.Paths.{record_path, slashes}
+use Rattle.store_model.specs.Readable.{IsHeld, row_of_stored}
+use Rattle.build_store.specs.Sound.{IsKept}
 use Rattle.build_store.specs.Survey.{AreMarks, Dooms, DoomsUnbelieved, DoomsUnmarked, IsAt, IsFoundIn, IsOtherArea, IsRecordSurvey, TakesOut}
 use Rattle.build_store.proofs.Areas.{differ, heads_differ}
 use Rattle.build_store.proofs.Clean.{name_is_name, name_slashes}

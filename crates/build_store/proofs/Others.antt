@@ -18,9 +18,11 @@ use Rattle.store_model.specs.Spelling.{name_of}
 use Rattle.store_model.specs.Valid.{IsNamedAlike, IsValidBook, IsValidLine, StandsIn}
 use Rattle.store_model.proofs.Digests.{same_name_text}
 use Rattle.store_model.proofs.Standing.{one_place, split_last, stands_earlier, stands_further}
-use Rattle.build_store.specs.Laws.{HasLine, HasLinePlace, IsOfTask, KeepsOutput, KeepsWork, OthersInWorkStay, OthersObjectsStay, OthersStay, OthersUntouched}
-use Rattle.build_store.specs.Paths.{slashes}
-use Rattle.build_store.specs.Publication.{IsForeign, KeepsOthers, Publication, Publishes, stamp_at, work_at}
+use Rattle.store_model.specs.Lines.{HasLine, KeepsWork}
+use Rattle.build_store.specs.Laws.{HasLinePlace, IsOfTask, KeepsOutput, OthersInWorkStay, OthersObjectsStay, OthersStay, OthersUntouched}
+use Rattle.store_model.specs.Paths.{slashes}
+use Rattle.build_store.specs.Publication.{IsForeign, KeepsOthers, Publishes}
+use Rattle.store_model.specs.Publication.{Publication, stamp_at, work_at}
 use Rattle.build_store.proofs.Apart.{apart_by_count, apart_under, apart_within, below_again, same_parts}
 use Rattle.build_store.proofs.Areas.{apart_by_first, differ, heads_differ}
 use Rattle.build_store.proofs.Clean.{name_is_name, name_slashes}

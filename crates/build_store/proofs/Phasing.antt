@@ -15,9 +15,11 @@ use Rattle.outside_traits.proofs.Puts.{path_cases}
 use Rattle.store_model.specs.Available.{object_folder}
 use Rattle.stamp_store.specs.Stamp.{old_path, stamp_path, staged_path}
 use Rattle.build_store.specs.Named.{IsName}
-use Rattle.build_store.specs.Paths.{IsLaidOut, IsTemporary, record_path, slashes, staged_record_path}
+use Rattle.build_store.specs.Paths.{IsLaidOut, IsTemporary, staged_record_path}
+use Rattle.store_model.specs.Paths.{record_path, slashes}
 use Rattle.build_store.specs.Phases.{IsApartFrom, Lays, Settles, Shares, Stages}
-use Rattle.build_store.specs.Publication.{HoldsObject, SameObjects, work_at}
+use Rattle.build_store.specs.Publication.{HoldsObject, SameObjects}
+use Rattle.store_model.specs.Publication.{work_at}
 use Rattle.build_store.proofs.Areas.{apart_by_first, differ, heads_differ}
 use Rattle.build_store.proofs.Clean.{name_slashes}
 use Rattle.build_store.proofs.Slashes.{slashes_inside}

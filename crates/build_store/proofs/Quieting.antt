@@ -14,9 +14,11 @@ use Rattle.outside_traits.specs.Passes.{Passes}
 use Rattle.outside_traits.proofs.Runs.{each_now, passes_at, passes_so}
 use Rattle.meta_model.specs.CleanBuild.{Entries}
 use Rattle.stamp_store.specs.Stamp.{old_path, stamp_path, staged_path}
-use Rattle.build_store.specs.Paths.{record_path, staged_record_path}
+use Rattle.store_model.specs.Paths.{record_path}
+use Rattle.build_store.specs.Paths.{staged_record_path}
 use Rattle.build_store.specs.Phases.{IsFileOf, IsStoredFile, Lays, Settles, Stages, put_of}
-use Rattle.build_store.specs.Publication.{HoldsObject, IsForeign, IsPublished, Publication, Publishes, SameObjects, stamp_at, stamp_file, work_at}
+use Rattle.build_store.specs.Publication.{HoldsObject, IsForeign, IsPublished, Publishes, SameObjects}
+use Rattle.store_model.specs.Publication.{Publication, stamp_at, stamp_file, work_at}
 use Rattle.build_store.proofs.Areas.{differ, heads_differ}
 use Rattle.build_store.proofs.Phasing.{lays_elsewhere, tree_stays}
 

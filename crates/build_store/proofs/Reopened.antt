@@ -18,16 +18,17 @@ use Rattle.store_model.proofs.Digests.{same_name_text}
 use Rattle.store_model.proofs.Ordered.{each_from_ordered, each_map, each_middle, each_ordered, map_each}
 use Rattle.store_model.proofs.Standing.{AllNew, each_line, stands_behind, stands_first}
 use Rattle.sig_gen.proofs.Storing.{stored_again}
-use Rattle.record_belief.specs.declared.candidate.Candidate.{Candidate}
-use Rattle.record_belief.specs.Believed.{AreBelieved, IsAmong}
+use Rattle.store_model.specs.declared.candidate.Candidate.{Candidate}
+use Rattle.store_model.specs.Believed.{AreBelieved, IsAmong}
 use Rattle.record_belief.specs.Books.{AreOfBook, IsInOrder, IsOfLine, IsLineAt}
 use Rattle.record_belief.proofs.Again.{again_valid, again_whole, line_at}
 use Rattle.record_belief.proofs.Bookish.{lines_believed}
 use Rattle.record_belief.proofs.Lasting.{order_is_one}
-use Rattle.build_store.specs.Opening.{AreFound, IsLeft, IsRecordFile, rows_at}
-use Rattle.build_store.specs.Publication.{record_file}
-use Rattle.build_store.specs.Reopened.{ClearedIsValid, HaveSameLines, OpenedHoldsNoMore, OpenedIsValid, OpenedOneWay}
-use Rattle.build_store.specs.Sound.{IsReadable, row_of_stored}
+use Rattle.store_model.specs.Opened.{AreFound, IsLeft, IsRecordFile, rows_at}
+use Rattle.store_model.specs.Publication.{record_file}
+use Rattle.build_store.specs.Reopened.{ClearedIsValid, OpenedHoldsNoMore, OpenedIsValid, OpenedOneWay}
+use Rattle.store_model.specs.Lines.{HaveSameLines}
+use Rattle.store_model.specs.Readable.{IsReadable, row_of_stored}
 use Rattle.build_store.proofs.SameLines.{entry_found, entry_there, same_entries}
 use Rattle.build_store.proofs.Sorted.{Differ, ascend_of, each_among, each_at, is_before, one_list, ordered_up}
 

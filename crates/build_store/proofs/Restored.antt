@@ -29,11 +29,14 @@ use Rattle.sig_gen.specs.Sound.{Spells}
 use Rattle.sig_gen.proofs.Records.{signature_again}
 use Rattle.build_store.specs.declared.fault.StoreFault.{StoreFault}
 use Rattle.build_store.specs.Named.{IsName}
-use Rattle.build_store.specs.Paths.{IsLaidOut, record_path}
+use Rattle.build_store.specs.Paths.{IsLaidOut}
+use Rattle.store_model.specs.Paths.{record_path}
 use Rattle.build_store.specs.Phases.{IsFileOf, put_of}
-use Rattle.build_store.specs.Publication.{AreShort, HasNoObject, IsObjectOf, IsPublished, IsRestored, Publishes, Restores, record_file, restoration, stored_for}
+use Rattle.build_store.specs.Publication.{AreShort, HasNoObject, IsObjectOf, IsPublished, IsRestored, Publishes, Restores, restoration, stored_for}
+use Rattle.store_model.specs.Publication.{record_file}
 use Rattle.build_store.specs.Restoring.{IsObject, IsPutBack, PutsBack, PutsBackBy, back_of}
-use Rattle.build_store.specs.Sound.{HasShortPaths, IsHeld, IsKept, IsRow}
+use Rattle.store_model.specs.Readable.{HasShortPaths, IsHeld, IsRow}
+use Rattle.build_store.specs.Sound.{IsKept}
 use Rattle.build_store.proofs.Clean.{name_is_name}
 use Rattle.build_store.proofs.Rows.{row_has, row_named}
 use Rattle.build_store.proofs.Stays.{IsOther, held_stays}

@@ -18,7 +18,8 @@ use Rattle.store_model.specs.Signatures.{Signed, dep_line, file_hash, is_dep_bef
 use Rattle.store_model.specs.Spelling.{name_of}
 use Rattle.store_model.specs.Valid.{IsValidBook}
 use Rattle.store_model.proofs.Ordered.{each_weaker}
-use Rattle.build_store.specs.Reopened.{HaveSameLines, HoldsNoMore, ReuseAgain}
+use Rattle.store_model.specs.Lines.{HaveSameLines}
+use Rattle.build_store.specs.Reopened.{HoldsNoMore, ReuseAgain}
 use Rattle.build_store.proofs.SameLines.{same_origin, same_rows}
 
 -- ---- signatures are by the rows of names alone

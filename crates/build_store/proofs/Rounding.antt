@@ -14,7 +14,8 @@ use Rattle.outside_traits.proofs.Runs.{passes_so, passes_then}
 use Rattle.stamp_store.specs.Stamp.{old_path, staged_path, stamp_path}
 use Rattle.store_model.specs.Available.{object_folder}
 use Rattle.build_store.specs.Phases.{Settles, SharesRound, Stages}
-use Rattle.build_store.specs.Publication.{KeepsOthers, stamp_at, work_at}
+use Rattle.build_store.specs.Publication.{KeepsOthers}
+use Rattle.store_model.specs.Publication.{stamp_at, work_at}
 use Rattle.build_store.proofs.Areas.{apart_by_first, differ, heads, heads_differ}
 
 -- what lies in a folder, or above one, begins as it does

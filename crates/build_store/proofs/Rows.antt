@@ -15,7 +15,7 @@ use Rattle.sig_gen.specs.Sound.{IsNameBy}
 use Rattle.build_store.specs.declared.fault.StoreFault.{StoreFault}
 use Rattle.build_store.specs.declared.fault.StoreFault.TheVariants as fault
 use Rattle.build_store.specs.Faults.{IsClash, IsOtherSignature}
-use Rattle.build_store.specs.Sound.{IsRow}
+use Rattle.store_model.specs.Readable.{IsRow}
 use Rattle.build_store.proofs.Sorted.{each_at}
 
 -- what each row has, the row of a name has

@@ -21,7 +21,7 @@ use Rattle.store_model.specs.Spelling.{name_of}
 use Rattle.store_model.specs.Valid.{IsNamedBefore, IsValidBook, StandsIn, record_entry}
 use Rattle.store_model.proofs.Standing.{AllNew, one_place, row_found, row_none, stands_behind, stands_earlier, stands_first}
 use Rattle.store_model.proofs.Tracing.{outcome_at}
-use Rattle.build_store.specs.Reopened.{HaveSameLines}
+use Rattle.store_model.specs.Lines.{HaveSameLines}
 use Rattle.build_store.proofs.Validity.{entry_of_line}
 
 pub other_lines : (book again : Book) → HaveSameLines book again → HaveSameLines again book

@@ -9,8 +9,8 @@ use Rattle.std.proofs.lemmas.Cmp.{nat_list_cmp_total}
 use Rattle.std.proofs.lemmas.List.Elements.{All-from_recursion}
 use Rattle.meta_model.specs.InOrder.{in_order, put_in_order}
 use Rattle.store_model.proofs.Ordered.{each_ordered, each_weaker, put_each}
-use Rattle.record_belief.specs.declared.candidate.Candidate.{Candidate}
-use Rattle.record_belief.specs.Believed.{Ascend, IsAmong, name_cmp}
+use Rattle.store_model.specs.declared.candidate.Candidate.{Candidate}
+use Rattle.store_model.specs.Believed.{Ascend, IsAmong, name_cmp}
 use Rattle.record_belief.proofs.Placing.{name_same, rising}
 
 abbrev pub IsLess : Candidate → Candidate → Type 0

@@ -13,7 +13,7 @@ use Rattle.store_model.specs.declared.signature.SigRecord.{SigRecord}
 use Rattle.store_model.specs.Available.{IsAvailable, IsInObject, IsInWork, Matches, stamp_path, task_folder}
 use Rattle.store_model.specs.Signatures.{Signed}
 use Rattle.store_model.specs.Spelling.{name_of}
-use Rattle.build_store.specs.Opening.{IsElsewhere, IsOpened}
+use Rattle.store_model.specs.Opened.{IsElsewhere, IsOpened}
 use Rattle.build_store.specs.Paths.{HasPlace}
 use Rattle.build_store.specs.Reopened.{OpenedStays}
 use Rattle.build_store.proofs.Areas.{differ, heads_differ}

@@ -22,12 +22,12 @@ use Rattle.store_model.specs.declared.signature.StoredSig.{StoredSig}
 use Rattle.store_model.proofs.Digests.{same_name_text}
 use Rattle.store_model.proofs.Ordered.{each_append, each_weaker}
 use Rattle.sig_gen.proofs.Storing.{stored_again}
-use Rattle.record_belief.specs.declared.candidate.Candidate.{Candidate}
-use Rattle.record_belief.specs.Believed.{Ascend, IsAmong, IsBelievedWithin, name_cmp}
+use Rattle.store_model.specs.declared.candidate.Candidate.{Candidate}
+use Rattle.store_model.specs.Believed.{Ascend, IsAmong, IsBelievedWithin, name_cmp}
 use Rattle.build_store.specs.declared.records.Found.{Found}
-use Rattle.build_store.specs.Opening.{IsBelievedRecord, IsLeft, IsRecordFile}
-use Rattle.build_store.specs.Paths.{record_path}
-use Rattle.build_store.specs.Publication.{record_file}
+use Rattle.store_model.specs.Opened.{IsBelievedRecord, IsLeft, IsRecordFile}
+use Rattle.store_model.specs.Paths.{record_path}
+use Rattle.store_model.specs.Publication.{record_file}
 use Rattle.build_store.specs.Survey.{AreRead, AreRecords, HasNoRecord, HasRead, HeldFile, IsFileIn, IsFoundIn, IsGood, IsSurveyed, Rejects, StandsAmong, Takes, Visits, paths_of}
 use Rattle.build_store.proofs.Areas.{differ, heads_differ}
 use Rattle.build_store.proofs.Hexed.{records_in_order}

@@ -20,9 +20,11 @@ use Rattle.store_model.proofs.Digests.{same_name_text}
 use Rattle.store_model.proofs.Listing.{find_behind}
 use Rattle.store_model.proofs.Ordered.{map_each}
 use Rattle.store_model.proofs.Standing.{each_line, split_last}
-use Rattle.build_store.specs.Laws.{HasLine, IsOfLine, PublishedIsValid}
-use Rattle.build_store.specs.Paths.{record_path}
-use Rattle.build_store.specs.Publication.{Publication, Publishes}
+use Rattle.store_model.specs.Lines.{HasLine}
+use Rattle.build_store.specs.Laws.{IsOfLine, PublishedIsValid}
+use Rattle.store_model.specs.Paths.{record_path}
+use Rattle.store_model.specs.Publication.{Publication}
+use Rattle.build_store.specs.Publication.{Publishes}
 use Rattle.build_store.proofs.Areas.{apart_by_first, differ, heads_differ}
 
 -- ---- the records of a book

@@ -12,11 +12,13 @@ use Rattle.store_model.specs.Rows.{new_unihash, row_at}
 use Rattle.store_model.specs.Signatures.{Signed}
 use Rattle.store_model.specs.Spelling.{name_of, record_bytes, signature_bytes}
 use Rattle.sig_gen.specs.Sound.{Spells}
-use Rattle.sig_gen.specs.Stored.{IsInOrder, SpellsStored}
+use Rattle.sig_gen.specs.Stored.{IsInOrder}
+use Rattle.store_model.specs.Stored.{SpellsStored}
 use Rattle.build_store.specs.declared.drafting.NewRecord.{NewRecord}
 use Rattle.build_store.specs.declared.drafting.Draft.{Draft}
-use Rattle.build_store.specs.Publication.{IsAgreed, record_file, unihash_for}
-use Rattle.build_store.specs.Sound.{row_of_stored}
+use Rattle.build_store.specs.Publication.{IsAgreed, unihash_for}
+use Rattle.store_model.specs.Publication.{record_file}
+use Rattle.store_model.specs.Readable.{row_of_stored}
 use Rattle.build_store.specs.declared.fault.StoreFault.{StoreFault}
 use Rattle.build_store.specs.declared.fault.StoreFault.TheVariants as fault
 use Rattle.build_store.specs.Faults.{IsOtherSignature}

@@ -16,7 +16,7 @@ use Rattle.tree_model.specs.declared.hash.Hash.{Hash}
 use Rattle.build_store.specs.declared.fault.StoreFault.{StoreFault}
 use Rattle.build_store.specs.declared.fault.StoreFault.TheVariants as fault
 use Rattle.build_store.specs.Faults.{IsOtherSignature}
-use Rattle.build_store.specs.Publication.{stamp_at, stamp_file}
+use Rattle.store_model.specs.Publication.{stamp_at, stamp_file}
 
 -- What is held under a folder, where that is within the limits of an output; nothing exactly where it is beyond them.
 abbrev pub IsOutput : List ℕ → Store → Option Entries → Type 0

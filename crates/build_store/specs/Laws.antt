@@ -12,18 +12,16 @@ use Rattle.store_model.specs.Origins.{Book, Line, Reading}
 use Rattle.store_model.specs.Premises.{Differ}
 use Rattle.store_model.specs.Signatures.{Signed}
 use Rattle.store_model.specs.Spelling.{name_of}
-use Rattle.store_model.specs.Valid.{IsValid, IsValidBook, IsValidLine, StandsIn, stored_of}
+use Rattle.store_model.specs.Valid.{IsValid, IsValidBook, IsValidLine, stored_of}
+use Rattle.store_model.specs.Publication.{Publication, record_file}
+use Rattle.store_model.specs.Lines.{HasLine, KeepsWork}
 use Rattle.build_store.specs.Paths.{HasPlace, IsOnePart}
-use Rattle.build_store.specs.Publication.{KeepsOthers, Publication, Publishes, record_file, stamp_at, work_at}
+use Rattle.build_store.specs.Publication.{KeepsOthers, Publishes}
 
 -- the publication's record is that of the line
 pub record IsOfLine (p : Publication) (line : Line) : Type 0 where
   pub name : p.name ≡ name_of line.sig
   pub file : p.file ≡ record_file (stored_of line)
-
--- the line stands in the book
-abbrev pub HasLine : Book → Line → Type 0
-HasLine book line = (before : Book) × StandsIn book before line
 
 -- A publication keeps a store valid, with the same book or with its line behind it, where the line stands in the book or is valid
 -- behind it.
@@ -33,11 +31,6 @@ PublishedIsValid = (p : Publication) (line : Line) (old new : Store) → IsOfLin
     IsValid gives reading new book ⊎ IsValid gives reading new (book ++ line ∷ [])
 
 -- ---- other tasks
-
--- the stamp of a task's folder, and all at or under its work folder, are as before
-pub record KeepsWork (folder : List ℕ) (old new : Store) : Type 0 where
-  pub stamp : new (stamp_at folder) ≡ old (stamp_at folder)
-  pub work : (q : List ℕ) → IsAtOrBelow (work_at folder) q → new q ≡ old q
 
 -- all at or under the folder of the object is as before
 pub record KeepsObject (unihash : Hash) (old new : Store) : Type 0 where

@@ -1,15 +1,11 @@
--- Where a store keeps what, and which tasks have a place in it. (Own rules.)
-use Rattle.std.specs.Prelude.{◌≡◌, ◌⊎◌, ℕ, suc, List, [], ◌∷◌, ◌==◌, codes, None, IsSome, if◌then◌else◌}
+-- Where a store writes first, and which tasks have a place in it. (Own rules.)
+use Rattle.std.specs.Prelude.{◌≡◌, ◌⊎◌, ℕ, List, codes, None, IsSome}
 use Rattle.tree_model.specs.declared.hash.Hash.{Hash}
 use Rattle.tree_model.specs.Hash.{hash_text}
 use Rattle.tree_model.specs.Path.{IsPart, inside}
 use Rattle.outside_traits.specs.Store.{Store}
 use Rattle.meta_model.specs.declared.plan.PlanTask.{PlanTask}
-
--- how many slashes a text has
-abbrev pub slashes : List ℕ → ℕ
-slashes [] = 0
-slashes (b ∷ bs) = if b == 47 then suc (slashes bs) else slashes bs
+use Rattle.store_model.specs.Paths.{slashes}
 
 -- a text that is one part of a path
 pub record IsOnePart (text : List ℕ) : Type 0 where
@@ -20,10 +16,6 @@ pub record IsOnePart (text : List ℕ) : Type 0 where
 pub record HasPlace (of : PlanTask) : Type 0 where
   pub pn : IsOnePart of.id.pn
   pub task : IsOnePart of.id.task
-
--- where a stored record stands: `rec/NAME`
-abbrev pub record_path : Hash → List ℕ
-record_path name = inside (codes "rec") (hash_text name)
 
 -- where it is written first: `tmp/rec/NAME`
 abbrev pub staged_record_path : Hash → List ℕ

@@ -7,8 +7,9 @@ use Rattle.tree_model.specs.Path.{IsBelow}
 use Rattle.outside_traits.specs.Store.{IsApart, Store}
 use Rattle.meta_model.specs.CleanBuild.{Entries}
 use Rattle.store_model.specs.Available.{object_folder}
-use Rattle.build_store.specs.Paths.{IsLaidOut, record_path, staged_record_path}
-use Rattle.build_store.specs.Publication.{Publication, work_at}
+use Rattle.build_store.specs.Paths.{IsLaidOut, staged_record_path}
+use Rattle.store_model.specs.Paths.{record_path}
+use Rattle.store_model.specs.Publication.{Publication, work_at}
 
 -- the path is apart from the folder of the object, if there is one
 abbrev pub IsApartFrom : Option Hash → List ℕ → Type 0

@@ -1,9 +1,6 @@
 -- What a publication, or a restoring, does to a store.
-use Rattle.std.specs.Prelude.{◌≡◌, ◌≢◌, ◌⊎◌, ◌≤◌, ℕ, Bool, true, false, List, [], ◌∷◌, ◌++◌, codes, length, All, Option, Some, None, is_none, if◌then◌else◌}
-use Rattle.tree_model.specs.declared.entry.Entry.{Entry}
-use Rattle.tree_model.specs.declared.entry.Entry.TheVariants.{File}
+use Rattle.std.specs.Prelude.{◌≡◌, ◌≢◌, ◌⊎◌, ◌≤◌, ℕ, true, false, List, [], ◌∷◌, ◌++◌, codes, length, All, Option, Some, None, is_none, if◌then◌else◌}
 use Rattle.tree_model.specs.declared.hash.Hash.{Hash}
-use Rattle.tree_model.specs.Hash.{hash_text}
 use Rattle.tree_model.specs.Manifest.{manifest_lines}
 use Rattle.tree_model.specs.Path.{IsAtOrBelow, IsBelow, inside}
 use Rattle.tree_model.specs.Tree.{IsTree}
@@ -17,37 +14,10 @@ use Rattle.store_model.specs.Origins.{Line, row_of}
 use Rattle.store_model.specs.Recording.{recorded}
 use Rattle.store_model.specs.Rows.{row_at, unihash_or}
 use Rattle.store_model.specs.Signatures.{Signed}
-use Rattle.store_model.specs.Spelling.{name_of, record_bytes, signature_bytes}
+use Rattle.store_model.specs.Spelling.{name_of, signature_bytes}
 use Rattle.store_model.specs.Valid.{stored_of}
-use Rattle.build_store.specs.Paths.{record_path}
-
--- the file of a stored record
-abbrev pub record_file : StoredSig → Entry
-record_file stored = File false (record_bytes stored)
-
--- What is put: a task's folder `PN/TASK`, the name and the file of its record, whether that is written (its name has no row), the tree,
--- and the unihash of the object that is written too, if one is.
-pub record Publication : Type 0 where
-  pub folder : List ℕ
-  pub name : Hash
-  pub file : Entry
-  pub is_new : Bool
-  pub tree : Entries
-  pub object : Option Hash
-
-abbrev pub work_at : List ℕ → List ℕ
-work_at folder = inside (codes "work") folder
-
-abbrev pub stamp_at : List ℕ → List ℕ
-stamp_at folder = inside (codes "stamp") folder
-
--- the digits of a name, and a newline
-abbrev pub stamp_text : Hash → List ℕ
-stamp_text name = hash_text name ++ 10 ∷ []
-
--- the stamp that names a record
-abbrev pub stamp_file : Hash → Entry
-stamp_file name = File false (stamp_text name)
+use Rattle.store_model.specs.Paths.{record_path}
+use Rattle.store_model.specs.Publication.{record_file, Publication, work_at, stamp_at, stamp_file}
 
 -- The path is none of the publication's own: it is not under `tmp/`, it is apart from the work folder and from the folder of an
 -- object that is written, and it is neither the stamp nor a record that is written.

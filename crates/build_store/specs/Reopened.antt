@@ -8,25 +8,21 @@ use Rattle.meta_model.specs.declared.plan.PlanTask.{PlanTask}
 use Rattle.meta_model.specs.CleanBuild.{Gives}
 use Rattle.store_model.specs.declared.signature.EquivRow.{EquivRow}
 use Rattle.store_model.specs.Available.{IsAvailable}
-use Rattle.store_model.specs.Origins.{Book, Line, Reading, rows_of}
+use Rattle.store_model.specs.Origins.{Book, Reading, rows_of}
 use Rattle.store_model.specs.Reuse.{MayReuse}
 use Rattle.store_model.specs.Signatures.{Signed}
-use Rattle.store_model.specs.Valid.{IsValid, IsValidBook, StandsIn}
-use Rattle.build_store.specs.Laws.{HasLine}
-use Rattle.build_store.specs.Opening.{Clears, IsOpened}
+use Rattle.store_model.specs.Valid.{IsValid, IsValidBook}
+use Rattle.store_model.specs.Opened.{IsOpened}
+use Rattle.store_model.specs.Readable.{IsReadable}
+use Rattle.store_model.specs.Lines.{HaveSameLines}
+use Rattle.build_store.specs.Opening.{Clears}
 use Rattle.build_store.specs.Paths.{HasPlace}
-use Rattle.build_store.specs.Sound.{IsReadable}
 
 -- Where what is held is valid with a book of readable lines, opening takes no record away: at each moment a store is valid with the
 -- book that it was valid with.
 abbrev pub ClearedIsValid : Type 0
 ClearedIsValid = (held old new : Store) → Clears held old new → (gives : Gives) (reading : Reading) (book : Book) → IsValid gives reading held book → AllByRecursion IsReadable book →
     (other : Book) → IsValid gives reading old other → IsValid gives reading new other
-
--- each line of the one book stands in the other
-pub record HaveSameLines (book again : Book) : Type 0 where
-  pub whole : (before : Book) (line : Line) → StandsIn book before line → HasLine again line
-  pub only : (before : Book) (line : Line) → StandsIn again before line → HasLine book line
 
 -- a book of the same lines, which are readable, with which the store is valid and whose rows these are
 pub record IsBookAgain (gives : Gives) (reading : Reading) (book : Book) (after : Store) (rows : List EquivRow) : Type 0 where

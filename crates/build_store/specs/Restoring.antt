@@ -10,9 +10,10 @@ use Rattle.meta_model.specs.CleanBuild.{Entries}
 use Rattle.meta_model.specs.declared.plan.PlanTask.{PlanTask}
 use Rattle.store_model.specs.declared.signature.EquivRow.{EquivRow}
 use Rattle.store_model.specs.Available.{object_folder, task_folder}
-use Rattle.build_store.specs.Paths.{record_path}
+use Rattle.store_model.specs.Paths.{record_path}
 use Rattle.build_store.specs.Phases.{put_of}
-use Rattle.build_store.specs.Publication.{IsPublished, Publication, Publishes}
+use Rattle.build_store.specs.Publication.{IsPublished, Publishes}
+use Rattle.store_model.specs.Publication.{Publication}
 
 -- the row's object is this tree
 pub record IsObject (row : EquivRow) (held : Store) (tree : Entries) : Type 0 where

@@ -6,16 +6,16 @@ use Rattle.tree_model.specs.declared.entry.Entry.{Entry}
 use Rattle.outside_traits.specs.Store.{IsListing, Store}
 use Rattle.store_model.specs.declared.signature.EquivRow.{EquivRow}
 use Rattle.store_model.specs.Spelling.{name_of, record_bytes}
-use Rattle.sig_gen.specs.Stored.{SpellsStored}
-use Rattle.record_belief.specs.declared.candidate.Candidate.{Candidate}
-use Rattle.record_belief.specs.Believed.{Ascend, AreBelieved}
+use Rattle.store_model.specs.Stored.{SpellsStored}
+use Rattle.store_model.specs.declared.candidate.Candidate.{Candidate}
+use Rattle.store_model.specs.Believed.{Ascend, AreBelieved}
 use Rattle.build_store.specs.declared.records.Found.{Found}
-use Rattle.build_store.specs.Opening.{AreFound, IsLeft, IsRecordFile, rows_at}
-use Rattle.build_store.specs.Paths.{record_path, slashes}
-use Rattle.build_store.specs.Publication.{record_file, stamp_file, stamp_text}
+use Rattle.store_model.specs.Opened.{AreFound, IsLeft, IsRecordFile, rows_at}
+use Rattle.store_model.specs.Paths.{record_path, slashes}
+use Rattle.store_model.specs.Publication.{record_file, stamp_file, stamp_text}
 use Rattle.tree_model.specs.declared.hash.Hash.{Hash}
 use Rattle.tree_model.specs.Hash.{IsHash, hash_text}
-use Rattle.build_store.specs.Sound.{HasShortPaths, IsRow}
+use Rattle.store_model.specs.Readable.{HasShortPaths, IsRow}
 
 -- a candidate, but for where it stands
 pub record IsGood (c : Candidate) : Type 0 where

@@ -4,7 +4,7 @@ ghost use Rattle.std.specs.List.{AllByRecursion};
 ghost use Rattle.sha2.specs.Sha256.{sha256};
 ghost use Rattle.store_model.specs.Rows.{row_at, IsClear};
 ghost use Rattle.build_store.specs.Faults.{IsClash, IsOtherSignature, store_failed};
-ghost use Rattle.build_store.specs.Sound.{IsRow};
+ghost use Rattle.store_model.specs.Readable.{IsRow};
 
 use crate::fault::StoreFault;
 use crate::naming::same_bytes;

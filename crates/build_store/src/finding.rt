@@ -11,8 +11,9 @@ ghost use Rattle.store_model.specs.Available.{IsAvailable, Matches, object_folde
 ghost use Rattle.store_model.specs.Spelling.{name_of, signature_bytes};
 ghost use Rattle.build_store.specs.Faults.{IsClash, IsOutside, of_disk, store_failed};
 ghost use Rattle.build_store.specs.Finding.{IsAnswered, IsOtherOrOutside, IsOutput, IsSharedOf, IsStampedFor, IsThere, IsThereAtAll, IsWorkOf};
-ghost use Rattle.build_store.specs.Publication.{AreShort, stamp_at, stamp_file, stamp_text};
-ghost use Rattle.build_store.specs.Sound.{IsRow};
+ghost use Rattle.build_store.specs.Publication.{AreShort};
+ghost use Rattle.store_model.specs.Publication.{stamp_at, stamp_file, stamp_text};
+ghost use Rattle.store_model.specs.Readable.{IsRow};
 ghost use Rattle.build_store.specs.View.{signed_by};
 
 use crate::comparing::compare_row;

@@ -1,10 +1,10 @@
 // What the files under `rec/` say.
 ghost use Rattle.std.specs.Prelude.{◌≡◌, ◌++◌, ◌∷◌, [], IfOk, None, OnOk};
 ghost use Rattle.std.specs.List.{AllByRecursion};
-ghost use Rattle.record_belief.specs.Believed.{Ascend, AreBelieved};
+ghost use Rattle.store_model.specs.Believed.{Ascend, AreBelieved};
 ghost use Rattle.store_model.specs.Rows.{row_at};
-ghost use Rattle.build_store.specs.Opening.{rows_at};
-ghost use Rattle.build_store.specs.Sound.{row_of_stored};
+ghost use Rattle.store_model.specs.Opened.{rows_at};
+ghost use Rattle.store_model.specs.Readable.{row_of_stored};
 ghost use Rattle.build_store.specs.Survey.{DoomsUnbelieved, IsGood, IsSurveyOf};
 
 use crate::drafting::manifest_again;
@@ -12,10 +12,10 @@ use crate::publishing::add_new;
 use crate::records::found_among;
 use crate::survey::{doom_unmarked, marks_of};
 use hash_equiv::Index;
-use record_belief::{Candidate, ascend, believed};
+use record_belief::{ascend, believed};
 use sig_gen::encode;
 use std::alloc::Global;
-use store_model::EquivRow;
+use store_model::{Candidate, EquivRow};
 use tree_model::{Entry, Mem, Text};
 
 /// The row of a candidate.

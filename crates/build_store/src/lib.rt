@@ -1,8 +1,8 @@
 //! The store of a run: what runs of plans left on a disk, and what this one puts there.
 //!
 //! A store is seen as its disk, the rows of its index, in the order in which they were added, and the signatures that it keeps of tasks
-//! whose publication wanted memory (`specs/View`). `specs/Opening` says what opening a disk makes of it, `specs/Finding` what is found of
-//! a task, `specs/Publication` what publishing and restoring do, and `specs/Faults` why a call is refused.
+//! whose publication wanted memory (`specs/View`). What opening a disk leaves is defined in `store_model` (`Opened`); `specs/Finding` says
+//! what is found of a task, `specs/Publication` what publishing and restoring do, and `specs/Faults` why a call is refused.
 //!
 //! Promised of each call, whatever it answers, want of memory and a failed disk included: what it did to each image that a crash left
 //! since its entry (`Passes`). A publication changes just its own paths (the task's work folder, stamp and record, the object of its

@@ -4,8 +4,10 @@ ghost use Rattle.std.specs.List.{AllByRecursion};
 ghost use Rattle.outside_traits.specs.Fault.{Counts, disk_failed};
 ghost use Rattle.outside_traits.specs.Passes.{EachNow, Passes, Same};
 ghost use Rattle.outside_traits.specs.Story.{IsFresh};
-ghost use Rattle.build_store.specs.Opening.{Clears, IsOpened};
-ghost use Rattle.build_store.specs.Sound.{IsKept, IsRow};
+ghost use Rattle.build_store.specs.Opening.{Clears};
+ghost use Rattle.store_model.specs.Opened.{IsOpened};
+ghost use Rattle.build_store.specs.Sound.{IsKept};
+ghost use Rattle.store_model.specs.Readable.{IsRow};
 ghost use Rattle.build_store.specs.Survey.{Dooms, IsOtherArea, IsRecordSurvey, IsSurveyOf};
 
 use crate::judging::{Survey, survey_of};

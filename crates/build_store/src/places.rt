@@ -2,7 +2,7 @@
 ghost use Rattle.std.specs.Prelude.{◌≡◌, IfOk, codes};
 ghost use Rattle.tree_model.specs.Path.{inside};
 ghost use Rattle.store_model.specs.Available.{task_folder, work_folder};
-ghost use Rattle.build_store.specs.Publication.{stamp_at, work_at};
+ghost use Rattle.store_model.specs.Publication.{stamp_at, work_at};
 
 use meta_model::PlanTask;
 use std::alloc::Global;

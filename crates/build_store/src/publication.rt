@@ -7,9 +7,11 @@ ghost use Rattle.outside_traits.specs.Fault.{Counts, disk_failed};
 ghost use Rattle.outside_traits.specs.Passes.{EachNow, Passes, Same};
 ghost use Rattle.outside_traits.specs.Store.{AgreesApart, AgreesRound, ChangesAt, HoldsTree, Moves};
 ghost use Rattle.stamp_store.specs.Stamp.{IsFolder, staged_path};
-ghost use Rattle.build_store.specs.Paths.{IsLaidOut, record_path, slashes, staged_record_path};
+ghost use Rattle.build_store.specs.Paths.{IsLaidOut, staged_record_path};
+ghost use Rattle.store_model.specs.Paths.{record_path, slashes};
 ghost use Rattle.build_store.specs.Phases.{IsFileOf, IsStagedFile, IsStoredFile, Lays, Settles, Shares, SharesRound, Stages, put_of};
-ghost use Rattle.build_store.specs.Publication.{AreShort, HoldsObject, IsPublished, KeepsOthers, Publishes, SameObjects, stamp_file, work_at};
+ghost use Rattle.build_store.specs.Publication.{AreShort, HoldsObject, IsPublished, KeepsOthers, Publishes, SameObjects};
+ghost use Rattle.store_model.specs.Publication.{stamp_file, work_at};
 ghost use Rattle.build_store.specs.Named.{IsName};
 
 use crate::places::work_at;

@@ -16,7 +16,8 @@ ghost use Rattle.build_store.specs.Named.{IsName};
 ghost use Rattle.build_store.specs.Paths.{HasPlace, IsLaidOut};
 ghost use Rattle.build_store.specs.Phases.{IsFileOf, put_of};
 ghost use Rattle.build_store.specs.Publication.{AreShort, HoldsObject, IsAgreed, IsPublished, KeepsOthers, Publishes, SameObjects, line_for, object_for, publication, rows_with, unihash_for};
-ghost use Rattle.build_store.specs.Sound.{IsKept, IsReadable, IsRow};
+ghost use Rattle.build_store.specs.Sound.{IsKept};
+ghost use Rattle.store_model.specs.Readable.{IsReadable, IsRow};
 ghost use Rattle.build_store.specs.View.{kept_with, kept_without, signed_by};
 
 use crate::drafting::{Draft, NewRecord, draft_of};

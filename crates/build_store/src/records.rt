@@ -4,20 +4,20 @@ ghost use Rattle.std.specs.List.{AllByRecursion};
 ghost use Rattle.outside_traits.specs.Fault.{Counts, disk_failed};
 ghost use Rattle.outside_traits.specs.Passes.{Passes, Same};
 ghost use Rattle.outside_traits.specs.Store.{Store};
-ghost use Rattle.record_belief.specs.declared.candidate.Candidate.{Candidate as ACandidate};
-ghost use Rattle.sig_gen.specs.Stored.{SpellsStored};
+ghost use Rattle.store_model.specs.declared.candidate.Candidate.{Candidate as ACandidate};
+ghost use Rattle.store_model.specs.Stored.{SpellsStored};
 ghost use Rattle.store_model.specs.Spelling.{name_of, record_bytes};
-ghost use Rattle.build_store.specs.Paths.{record_path, staged_record_path};
-ghost use Rattle.build_store.specs.Publication.{record_file};
-ghost use Rattle.build_store.specs.Sound.{HasShortPaths};
+ghost use Rattle.store_model.specs.Paths.{record_path};
+ghost use Rattle.build_store.specs.Paths.{staged_record_path};
+ghost use Rattle.store_model.specs.Publication.{record_file};
+ghost use Rattle.store_model.specs.Readable.{HasShortPaths};
 ghost use Rattle.build_store.specs.Survey.{AreRead, AreRecords, HasRead, IsFoundIn, IsGood, Visits};
 
 use crate::naming::same_bytes;
 use outside_traits::{Disk, DiskFault};
-use record_belief::Candidate;
 use sig_gen::{SigFault, decode_stored, name_by, signature_in};
 use std::alloc::Global;
-use store_model::StoredSig;
+use store_model::{Candidate, StoredSig};
 use tree_model::{Entry, Hash, ManifestLine, Mem, Text};
 
 /// The most bytes of a path of a manifest.

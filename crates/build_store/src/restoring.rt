@@ -15,7 +15,8 @@ ghost use Rattle.build_store.specs.Finding.{IsOtherOrOutside};
 ghost use Rattle.build_store.specs.Restoring.{IsPutBack, PutsBack};
 ghost use Rattle.build_store.specs.Paths.{HasPlace, IsLaidOut};
 ghost use Rattle.build_store.specs.Publication.{AreShort, HasNoObject, IsRestored, KeepsOthers, Restores};
-ghost use Rattle.build_store.specs.Sound.{HasShortPaths, IsKept, IsRow};
+ghost use Rattle.store_model.specs.Readable.{HasShortPaths, IsRow};
+ghost use Rattle.build_store.specs.Sound.{IsKept};
 ghost use Rattle.build_store.specs.View.{signed_by};
 
 use crate::comparing::compare_row;

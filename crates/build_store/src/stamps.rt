@@ -1,7 +1,7 @@
 // The files under `stamp/` that are stamps.
 ghost use Rattle.std.specs.Prelude.{◌≡◌, ◌+◌, ◌↔◌, IsTrue, MatchBool, length};
 ghost use Rattle.hex.specs.Hex.{IsBytes};
-ghost use Rattle.build_store.specs.Paths.{slashes};
+ghost use Rattle.store_model.specs.Paths.{slashes};
 ghost use Rattle.build_store.specs.Survey.{HasNameText, HasStampText, IsStampEntry, IsStampFile};
 
 use std::str;

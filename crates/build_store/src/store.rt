@@ -13,11 +13,12 @@ ghost use Rattle.store_model.specs.Spelling.{name_of, signature_bytes};
 ghost use Rattle.sig_gen.specs.Sound.{IsNameBy};
 ghost use Rattle.build_store.specs.Faults.{IsClash, IsOutside, IsRefusal, OnDifference, OnMemory, store_failed};
 ghost use Rattle.build_store.specs.Finding.{IsAnswered, IsOutput};
-ghost use Rattle.build_store.specs.Opening.{Clears, IsOpened};
+ghost use Rattle.build_store.specs.Opening.{Clears};
+ghost use Rattle.store_model.specs.Opened.{IsOpened};
 ghost use Rattle.build_store.specs.Outcome.{disk_of, open_failed};
 ghost use Rattle.build_store.specs.Paths.{HasPlace};
 ghost use Rattle.build_store.specs.Publication.{AreShort, HasNoObject, HoldsObject, IsAgreed, IsPublished, IsRestored, KeepsOthers, Publishes, Restores, SameObjects, line_for, object_for, publication, rows_with, unihash_for};
-ghost use Rattle.build_store.specs.Sound.{HoldsRecords, IsReadable};
+ghost use Rattle.store_model.specs.Readable.{HoldsRecords, IsReadable};
 ghost use Rattle.build_store.specs.View.{IsSignatureOf, IsWanting, SameBooks, kept_with, kept_without, signed_by};
 
 use crate::comparing::compare_at;
@@ -47,7 +48,8 @@ pub struct Store<D: Disk> {
 
 impl<D: Disk> Model for Store<D> {
     ghost use Rattle.build_store.specs.View.{View};
-    ghost use Rattle.build_store.specs.Sound.{IsKept, IsRow};
+    ghost use Rattle.build_store.specs.Sound.{IsKept};
+    ghost use Rattle.store_model.specs.Readable.{IsRow};
     ghost use Rattle.std.specs.List.{AllByRecursion};
 
     ghost Value = { View D };

@@ -4,15 +4,15 @@ ghost use Rattle.std.specs.List.{AllByRecursion};
 ghost use Rattle.tree_model.specs.Path.{BeginsWith};
 ghost use Rattle.outside_traits.specs.Fault.{Counts, disk_failed};
 ghost use Rattle.outside_traits.specs.Passes.{Passes, Same};
-ghost use Rattle.record_belief.specs.Believed.{Ascend, AreBelieved};
+ghost use Rattle.store_model.specs.Believed.{Ascend, AreBelieved};
 ghost use Rattle.build_store.specs.Survey.{AreMarks, Dooms, DoomsUnless, DoomsUnmarked, TakesOut, IsAt, IsOneOf, IsTop, NotesStamp, VisitsStamp};
 
 use crate::records::record_path;
 use crate::stamps::is_stamp;
 use outside_traits::{Disk, DiskFault};
-use record_belief::Candidate;
 use sstate_objects::is_held;
 use std::alloc::Global;
+use store_model::Candidate;
 use tree_model::{Entry, Mem, Text};
 
 /// Puts a path to those that go, unless what was read there is a stamp.

@@ -6,7 +6,7 @@ use Rattle.clap.specs.Walk.{Rule, rule_of}
 use Rattle.clap.specs.declared.builder.arg.Arg.{Arg}
 use Rattle.clap.specs.declared.builder.command.Command.{Command}
 use Rattle.clap.specs.declared.builder.command.Command.TheViews.{out-Command}
-use Rattle.command_words.specs.Command.{command_of}
+use Rattle.answer_model.specs.Command.{command_of}
 
 -- one more option stands behind those before
 pub rule_added : (old new : Command) (a : Arg) (options : List Rule) (option : Rule) → app_of old ≡ command_of options → rule_of a ≡ option

@@ -28,9 +28,9 @@ use Rattle.clap.specs.declared.parser.matches.MatchedArg.{MatchedArg}
 use Rattle.clap.proofs.CallerLemmas.{entry_by_id}
 use Rattle.clap.proofs.SimpleLemmas.{all_simple, plain_fields, simple_groups}
 use Rattle.clap.proofs.WalkLemmas.{first_value-rows}
-use Rattle.command_words.specs.Command.{command, rules}
+use Rattle.answer_model.specs.Command.{command, rules}
 use Rattle.command_words.specs.Numbers.{HasNumber}
-use Rattle.command_words.specs.Reading.{number_of}
+use Rattle.answer_model.specs.Reading.{number_of}
 
 abbrev sample : List ℕ
 sample = codes "sample"

@@ -11,9 +11,9 @@ use Rattle.clap.specs.declared.error.Error.{Error}
 use Rattle.clap.specs.declared.error.kind.ErrorKind.{ErrorKind}
 use Rattle.clap.specs.declared.parser.matches.ArgMatches.{ArgMatches}
 use Rattle.command_words.specs.declared.fault.WordsFault.TheVariants.{Memory, Usage}
-use Rattle.command_words.specs.Command.{command}
+use Rattle.answer_model.specs.Command.{command}
 use Rattle.command_words.specs.Faults.{fault_of_kind}
-use Rattle.command_words.specs.Reading.{are_taken}
+use Rattle.answer_model.specs.Reading.{are_taken}
 
 command_is_simple : is_simple command ≡ true
 unfolding command

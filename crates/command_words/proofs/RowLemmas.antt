@@ -9,7 +9,7 @@ use Rattle.clap.specs.declared.parser.matches.Found.{Found}
 use Rattle.clap.specs.declared.parser.matches.MatchedArg.{MatchedArg}
 use Rattle.clap.specs.declared.parser.matches.ValueSource.{ValueSource}
 use Rattle.clap.proofs.WalkLemmas.{find_row}
-use Rattle.command_words.specs.Reading.{is_from_words, is_given}
+use Rattle.answer_model.specs.Reading.{is_from_words, is_given}
 
 source-rows : (f : Found) (id : Text) → option_and_then (λ (a : MatchedArg). a.source) (matched_of f id)
     ≡ option_and_then (λ (row : Row). row.source) (find (λ row. bytes_eq row.id id) (rows_of f))

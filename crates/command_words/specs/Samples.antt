@@ -1,10 +1,10 @@
 -- Short words for worked command lines.
 use Rattle.std.specs.Prelude.{false, true, List, Option, None, option_map}
 use Rattle.clap.specs.Walk.{Text}
-use Rattle.command_words.specs.declared.request.Mode.{Mode}
-use Rattle.command_words.specs.declared.request.Request.{Request}
-use Rattle.command_words.specs.Modes.{mode_of}
-use Rattle.command_words.specs.Reading.{request_of}
+use Rattle.answer_model.specs.declared.request.Mode.{Mode}
+use Rattle.answer_model.specs.declared.request.Request.{Request}
+use Rattle.answer_model.specs.RequestModes.{mode_of}
+use Rattle.answer_model.specs.Reading.{request_of}
 
 -- a run of these targets, with no option
 abbrev pub run_of : List Text → Request

@@ -2,7 +2,7 @@
 ghost use Rattle.std.specs.Prelude.{◌≡◌, ◌++◌, [], IfOk, false};
 ghost use Rattle.clap.specs.Walk.{rule_of};
 ghost use Rattle.clap.specs.Simple.{app_of};
-ghost use Rattle.command_words.specs.Command.{command, command_of, lettered, mode_options, numbered, rest, run_options, switch, valued};
+ghost use Rattle.answer_model.specs.Command.{command, command_of, lettered, mode_options, numbered, rest, run_options, switch, valued};
 
 use clap::{Arg, ArgAction, Command, value_parser};
 use std::alloc::{AllocError, Global};

@@ -1,11 +1,11 @@
 // Worked command lines. Each expected answer is derived from the rules by hand; the comment above it says why.
 ghost use Rattle.std.specs.Prelude.{◌≡◌, [], ◌∷◌, Some, None, true, false, codes};
-ghost use Rattle.command_words.specs.declared.request.Mode.TheVariants.{Sample, Parse, Versions, Environment, Dry, Run};
-ghost use Rattle.command_words.specs.Reading.{request_of};
+ghost use Rattle.answer_model.specs.declared.request.Mode.TheVariants.{Sample, Parse, Versions, Environment, Dry, Run};
+ghost use Rattle.answer_model.specs.Reading.{request_of};
 ghost use Rattle.command_words.specs.Samples.{mode_asked, run_of};
 
 /// A run, its targets and its options.
-#[tactic(auto, unfolding(crate::specs::Command::command, clap::proofs::OnLiterals::clap_on_literals))]
+#[tactic(auto, unfolding(answer_model::specs::Command::command, clap::proofs::OnLiterals::clap_on_literals))]
 pub fn example_of_runs()
     // a run needs a target
     ensures no_words { request_of [] ≡ None }
@@ -31,7 +31,7 @@ pub fn example_of_runs()
 {}
 
 /// The task of the targets that name none.
-#[tactic(auto, unfolding(crate::specs::Command::command, clap::proofs::OnLiterals::clap_on_literals))]
+#[tactic(auto, unfolding(answer_model::specs::Command::command, clap::proofs::OnLiterals::clap_on_literals))]
 pub fn example_of_tasks()
     ensures next_word { request_of (codes "-c" ∷ codes "compile" ∷ codes "hello" ∷ [])
         ≡ Some (record (run_of (codes "hello" ∷ [])) { task = Some (codes "compile") }) }
@@ -58,7 +58,7 @@ pub fn example_of_tasks()
 {}
 
 /// Words that the command doesn't take.
-#[tactic(auto, unfolding(crate::specs::Command::command, clap::proofs::OnLiterals::clap_on_literals))]
+#[tactic(auto, unfolding(answer_model::specs::Command::command, clap::proofs::OnLiterals::clap_on_literals))]
 pub fn example_of_faulty_words()
     ensures unknown_name { request_of (codes "--nope" ∷ []) ≡ None }
     ensures unknown_name_with_target { request_of (codes "--nope" ∷ codes "hello" ∷ []) ≡ None }
@@ -79,7 +79,7 @@ pub fn example_of_faulty_words()
 {}
 
 /// The generated input's size.
-#[tactic(auto, unfolding(crate::specs::Command::command, clap::proofs::OnLiterals::clap_on_literals))]
+#[tactic(auto, unfolding(answer_model::specs::Command::command, clap::proofs::OnLiterals::clap_on_literals))]
 pub fn example_of_samples()
     // it needs no target
     ensures fifty { request_of (codes "--sample" ∷ codes "50" ∷ []) ≡ Some (record (run_of []) { sample = Some 50 }) }
@@ -99,7 +99,7 @@ pub fn example_of_samples()
 {}
 
 /// Which mode counts.
-#[tactic(auto, unfolding(crate::specs::Command::command, clap::proofs::OnLiterals::clap_on_literals))]
+#[tactic(auto, unfolding(answer_model::specs::Command::command, clap::proofs::OnLiterals::clap_on_literals))]
 pub fn example_of_modes()
     ensures run { mode_asked (codes "a" ∷ []) ≡ Some Run }
     ensures dry { mode_asked (codes "-n" ∷ codes "a" ∷ []) ≡ Some Dry }

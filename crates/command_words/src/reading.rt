@@ -4,13 +4,14 @@ ghost use Rattle.clap.specs.Matches.{found_of};
 ghost use Rattle.clap.specs.Simple.{matches_of};
 ghost use Rattle.clap.specs.Walk.{all_of, first_of, rows_of};
 ghost use Rattle.command_words.specs.declared.fault.WordsFault.TheVariants.{Usage};
-ghost use Rattle.command_words.specs.Command.{command};
+ghost use Rattle.answer_model.specs.Command.{command};
 ghost use Rattle.command_words.specs.Numbers.{HasNumber};
-ghost use Rattle.command_words.specs.Reading.{are_taken, asked, is_from_words, is_given, number_of, request_of};
+ghost use Rattle.answer_model.specs.Reading.{are_taken, asked, is_from_words, is_given, number_of, request_of};
 
 use crate::command::bitbake_command;
 use crate::fault::WordsFault;
-use crate::request::Request;
+use crate::request::lacks_target;
+use answer_model::Request;
 use clap::ArgMatches;
 use clap::parser::ValueSource;
 use std::alloc::{AllocError, Global};
@@ -126,7 +127,7 @@ pub fn read_words(alloc: Global, words: &[Text]) -> Result<Request, WordsFault>
     let slices = slices_of(alloc, words)?;
     let matches = matches_of(alloc, slices.as_slice())?;
     let request = asked(alloc, &matches)?;
-    if request.lacks_target() {
+    if lacks_target(&request) {
         Err(WordsFault::Usage)
     } else {
         Ok(request)

@@ -7,14 +7,6 @@ use Rattle.meta_model.specs.declared.event.Status.TheVariants as status
 abbrev pub IsRefusedAs : {A : Type 0} → Status → Result A Status → Type 0
 IsRefusedAs answered meant = (answered ≡ status.OutOfMemory) ⊎ ((answered ≡ status.ReadFault) ⊎ (meant ≡ Err answered))
 
--- the statuses of a mode that is refused: a fault of metadata, a limit, a failure of the layers, want of memory
-abbrev pub is_refusal : Status → Bool
-is_refusal (status.Metadata file line kind detail) = true
-is_refusal (status.Limit kind) = true
-is_refusal status.ReadFault = true
-is_refusal status.OutOfMemory = true
-is_refusal _ = false
-
 -- whether a status says that the layers failed
 abbrev pub is_failed_read : Status → Bool
 is_failed_read status.ReadFault = true

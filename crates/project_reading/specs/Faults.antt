@@ -10,7 +10,7 @@ use Rattle.class_inherit.specs.declared.fault.LoadKind.TheVariants.{MissingRequi
 use Rattle.class_inherit.specs.Faults.{cause_of}
 use Rattle.task_graph.specs.declared.fault.GraphFault.{GraphFault}
 use Rattle.task_graph.specs.declared.fault.GraphFault.TheVariants as graph
-use Rattle.project_reading.specs.Said.{cause_status, lack_status, cycle_status, too_many_status, threads_status}
+use Rattle.answer_model.specs.Said.{cause_status, lack_status, cycle_status, too_many_status, threads_status}
 
 -- the status is the wanted one, unless memory ran out
 abbrev pub IsAnswered : Status → Status → Type 0

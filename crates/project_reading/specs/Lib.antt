@@ -1,4 +1,2 @@
-pub mod Said
-pub mod Project
 pub mod Faults
 pub mod Answered

@@ -1,9 +1,10 @@
 // The statuses of names without a provider, of targets without a graph, and of texts that are no number of threads.
 ghost use Rattle.std.specs.Prelude.{◌≡◌, ◌∷◌, true, false, IfOk, map};
 ghost use Rattle.meta_model.specs.GraphRefusal.{nothing_provides as nobody, several_provide, no_such_task as no_task};
-ghost use Rattle.project_reading.specs.Said as said;
+ghost use Rattle.answer_model.specs.Said as said;
 ghost use Rattle.project_reading.specs.Faults.{IsAnswered, fault_status};
-ghost use Rattle.project_reading.specs.Answered.{is_refusal, is_failed_read};
+ghost use Rattle.answer_model.specs.Answers.{is_refusal};
+ghost use Rattle.project_reading.specs.Answered.{is_failed_read};
 
 use crate::said::{limit, metadata, named};
 use meta_model::{Status, TaskId};

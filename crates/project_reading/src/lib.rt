@@ -1,7 +1,7 @@
 //! What every run and every mode reads first: the configuration and all recipes; and the status of each refusal of metadata.
 //!
-//! `specs/Said.antt` has the status that each refusal is answered as, with its place, kind and texts; `specs/Project.antt` the
-//! configuration and the recipes over the files of the layers, or such a status. The line that a status is printed with stands in
+//! `answer_model` has the status that each refusal is answered as, with its place, kind and texts (`Said`), and the configuration and
+//! the recipes over the files of the layers, or such a status (`Project`). The line that a status is printed with stands in
 //! `bb_report`.
 //!
 //! Promised: `read_config` and `read_recipes` equal these definitions, and are refused with that status exactly where they refuse.

@@ -5,8 +5,9 @@ ghost use Rattle.outside_traits.specs.Fault.{Counts};
 ghost use Rattle.outside_traits.specs.Store.{IsListing, SameFiles};
 ghost use Rattle.load_model.specs.Loading.{sources_of};
 ghost use Rattle.layer_conf.specs.Config.{config_meant};
-ghost use Rattle.project_reading.specs.Project as project;
-ghost use Rattle.project_reading.specs.Answered.{IsRefusedAs, is_refusal, mode_failed};
+ghost use Rattle.answer_model.specs.Project as project;
+ghost use Rattle.project_reading.specs.Answered.{IsRefusedAs, mode_failed};
+ghost use Rattle.answer_model.specs.Answers.{is_refusal};
 
 use crate::refused::{layer_status, set_status};
 use layer_conf::{Config, read_layers};
@@ -29,7 +30,7 @@ pub fn or_status<T>(made: Result<T, Mem>) -> Result<T, Status>
 
 /// Reads the configuration.
 ///
-/// Refused as the definition is (`specs/Project.antt`, `read_config`), over the list of the paths of all files. `ReadFault` comes
+/// Refused as the definition is (`Project` of `answer_model`, `read_config`), over the list of the paths of all files. `ReadFault` comes
 /// only where the layers' count of faults rose, and want of memory alone is free. No call changes a file.
 pub fn read_config<L: Layers>(alloc: Global, layers: &mut L) -> Result<Config, Status>
     ensures ok { IfOk result (λ made. L.tells → (paths : List (List ℕ)) → IsListing [] (L.files layers.old) paths
@@ -48,7 +49,7 @@ pub fn read_config<L: Layers>(alloc: Global, layers: &mut L) -> Result<Config, S
 
 /// Reads all recipes of a configuration, and chooses one of each PN.
 ///
-/// Refused as the definition is (`specs/Project.antt`, `read_recipes`). `ReadFault` comes only where the layers' count of faults
+/// Refused as the definition is (`Project` of `answer_model`, `read_recipes`). `ReadFault` comes only where the layers' count of faults
 /// rose, and want of memory alone is free. No call changes a file.
 pub fn read_recipes<L: Layers>(
     alloc: Global,

@@ -2,9 +2,10 @@
 ghost use Rattle.std.specs.Prelude.{◌≡◌, true};
 ghost use Rattle.layer_conf.specs.Faults as layers;
 ghost use Rattle.recipe_set.specs.Faults as recipes;
-ghost use Rattle.project_reading.specs.Said as said;
+ghost use Rattle.answer_model.specs.Said as said;
 ghost use Rattle.project_reading.specs.Faults.{IsToldAs};
-ghost use Rattle.project_reading.specs.Answered.{is_refusal, is_failed_read};
+ghost use Rattle.answer_model.specs.Answers.{is_refusal};
+ghost use Rattle.project_reading.specs.Answered.{is_failed_read};
 
 use crate::said::{limit, load_status, named, plain, value_status};
 use layer_conf::LayerFault;

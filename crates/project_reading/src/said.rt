@@ -5,7 +5,7 @@ ghost use Rattle.meta_model.specs.Text.{colon};
 ghost use Rattle.meta_model.specs.declared.event.Status.TheVariants as status;
 ghost use Rattle.meta_model.specs.Refusal.{unstable};
 ghost use Rattle.datastore.specs.Faults.{refusal_of, data_refusal};
-ghost use Rattle.project_reading.specs.Said as said;
+ghost use Rattle.answer_model.specs.Said as said;
 ghost use Rattle.project_reading.specs.Faults.{IsAnswered, IsAnsweredAs, IsLoadAnswer};
 
 use class_inherit::{LoadFault, LoadKind};

@@ -5,7 +5,7 @@ use Rattle.std.proofs.lemmas.Option.{slice_get_read}
 use Rattle.meta_model.specs.declared.entry.EntryLine.{EntryLine}
 use Rattle.meta_model.specs.declared.facts.RecipeFacts.{RecipeFacts}
 use Rattle.load_model.specs.Facts.{RecipeSet}
-use Rattle.read_modes.specs.Modes.{recipe_values, values_of_number}
+use Rattle.answer_model.specs.Modes.{recipe_values, values_of_number}
 
 -- the values of the recipe with a number
 pub value_is : (set : RecipeSet) (n : ℕ) (recipe : RecipeFacts) (store : List EntryLine) → n < length set.facts.recipes → recipe ≡ get_or set.facts.recipes n recipe → store ≡ get_or set.stores n [] → values_of_number set n ≡ recipe_values (recipe, store)

@@ -2,7 +2,7 @@
 use Rattle.std.proofs.Common.{◌≡◌, refl, arith, ◌<◌, ℕ, List, [], ◌∷◌, length}
 use Rattle.load_model.specs.Loading.{Sources}
 use Rattle.load_model.specs.Layers.{Config}
-use Rattle.read_modes.specs.Modes.{environment_of, targets_over}
+use Rattle.answer_model.specs.Modes.{environment_of, targets_over}
 
 -- with targets all recipes are read
 pub with_targets : (sources : Sources) (made : Config) (targets : List (List ℕ)) → 0 < length targets → environment_of sources made targets ≡ targets_over sources made targets

@@ -4,10 +4,10 @@ use Rattle.meta_model.specs.declared.event.Status.{Status}
 use Rattle.meta_model.specs.GraphRefusal.{pn_of}
 use Rattle.load_model.specs.LoadRefusal.{◌>>=◌}
 use Rattle.load_model.specs.LoadSamples.{Files, sample}
-use Rattle.read_modes.specs.declared.modes.ReadMode.{ReadMode}
-use Rattle.bb_report.specs.Texts.{fault_text}
-use Rattle.project_reading.specs.Project.{read_config, read_recipes}
-use Rattle.read_modes.specs.Modes.{target_recipes, mode_text}
+use Rattle.answer_model.specs.declared.asked.ReadMode.{ReadMode}
+use Rattle.run_model.specs.Texts.{fault_text}
+use Rattle.answer_model.specs.Project.{read_config, read_recipes}
+use Rattle.answer_model.specs.Modes.{target_recipes, mode_text}
 
 abbrev pub paths_of : Files → List (List ℕ)
 paths_of files = map (λ file. file.0) files

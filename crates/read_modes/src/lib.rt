@@ -1,8 +1,8 @@
 //! What the modes print that only read metadata: the values of recipes or of the configuration, the chosen versions, and how many
 //! recipe files were read.
 //!
-//! The text of a mode, or the status that it is refused with, is a definition over the files of the layers (`specs/Modes.antt`,
-//! `mode_text`), which stands over those of `load_model`; the status of each refusal stands in `project_reading`. `mode_examples` works
+//! The text of a mode, or the status that it is refused with, is a definition over the files of the layers (`Modes` of `answer_model`,
+//! `mode_text`), which stands over those of `load_model`; so is the status of each refusal (`Said`). `mode_examples` works
 //! such answers out over small projects, each derived from the rules by hand. A target of `-e` is found as one of a run is: its recipe
 //! is the provider of its name (`task_graph`).
 //!
@@ -16,4 +16,4 @@ mod modes;
 mod targets;
 mod values;
 
-pub use modes::{ReadMode, read_mode};
+pub use modes::read_mode;

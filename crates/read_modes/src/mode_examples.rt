@@ -7,10 +7,10 @@ ghost use Rattle.meta_model.specs.GraphRefusal.{no_such_task, nothing_provides, 
 ghost use Rattle.load_model.specs.LoadRefusal.{file_bytes};
 ghost use Rattle.load_model.specs.Recipes.{too_many};
 ghost use Rattle.load_model.specs.LibraryAndApplication.{library_and_application, text};
-ghost use Rattle.bb_report.specs.Texts.{parsed_text, fault_text};
-ghost use Rattle.read_modes.specs.declared.modes.ReadMode.TheVariants as mode;
-ghost use Rattle.project_reading.specs.Said.{cycle_status, lack_status, set_status, threads_status, too_many_status};
-ghost use Rattle.read_modes.specs.Modes.{mode_text};
+ghost use Rattle.run_model.specs.Texts.{parsed_text, fault_text};
+ghost use Rattle.answer_model.specs.declared.asked.ReadMode.TheVariants as mode;
+ghost use Rattle.answer_model.specs.Said.{cycle_status, lack_status, set_status, threads_status, too_many_status};
+ghost use Rattle.answer_model.specs.Modes.{mode_text};
 ghost use Rattle.read_modes.specs.ModeSamples.{mode_over, named, printed};
 
 /// A library and an application in two layers.

@@ -4,11 +4,13 @@ ghost use Rattle.outside_traits.specs.Fault.{Counts};
 ghost use Rattle.outside_traits.specs.Store.{IsListing, SameFiles};
 ghost use Rattle.load_model.specs.Loading.{sources_of};
 ghost use Rattle.layer_conf.specs.Config.{config_meant};
-ghost use Rattle.read_modes.specs.Modes as modes;
-ghost use Rattle.project_reading.specs.Answered.{IsRefusedAs, is_refusal, mode_failed};
+ghost use Rattle.answer_model.specs.Modes as modes;
+ghost use Rattle.project_reading.specs.Answered.{IsRefusedAs, mode_failed};
+ghost use Rattle.answer_model.specs.Answers.{is_refusal};
 
 use crate::targets::values_of_targets;
 use crate::values::config_values;
+use answer_model::ReadMode;
 use bb_report::{parsed_text, versions_text};
 use layer_conf::Config;
 use meta_model::Status;
@@ -16,17 +18,6 @@ use outside_traits::Layers;
 use project_reading::{or_status, read_config, read_recipes};
 use std::alloc::Global;
 use tree_model::Text;
-
-/// A mode that only reads metadata, and touches neither disk nor bench.
-#[derive(Clone, Copy, Debug, PartialEq, Eq)]
-pub enum ReadMode {
-    /// Reads everything, and prints how many recipe files there were (`-p`).
-    Parse,
-    /// Prints the chosen version of each recipe (`-s`).
-    Versions,
-    /// Prints the values of the targets' recipes, or of the configuration (`-e`).
-    Environment,
-}
 
 /// How many recipe files were read.
 fn parsed<L: Layers>(alloc: Global, layers: &mut L, config: &Config) -> Result<Text, Status>
@@ -127,7 +118,7 @@ fn text_of<L: Layers>(
 
 /// Reads what a mode needs, and gives the text that it prints, or the status that it is refused with.
 ///
-/// Which text or status is a definition (`specs/Modes.antt`, `mode_text`) over the files of the layers and the list of their
+/// Which text or status is a definition (`Modes` of `answer_model`, `mode_text`) over the files of the layers and the list of their
 /// paths: each once and in byte order, so there is one such list. `ReadFault` comes only where the layers' count of faults rose,
 /// and want of memory alone is free. No call changes a file.
 ///

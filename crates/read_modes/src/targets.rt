@@ -1,7 +1,8 @@
 // The recipes that targets name.
 ghost use Rattle.std.specs.Prelude.{◌≡◌, ◌<◌, ◌≤◌, All, length, true, false, Ok, IfOk, IfErr};
-ghost use Rattle.read_modes.specs.Modes as modes;
-ghost use Rattle.project_reading.specs.Answered.{IsRefusedAs, is_refusal, mode_failed};
+ghost use Rattle.answer_model.specs.Modes as modes;
+ghost use Rattle.project_reading.specs.Answered.{IsRefusedAs, mode_failed};
+ghost use Rattle.answer_model.specs.Answers.{is_refusal};
 
 use crate::values::all_values;
 use meta_model::{FactSet, Status};

@@ -3,11 +3,12 @@ ghost use Rattle.std.specs.Prelude.{◌≡◌, ◌<◌, [], ◌++◌, All, lengt
 ghost use Rattle.meta_model.specs.declared.event.Status.TheVariants as status;
 ghost use Rattle.datastore.specs.Faults.{data_refusal};
 ghost use Rattle.layer_conf.specs.Config.{config_meant};
-ghost use Rattle.bb_report.specs.Texts as texts;
-ghost use Rattle.project_reading.specs.Said as said;
-ghost use Rattle.read_modes.specs.Modes as modes;
+ghost use Rattle.run_model.specs.Texts as texts;
+ghost use Rattle.answer_model.specs.Said as said;
+ghost use Rattle.answer_model.specs.Modes as modes;
 ghost use Rattle.project_reading.specs.Faults.{IsAnsweredAs};
-ghost use Rattle.project_reading.specs.Answered.{IsRefusedAs, is_refusal, mode_failed};
+ghost use Rattle.project_reading.specs.Answered.{IsRefusedAs, mode_failed};
+ghost use Rattle.answer_model.specs.Answers.{is_refusal};
 
 use bb_report::{env_text, recipe_line};
 use datastore::{DataFault, Datastore};

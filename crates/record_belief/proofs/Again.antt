@@ -11,8 +11,8 @@ use Rattle.store_model.specs.Origins.{Reading, Line, Book, Traced, origin, trace
 use Rattle.store_model.specs.Valid.{StandsIn, AreAlike as Alike, IsNamedBefore, IsNamedAlike, IsValidLine, IsValidBook}
 use Rattle.store_model.proofs.Standing.{AllNew, one_place as one_line, stands_earlier, either_earlier}
 use Rattle.store_model.proofs.Tracing.{outcome_at}
-use Rattle.record_belief.specs.declared.candidate.Candidate.{Candidate}
-use Rattle.record_belief.specs.Believed.{Ascend, IsShared, MayBeBelieved, IsBelievedWithin, HasDepthAt, ComesBefore, StandsBefore, AreBelieved}
+use Rattle.store_model.specs.declared.candidate.Candidate.{Candidate}
+use Rattle.store_model.specs.Believed.{Ascend, IsShared, MayBeBelieved, IsBelievedWithin, HasDepthAt, ComesBefore, StandsBefore, AreBelieved}
 use Rattle.record_belief.specs.Books.{Records, AreOfBook, IsLineAt, IsInOrder}
 use Rattle.record_belief.proofs.Placing.{one_place, one_there, stands_at}
 use Rattle.record_belief.proofs.Bookish.{sig_of, unihash_of, alike_lines, fewer, lines_believed}

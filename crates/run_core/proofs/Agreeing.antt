@@ -8,14 +8,15 @@ use Rattle.meta_model.specs.declared.event.Avail.{Avail}
 use Rattle.meta_model.specs.declared.event.Logged.{Logged}
 use Rattle.meta_model.specs.declared.plan.Options.{Options}
 use Rattle.meta_model.specs.declared.plan.PlanTask.{PlanTask}
-use Rattle.run_core.specs.declared.fate.Fate.{Fate}
-use Rattle.run_core.specs.declared.fate.Fate.TheVariants.{Waiting, Failed}
-use Rattle.run_core.specs.declared.fate.Next.{Next}
-use Rattle.run_core.specs.declared.fate.Next.TheVariants as next
-use Rattle.run_core.specs.Fates.{fate_at, is_settled}
-use Rattle.run_core.specs.Need.{HasDependencies, IsIn}
-use Rattle.run_core.specs.Choice.{CanSettle, IsReady, MayAnswer, WaitsOn, IsHeldUp, IsOver, IsFinished, Agree, NeedsDirectly, StandsAbove, IsQuiet}
-use Rattle.run_core.specs.History.{Course, EachAfter, IsLegal, MayMark, fates_in}
+use Rattle.tale_model.specs.declared.fate.Fate.{Fate}
+use Rattle.tale_model.specs.declared.fate.Fate.TheVariants.{Waiting, Failed}
+use Rattle.run_core.specs.declared.next.Next.{Next}
+use Rattle.run_core.specs.declared.next.Next.TheVariants as next
+use Rattle.tale_model.specs.Fates.{fate_at, is_settled}
+use Rattle.tale_model.specs.Need.{HasDependencies, IsIn}
+use Rattle.run_core.specs.Choice.{CanSettle, MayAnswer, Agree, NeedsDirectly, StandsAbove, IsQuiet}
+use Rattle.tale_model.specs.Choice.{IsReady, WaitsOn, IsHeldUp, IsOver, IsFinished}
+use Rattle.tale_model.specs.History.{Course, EachAfter, IsLegal, MayMark, fates_in}
 
 -- what is said of waiting tasks that are needed is said by both views
 module _ (tasks : List PlanTask) (need other_need : List Bool) (avail other_avail : List Avail) (fates : List Fate) (closed : HasDependencies tasks avail need) (agree : Agree need other_need avail other_avail fates) where

@@ -8,10 +8,11 @@ use Rattle.meta_model.specs.declared.event.Avail.{Avail}
 use Rattle.meta_model.specs.declared.event.Event.{Event}
 use Rattle.meta_model.specs.declared.event.Event.TheVariants as events
 use Rattle.meta_model.specs.declared.plan.PlanTask.{PlanTask}
-use Rattle.run_core.specs.declared.fate.Fate.{Fate}
-use Rattle.run_core.specs.declared.fate.Fate.TheVariants.{Waiting, Running, Found, Restored, Ended, Failed}
-use Rattle.run_core.specs.Fates.{fate_at, fate_by, task_of, fates_by, is_settled, CanMark}
-use Rattle.run_core.specs.Need.{deps_of, IsIn}
+use Rattle.tale_model.specs.declared.fate.Fate.{Fate}
+use Rattle.tale_model.specs.declared.fate.Fate.TheVariants.{Waiting, Running, Found, Restored, Ended, Failed}
+use Rattle.tale_model.specs.Fates.{fate_at, fate_by, task_of, fates_by, is_settled}
+use Rattle.run_core.specs.Fates.{CanMark}
+use Rattle.tale_model.specs.Need.{deps_of, IsIn}
 use Rattle.run_core.specs.Choice.{CannotGoOn}
 use Rattle.run_core.specs.Above.{IsAbove, IsListed}
 use Rattle.run_core.specs.Candidates.{woken, ChangesOnly}

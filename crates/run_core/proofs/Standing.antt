@@ -5,7 +5,8 @@ use Rattle.std.proofs.lemmas.List.{take_more, get_or_default}
 use Rattle.std.proofs.lemmas.List.Elements.{Contains-append_left, Contains-push, Contains-push_cases}
 use Rattle.std.proofs.lemmas.Option.{slice_get_past, slice_get-get_or}
 use Rattle.meta_model.specs.declared.plan.PlanTask.{PlanTask}
-use Rattle.run_core.specs.Need.{AreOrdered, deps_in, deps_of}
+use Rattle.run_core.specs.Need.{AreOrdered}
+use Rattle.tale_model.specs.Need.{deps_in, deps_of}
 use Rattle.run_core.specs.Above.{above_of, PutAbove, IsAbove}
 
 pub above_more : (old mid : List (List ℕ)) (deps : List ℕ) (i d task : ℕ) (was : List ℕ) → i < length deps → get_or deps i 0 ≡ d → d < length mid → was ≡ above_of mid d → PutAbove old mid (take i deps) task → PutAbove old (set mid d (was ++ task ∷ [])) (take (i + 1) deps) task

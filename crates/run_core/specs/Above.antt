@@ -1,7 +1,7 @@
 -- Which tasks need each task directly.
 use Rattle.std.specs.Prelude.{◌≡◌, ℕ, ◌⊎◌, List, [], Contains, length, slice_index_or, slice_get, Some, ◌≤◌}
 use Rattle.meta_model.specs.declared.plan.PlanTask.{PlanTask}
-use Rattle.run_core.specs.Need.{deps_of}
+use Rattle.tale_model.specs.Need.{deps_of}
 
 -- the tasks that are said to need a task directly
 abbrev pub above_of : List (List ℕ) → ℕ → List ℕ

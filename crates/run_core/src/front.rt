@@ -1,18 +1,22 @@
 // The tasks that may be able to go on.
 ghost use Rattle.std.specs.Prelude.{◌≡◌, ◌⊎◌, ◌<◌, ◌≤◌, ◌↔◌, ◌++◌, [], ℕ, Bool, true, false, List, All, Contains, IfOk, OnOk, MatchOption, length, replicate};
 ghost use Rattle.meta_model.specs.declared.event.Avail.{Avail as Availability};
-ghost use Rattle.run_core.specs.declared.fate.Fate.{Fate as TaskFate};
+ghost use Rattle.tale_model.specs.declared.fate.Fate.{Fate as TaskFate};
 ghost use Rattle.meta_model.specs.declared.plan.PlanTask.{PlanTask as Task};
-ghost use Rattle.run_core.specs.Fates.{CanMark, fates_by};
-ghost use Rattle.run_core.specs.Need.{AreOrdered, HasDependencies, deps_of};
-ghost use Rattle.run_core.specs.Choice.{CannotGoOn, IsFinished, MayAnswer, MayGoOn};
+ghost use Rattle.run_core.specs.Fates.{CanMark};
+ghost use Rattle.tale_model.specs.Fates.{fates_by};
+ghost use Rattle.run_core.specs.Need.{AreOrdered};
+ghost use Rattle.tale_model.specs.Need.{HasDependencies, deps_of};
+ghost use Rattle.run_core.specs.Choice.{CannotGoOn, MayAnswer, MayGoOn};
+ghost use Rattle.tale_model.specs.Choice.{IsFinished};
 ghost use Rattle.run_core.specs.Above.{IsAbove, IsListed, PutAbove};
 
 use crate::board::Board;
-use crate::fate::{Fate, Next};
+use crate::next::Next;
 use crate::scan::{find, way_on};
 use meta_model::{Avail, Event, Options, Plan, PlanTask};
 use std::alloc::Global;
+use tale_model::Fate;
 use tree_model::{ListOf, Mem};
 
 /// The tasks that may be able to go on, with the tasks above each task. It answers what is next without looking at all tasks:

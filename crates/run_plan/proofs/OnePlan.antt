@@ -9,10 +9,10 @@ use Rattle.outside_traits.specs.Store.{IsListing}
 use Rattle.load_model.specs.Loading.{Sources, sources_of}
 use Rattle.load_model.specs.Layers.{Config, config}
 use Rattle.load_model.specs.Facts.{recipe_set}
-use Rattle.project_reading.specs.Project.{read_config, read_recipes}
-use Rattle.project_reading.specs.Said.{layer_status, set_status}
-use Rattle.run_targets.specs.Asked.{Asked, asked, asked_under, asked_over, asked_with, moved, targets_in}
-use Rattle.run_targets.specs.Runs.{IsRun, HasGraph, HasThreads}
+use Rattle.answer_model.specs.Project.{read_config, read_recipes}
+use Rattle.answer_model.specs.Said.{layer_status, set_status}
+use Rattle.answer_model.specs.RunAsked.{Asked, asked, asked_under, asked_over, asked_with, moved, targets_in}
+use Rattle.answer_model.specs.Runs.{IsRun, HasGraph, HasThreads}
 use Rattle.run_targets.proofs.OneRun.{same_asked, run_not_refused}
 use Rattle.plan_model.specs.Inputs.{Files}
 use Rattle.plan_model.specs.PlanRefusal.{PlanRefusal}
@@ -23,7 +23,7 @@ use Rattle.plan_model.proofs.OneGraph.{one_graph}
 use Rattle.plan_model.proofs.Soundness.{plan_is_sound, forced_is_sound}
 use Rattle.plan_model.proofs.Wanted.{plan_is_wanted, forced_is_wanted}
 use Rattle.plan_model.proofs.GoodConfig.{project_has_good_names}
-use Rattle.run_plan.specs.Plans.{plan_under, HasPlan, IsPlanRefused, no_run, no_plan}
+use Rattle.answer_model.specs.Plans.{plan_under, HasPlan, IsPlanRefused, no_run, no_plan}
 
 -- texts stand for one number
 one_number : (text : List ℕ) (m n : ℕ) → AreThreads text m → AreThreads text n → m ≡ n

@@ -8,14 +8,16 @@ use Rattle.meta_model.specs.declared.event.Status.TheVariants.{OutOfMemory}
 use Rattle.project_reading.specs.Answered.{is_failed_read, mode_failed}
 use Rattle.project_reading.specs.Faults.{IsToldAs}
 use Rattle.meta_model.specs.Passing.{IsRefused}
-use Rattle.run_targets.specs.Asked.{Asked}
-use Rattle.run_targets.specs.Runs.{IsRun, IsNoRun}
+use Rattle.answer_model.specs.RunAsked.{Asked}
+use Rattle.answer_model.specs.Runs.{IsRun}
+use Rattle.run_targets.specs.Runs.{IsNoRun}
 use Rattle.plan_model.specs.Inputs.{Files}
 use Rattle.plan_model.specs.PlanRefusal.{PlanRefusal}
 use Rattle.task_plan.specs.declared.fault.PlanFault.{PlanFault}
 use Rattle.task_plan.specs.Faults.{IsPlanFault, plan_refusal}
-use Rattle.run_plan.specs.Plans.{plan_under, HasPlan, IsNoPlan, no_run, no_plan}
-use Rattle.run_plan.specs.Refused.{plan_status}
+use Rattle.answer_model.specs.Plans.{plan_under, HasPlan, no_run, no_plan}
+use Rattle.run_plan.specs.Plans.{IsNoPlan}
+use Rattle.answer_model.specs.PlanStatus.{plan_status}
 use Rattle.run_plan.specs.Steps.{IsNoPlanOf}
 
 -- the status of a fault says why there is no plan

@@ -4,7 +4,7 @@ use Rattle.meta_model.specs.declared.event.Status.{Status}
 use Rattle.meta_model.specs.declared.plan.Plan.{Plan}
 use Rattle.run_targets.specs.Runs.{IsDeviceStatus}
 use Rattle.plan_model.specs.PlanRefusal.{PlanRefusal}
-use Rattle.run_plan.specs.Refused.{plan_status}
+use Rattle.answer_model.specs.PlanStatus.{plan_status}
 
 -- the layers failed, memory ran out, or there is no plan, for this reason
 abbrev pub IsNoPlanOf : Result Plan PlanRefusal → Status → Type 0

@@ -1,5 +1,5 @@
 // What is proved of plans of words.
-ghost use Rattle.run_plan.specs.Laws.{PlansAreNotRefused, PlansAreOne, PlansAreSound, PlansAreWanted};
+ghost use Rattle.answer_model.specs.PlanLaws.{PlansAreNotRefused, PlansAreOne, PlansAreSound, PlansAreWanted};
 
 /// Words have one plan, which is sound and of which each task is wanted, and those that have one aren't refused.
 pub fn plan_laws()

@@ -1,7 +1,7 @@
 //! The plan of the run that words have.
 //!
-//! `specs/Plans.antt` says which words have a plan, of which tasks, and why others are refused, `specs/Refused.antt` with which
-//! status: it is the plan (`plan_model`) of the graph of their tasks with their number of threads (`run_targets`).
+//! `answer_model` says which words have a plan, of which tasks, and why others are refused (`Plans`), and with which status
+//! (`PlanStatus`): it is the plan (`plan_model`) of the graph of their tasks with their number of threads (`run_targets`).
 //!
 //! Promised of `find_plan`, for layers that tell what they hold: the answer is the plan that the words have, and each refusal is that
 //! of the words. Whatever the layers tell, an answered plan is sound, and a program can hold the signatures of its tasks

@@ -2,12 +2,14 @@
 ghost use Rattle.std.specs.Prelude.{◌≡◌, [], List, ℕ, Ok, IfOk, IfErr, true, option_copied};
 ghost use Rattle.outside_traits.specs.Fault.{Counts};
 ghost use Rattle.outside_traits.specs.Store.{IsListing, SameFiles};
-ghost use Rattle.project_reading.specs.Answered.{is_refusal, mode_failed};
+ghost use Rattle.answer_model.specs.Answers.{is_refusal};
+ghost use Rattle.project_reading.specs.Answered.{mode_failed};
 ghost use Rattle.run_targets.specs.Meaning.{asked_meant};
 ghost use Rattle.run_targets.specs.Runs.{HasRun};
 ghost use Rattle.plan_model.specs.Sound.{IsSound};
 ghost use Rattle.plan_model.specs.Spellings.{HasSpellings};
-ghost use Rattle.run_plan.specs.Plans.{HasPlan, IsNoPlan, plan_under};
+ghost use Rattle.answer_model.specs.Plans.{HasPlan, plan_under};
+ghost use Rattle.run_plan.specs.Plans.{IsNoPlan};
 ghost use Rattle.run_plan.specs.Steps.{IsNoPlanOf};
 
 use crate::said::plan_status;
@@ -72,7 +74,7 @@ fn planned<L: Layers>(
 /// Finds the plan that words have. `task` is the task of targets that name none, as the option `-c` gives it; `force` says whether
 /// the tasks of the targets run in any case, as with the option `-f`.
 ///
-/// - `Metadata` and `Limit`: as `specs/Plans.antt` says (`IsPlanRefused`): what refuses the run, then what refuses the plan.
+/// - `Metadata` and `Limit`: as `answer_model` says (`IsPlanRefused`): what refuses the run, then what refuses the plan.
 /// - `ReadFault`: only where the layers' count of faults rose in the call.
 /// - `OutOfMemory`: memory ran out.
 ///

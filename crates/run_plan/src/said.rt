@@ -1,9 +1,10 @@
 // The statuses of graphs that have no plan.
 ghost use Rattle.std.specs.Prelude.{◌≡◌, ◌∷◌, [], true, false, IfOk};
-ghost use Rattle.project_reading.specs.Answered.{is_refusal, is_failed_read};
+ghost use Rattle.answer_model.specs.Answers.{is_refusal};
+ghost use Rattle.project_reading.specs.Answered.{is_failed_read};
 ghost use Rattle.project_reading.specs.Faults.{IsAnswered, IsToldAs};
 ghost use Rattle.task_plan.specs.Faults.{plan_refusal, is_failure};
-ghost use Rattle.run_plan.specs.Refused.{flag_status, plan_status};
+ghost use Rattle.answer_model.specs.PlanStatus.{flag_status, plan_status};
 
 use meta_model::Status;
 use project_reading::{limit, metadata, named, value_status};

@@ -11,11 +11,13 @@ use Rattle.meta_model.specs.declared.event.Event.TheVariants as events
 use Rattle.meta_model.specs.declared.event.Logged.{Logged}
 use Rattle.meta_model.specs.declared.plan.Plan.{Plan}
 use Rattle.meta_model.specs.declared.plan.PlanTask.{PlanTask}
-use Rattle.run_core.specs.declared.fate.Fate.{Fate}
-use Rattle.run_core.specs.declared.fate.Fate.TheVariants as fate
-use Rattle.run_core.specs.Fates.{CanMark, fate_at, fate_by, fates_by, fates_told, is_running, is_settled, task_of}
-use Rattle.run_core.specs.History.{EachAfter, IsOrderly}
-use Rattle.run_core.specs.Need.{IsClosed, IsIn, IsNeed, deps_of}
+use Rattle.tale_model.specs.declared.fate.Fate.{Fate}
+use Rattle.tale_model.specs.declared.fate.Fate.TheVariants as fate
+use Rattle.run_core.specs.Fates.{CanMark}
+use Rattle.tale_model.specs.Fates.{fate_at, fate_by, fates_by, fates_told, is_running, is_settled, task_of}
+use Rattle.tale_model.specs.History.{EachAfter}
+use Rattle.run_core.specs.History.{IsOrderly}
+use Rattle.tale_model.specs.Need.{IsClosed, IsIn, IsNeed, deps_of}
 use Rattle.run_core.proofs.Marking.{fate_kept, fate_set}
 use Rattle.run_core.proofs.Seats.{by_fronts, settled_kept}
 use Rattle.run_core.proofs.Steps.{count_told, told_push}
@@ -23,11 +25,11 @@ use Rattle.store_model.specs.Signatures.{signatures}
 use Rattle.store_model.specs.declared.signature.EquivRow.{EquivRow}
 use Rattle.store_model.proofs.Needing.{available_one_way}
 use Rattle.setscene_plan.proofs.Naming.{signed_count}
-use Rattle.run_queue.specs.Opening.{Opening}
-use Rattle.run_queue.specs.Courses.{IsThere, IsThereOver}
+use Rattle.run_model.specs.Opening.{Opening}
+use Rattle.run_model.specs.Courses.{IsThere, IsThereOver}
 use Rattle.run_queue.specs.Keeps.{IsRun, IsUpToDate, WasThere}
 use Rattle.run_queue.specs.Seen.{Known, Seen}
-use Rattle.run_queue.specs.Stands.{HasEnded}
+use Rattle.run_model.specs.Stands.{HasEnded}
 
 -- Two views of what is needed and there agree on the tasks that aren't settled: on which are needed, and, of those that are needed and
 -- haven't ended, on how their outputs are there; and what the second view needs the first needs too, or it is settled. So they agree as

@@ -12,7 +12,8 @@ use Rattle.meta_model.specs.declared.event.Avail.{Avail}
 use Rattle.meta_model.specs.declared.event.Avail.TheVariants as avail
 use Rattle.meta_model.specs.declared.plan.PlanTask.{PlanTask}
 use Rattle.tree_model.specs.declared.manifest.ManifestLine.{ManifestLine}
-use Rattle.run_core.specs.Need.{AreOrdered, IsIn}
+use Rattle.run_core.specs.Need.{AreOrdered}
+use Rattle.tale_model.specs.Need.{IsIn}
 use Rattle.store_model.specs.declared.signature.EquivRow.{EquivRow}
 use Rattle.store_model.specs.declared.signature.SigRecord.{SigRecord}
 use Rattle.store_model.specs.Available.{IsAvailable, IsInObject, IsInWork, Matches, object_folder, stamp_path, work_folder}
@@ -24,19 +25,20 @@ use Rattle.store_model.specs.Spelling.{name_of, signature_bytes}
 use Rattle.store_model.specs.OneSpelling.{SignatureFits}
 use Rattle.store_model.specs.Valid.{IsValidBook, StandsIn}
 use Rattle.store_model.proofs.Standing.{row_found, stands_behind}
-use Rattle.build_store.specs.Laws.{HasLine}
+use Rattle.store_model.specs.Lines.{HasLine}
 use Rattle.build_store.specs.Named.{IsName}
 use Rattle.build_store.specs.Paths.{HasPlace}
-use Rattle.build_store.specs.Sound.{IsReadable}
+use Rattle.store_model.specs.Readable.{IsReadable}
 use Rattle.sig_gen.specs.Signing.{signature_by}
 use Rattle.setscene_plan.specs.declared.replan.Replan.{Replan}
 use Rattle.setscene_plan.specs.View.{Says, View}
 use Rattle.setscene_plan.specs.Replans.{IsCurrent, avail_in, names_in, need_in, unihashes_in}
 use Rattle.run_queue.specs.Asking.{Means, answered_of, flat, if_row, meant}
-use Rattle.run_queue.specs.Opening.{Opening}
+use Rattle.run_model.specs.Opening.{Opening}
 use Rattle.run_queue.specs.Keeps.{IsRun, IsUpToDate, WasThere}
 use Rattle.run_queue.specs.Seen.{IsBegun, Known, Seen, known_in}
-use Rattle.run_queue.specs.Stands.{HasEnded, IsAsBegun, IsLeft}
+use Rattle.run_model.specs.Stands.{HasEnded}
+use Rattle.run_queue.specs.Stands.{IsAsBegun, IsLeft}
 use Rattle.run_queue.proofs.Clearing.{clear_is_no_collision, unihashes_are}
 use Rattle.run_queue.proofs.Known.{own_signature, own_task, sound_ordered, up_to_date}
 use Rattle.run_queue.proofs.FoldersAbove.{above_object, above_work, unihash_is_name}

@@ -12,15 +12,18 @@ use Rattle.meta_model.specs.CleanBuild.{Entries}
 use Rattle.meta_model.specs.declared.plan.PlanTask.{PlanTask}
 use Rattle.store_model.specs.Available.{object_folder, task_folder, work_folder}
 use Rattle.store_model.specs.Premises.{Differ}
-use Rattle.build_store.specs.Laws.{KeepsObject, KeepsWork}
-use Rattle.build_store.specs.Paths.{HasPlace, record_path, slashes}
-use Rattle.build_store.specs.Publication.{IsForeign, IsPublished, IsUntouched, Publication, Publishes, KeepsOthers, stamp_at, work_at}
+use Rattle.build_store.specs.Laws.{KeepsObject}
+use Rattle.store_model.specs.Lines.{KeepsWork}
+use Rattle.build_store.specs.Paths.{HasPlace}
+use Rattle.store_model.specs.Paths.{record_path, slashes}
+use Rattle.build_store.specs.Publication.{IsForeign, IsPublished, IsUntouched, Publishes, KeepsOthers}
+use Rattle.store_model.specs.Publication.{Publication, stamp_at, work_at}
 use Rattle.build_store.proofs.Areas.{apart_by_first, differ, heads_differ}
 use Rattle.build_store.proofs.Others.{others_untouched}
 use Rattle.build_store.proofs.Slashes.{slashes_inside}
-use Rattle.run_queue.specs.Opening.{HasFolders}
-use Rattle.run_queue.specs.Own.{IsOfFolder}
-use Rattle.run_queue.specs.Stands.{IsHonest, IsTold}
+use Rattle.run_model.specs.Opening.{HasFolders}
+use Rattle.run_model.specs.Own.{IsOfFolder}
+use Rattle.run_model.specs.Stands.{IsHonest, IsTold}
 
 -- ---- paths above folders
 

@@ -10,12 +10,12 @@ use Rattle.meta_model.specs.declared.event.Avail.{Avail}
 use Rattle.meta_model.specs.declared.event.Logged.{Logged}
 use Rattle.meta_model.specs.declared.plan.Options.{Options}
 use Rattle.meta_model.specs.declared.plan.Plan.{Plan}
-use Rattle.run_core.specs.Fates.{fate_at, fates_told, is_settled}
-use Rattle.run_core.specs.declared.fate.Fate.TheVariants.{Waiting}
-use Rattle.build_store.specs.Publication.{stamp_at}
+use Rattle.tale_model.specs.Fates.{fate_at, fates_told, is_settled}
+use Rattle.tale_model.specs.declared.fate.Fate.TheVariants.{Waiting}
+use Rattle.store_model.specs.Publication.{stamp_at}
 use Rattle.store_model.specs.Available.{stamp_path, task_folder}
 use Rattle.store_model.specs.Valid.{IsValid, StandsIn}
-use Rattle.build_store.specs.Sound.{IsReadable}
+use Rattle.store_model.specs.Readable.{IsReadable}
 use Rattle.store_model.specs.Origins.{Book, Line, rows_of}
 use Rattle.run_queue.specs.Keeps.{HasRoom, IsOpening, IsRun, IsState}
 use Rattle.run_queue.specs.Seen.{RunView, Seen}
@@ -25,8 +25,10 @@ use Rattle.store_model.specs.declared.signature.EquivRow.{EquivRow}
 use Rattle.build_store.specs.View.{View}
 use Rattle.build_store.specs.declared.kept.KeptSig.{KeptSig}
 use Rattle.run_queue.specs.Laws.{BeginIsRun, at_begin}
-use Rattle.run_queue.specs.Opening.{HasFolders, MayRun, Opening}
-use Rattle.run_queue.specs.Stands.{IsLeft, IsSettledIn}
+use Rattle.run_model.specs.Opening.{HasFolders, Opening}
+use Rattle.run_queue.specs.Opening.{MayRun}
+use Rattle.run_queue.specs.Stands.{IsLeft}
+use Rattle.run_model.specs.Stands.{IsSettledIn}
 
 not_later : (held : Store) (calls : List Call) (t : ℕ) (image : Store) → LeftSince held calls t image → t ≤ length calls
 not_later held [] t image (le, e) = le

@@ -17,8 +17,9 @@ use Rattle.meta_model.specs.declared.event.Event.TheVariants as events
 use Rattle.meta_model.specs.declared.event.Logged.{Logged}
 use Rattle.meta_model.specs.declared.plan.Plan.{Plan}
 use Rattle.meta_model.specs.declared.plan.PlanTask.{PlanTask}
-use Rattle.run_core.specs.declared.fate.Fate.{Fate}
-use Rattle.run_core.specs.Fates.{CanMark, fate_at, is_running, task_of}
+use Rattle.tale_model.specs.declared.fate.Fate.{Fate}
+use Rattle.run_core.specs.Fates.{CanMark}
+use Rattle.tale_model.specs.Fates.{fate_at, is_running, task_of}
 use Rattle.store_model.specs.declared.signature.EquivRow.{EquivRow}
 use Rattle.store_model.specs.declared.signature.SigRecord.{SigRecord}
 use Rattle.store_model.specs.Rows.{row_at}
@@ -32,7 +33,8 @@ use Rattle.task_worker.specs.declared.given.Given.{Given}
 use Rattle.task_worker.specs.declared.given.Given.TheVariants as givens
 use Rattle.run_queue.specs.declared.fault.RunFault.{RunFault}
 use Rattle.run_queue.specs.declared.fault.RunFault.TheVariants as ends
-use Rattle.run_queue.specs.Causes.{IsClashOf, IsOfGiven, IsStoreCause, IsStoreOfGiven, IsUnsteadyOf, fault_broke, is_fault_break}
+use Rattle.run_model.specs.Causes.{IsClashOf, IsUnsteadyOf, fault_broke, is_fault_break}
+use Rattle.run_queue.specs.Causes.{IsOfGiven, IsStoreCause, IsStoreOfGiven}
 use Rattle.run_queue.specs.Keeps.{IsSteady}
 use Rattle.run_queue.specs.Puts.{IsSignedAt}
 

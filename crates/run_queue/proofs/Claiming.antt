@@ -7,17 +7,18 @@ use Rattle.meta_model.specs.declared.event.Logged.{Logged}
 use Rattle.meta_model.specs.declared.plan.Options.{Options}
 use Rattle.meta_model.specs.declared.plan.Plan.{Plan}
 use Rattle.meta_model.specs.declared.plan.PlanTask.{PlanTask}
-use Rattle.run_core.specs.Need.{IsNeed}
-use Rattle.run_core.specs.declared.fate.Fate.{Fate}
-use Rattle.run_core.specs.declared.fate.Fate.TheVariants as fate
-use Rattle.run_core.specs.declared.fate.Next.{Next}
-use Rattle.run_core.specs.declared.fate.Next.TheVariants as next
+use Rattle.tale_model.specs.Need.{IsNeed}
+use Rattle.tale_model.specs.declared.fate.Fate.{Fate}
+use Rattle.tale_model.specs.declared.fate.Fate.TheVariants as fate
+use Rattle.run_core.specs.declared.next.Next.{Next}
+use Rattle.run_core.specs.declared.next.Next.TheVariants as next
 use Rattle.run_core.specs.Choice.{Agree, MayAnswer}
-use Rattle.run_core.specs.Fates.{IsFree, fates_told, is_settled}
-use Rattle.run_core.specs.History.{Clean, marked_for, settled_as, started_as}
+use Rattle.tale_model.specs.Fates.{IsFree, fates_told, is_settled}
+use Rattle.tale_model.specs.History.{Clean}
+use Rattle.run_core.specs.History.{marked_for, settled_as, started_as}
 use Rattle.run_core.proofs.Agreeing.{answer_across}
 use Rattle.run_core.proofs.Steps.{step_may}
-use Rattle.run_queue.specs.Courses.{IsThere, clean_says}
+use Rattle.run_model.specs.Courses.{IsThere, clean_says}
 use Rattle.run_queue.specs.Laws.{ClaimMayCome}
 use Rattle.run_queue.proofs.Agreement.{AgreeUnsettled, agreement}
 use Rattle.run_queue.proofs.Growing.{course_of_front}

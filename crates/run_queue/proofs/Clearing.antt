@@ -11,7 +11,7 @@ use Rattle.store_model.specs.declared.signature.SigRecord.{SigRecord}
 use Rattle.meta_model.specs.declared.value.KeyLine.{KeyLine}
 use Rattle.meta_model.specs.declared.value.Resolved.{Resolved}
 use Rattle.store_model.specs.OneSpelling.{DepFits, FileFits, Fits, FlagFits, LineFits, ResolvedFits, SignatureFits, ValueFits}
-use Rattle.sig_gen.specs.Sound.{IsDep, IsFile, IsFlag, IsKeyLine, IsResolved, IsSignature, IsText, IsValue}
+use Rattle.store_model.specs.Sound.{IsDep, IsFile, IsFlag, IsKeyLine, IsResolved, IsSignature, IsText, IsValue}
 use Rattle.store_model.specs.Origins.{Book, Line, Reading, row_of, rows_of}
 use Rattle.store_model.specs.Premises.{HasNoCollision, HasOneSignature}
 use Rattle.store_model.specs.Rows.{row_at, IsClear}
@@ -22,7 +22,7 @@ use Rattle.store_model.proofs.Ordered.{each_middle, each_weaker, map_each}
 use Rattle.store_model.proofs.Reading.{signature_is_read}
 use Rattle.store_model.proofs.Standing.{AllNew, each_line, one_place, row_found, row_none}
 use Rattle.build_store.proofs.Clean.{name_is_name}
-use Rattle.build_store.specs.Sound.{IsReadable}
+use Rattle.store_model.specs.Readable.{IsReadable}
 
 -- ---- what can be read again can be held
 

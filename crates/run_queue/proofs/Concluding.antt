@@ -18,11 +18,13 @@ use Rattle.meta_model.specs.declared.event.Event.TheVariants as events
 use Rattle.meta_model.specs.declared.event.Logged.{Logged}
 use Rattle.meta_model.specs.declared.plan.PlanTask.{PlanTask}
 use Rattle.meta_model.specs.CleanBuild.{Built, Entries, clean_build}
-use Rattle.run_core.specs.declared.fate.Fate.{Fate}
-use Rattle.run_core.specs.declared.fate.Fate.TheVariants as fate
-use Rattle.run_core.specs.Fates.{fate_at, fates_told, is_settled}
-use Rattle.run_core.specs.History.{Course, EachAfter, IsOrderly, MayCome}
-use Rattle.run_core.specs.Need.{AreOrdered, IsIn}
+use Rattle.tale_model.specs.declared.fate.Fate.{Fate}
+use Rattle.tale_model.specs.declared.fate.Fate.TheVariants as fate
+use Rattle.tale_model.specs.Fates.{fate_at, fates_told, is_settled}
+use Rattle.tale_model.specs.History.{Course, EachAfter, MayCome}
+use Rattle.run_core.specs.History.{IsOrderly}
+use Rattle.run_core.specs.Need.{AreOrdered}
+use Rattle.tale_model.specs.Need.{IsIn}
 use Rattle.run_core.proofs.Steps.{told_push}
 use Rattle.sig_gen.specs.Signing.{signature_by}
 use Rattle.store_model.specs.declared.signature.EquivRow.{EquivRow}
@@ -40,20 +42,22 @@ use Rattle.store_model.proofs.Lasting.{available_stays, reuse_goes_on}
 use Rattle.store_model.proofs.Standing.{row_found, row_none, split_last}
 use Rattle.store_model.proofs.Staying.{signatures_stay}
 use Rattle.build_store.specs.declared.kept.KeptSig.{KeptSig}
-use Rattle.build_store.specs.Laws.{HasLine}
+use Rattle.store_model.specs.Lines.{HasLine}
 use Rattle.build_store.specs.Publication.{IsPublished, KeepsOthers, Publishes, publication, unihash_for}
-use Rattle.build_store.specs.Sound.{IsReadable}
+use Rattle.store_model.specs.Readable.{IsReadable}
 use Rattle.setscene_plan.specs.declared.replan.Replan.{Replan}
 use Rattle.setscene_plan.specs.Replans.{IsCurrent, avail_in, names_in, need_in, unihashes_in}
 use Rattle.setscene_plan.specs.View.{Says}
-use Rattle.run_queue.specs.Opening.{Opening}
+use Rattle.run_model.specs.Opening.{Opening}
 use Rattle.run_queue.specs.Asking.{WasKept, earlier_in, kept_or_meant, meant}
-use Rattle.run_queue.specs.Books.{book_after, book_by, rows_after, signed_after}
-use Rattle.run_queue.specs.Courses.{IsCourse, IsReal}
+use Rattle.run_model.specs.Books.{book_after, book_by, rows_after, signed_after}
+use Rattle.run_model.specs.Courses.{IsCourse}
+use Rattle.run_queue.specs.Courses.{IsReal}
 use Rattle.run_queue.specs.declared.fault.RunFault.{RunFault}
 use Rattle.run_queue.specs.Keeps.{IsRun, WasThere, nobody}
 use Rattle.run_queue.specs.Seen.{IsBegun, Known, Seen, known_in, no_meaning}
-use Rattle.run_queue.specs.Stands.{AllStand, HasEnded, HasOwnRow, HasStarted, IsSettledIn, IsStanding, KeepObjects}
+use Rattle.run_model.specs.Stands.{AllStand, HasEnded, HasOwnRow, HasStarted, IsSettledIn, IsStanding}
+use Rattle.run_queue.specs.Stands.{KeepObjects}
 use Rattle.run_queue.proofs.Answered.{means_there, one_signature, own_name, own_pn}
 use Rattle.run_queue.proofs.Known.{own_signature, own_task, sound_ordered, up_to_date}
 use Rattle.run_queue.proofs.Enduring.{differ_at, same_signed, row_on, signed_at, signed_task, standing_grown, keeps_object}

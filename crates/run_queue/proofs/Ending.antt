@@ -5,10 +5,10 @@ use Rattle.meta_model.specs.CleanBuild.{Built}
 use Rattle.meta_model.specs.declared.plan.PlanTask.{PlanTask}
 use Rattle.meta_model.specs.declared.event.Avail.{Avail}
 use Rattle.meta_model.specs.declared.plan.Options.{Options}
-use Rattle.run_core.specs.declared.fate.Fate.{Fate}
-use Rattle.run_core.specs.Choice.{IsOver}
-use Rattle.run_core.specs.Fates.{HoldsFailure, fate_at, is_settled}
-use Rattle.run_core.specs.Need.{IsIn}
+use Rattle.tale_model.specs.declared.fate.Fate.{Fate}
+use Rattle.tale_model.specs.Choice.{IsOver}
+use Rattle.tale_model.specs.Fates.{HoldsFailure, fate_at, is_settled}
+use Rattle.tale_model.specs.Need.{IsIn}
 use Rattle.store_model.specs.Available.{HoldsClean, work_folder}
 use Rattle.outside_traits.specs.Store.{Store}
 use Rattle.run_queue.specs.Laws.{ExactAtEnd}

@@ -26,15 +26,18 @@ use Rattle.store_model.specs.Spelling.{name_of}
 use Rattle.store_model.specs.Valid.{IsValidBook, IsValidLine}
 use Rattle.store_model.proofs.Standing.{row_found, stands_further}
 use Rattle.store_model.proofs.Staying.{kept_with_row, row_stays}
-use Rattle.build_store.specs.Laws.{HasLine, IsOfTask, KeepsObject}
-use Rattle.build_store.specs.Paths.{HasPlace, IsOnePart, slashes}
-use Rattle.build_store.specs.Publication.{KeepsOthers, Publication, Publishes}
+use Rattle.store_model.specs.Lines.{HasLine}
+use Rattle.build_store.specs.Laws.{IsOfTask, KeepsObject}
+use Rattle.build_store.specs.Paths.{HasPlace, IsOnePart}
+use Rattle.store_model.specs.Paths.{slashes}
+use Rattle.build_store.specs.Publication.{KeepsOthers, Publishes}
+use Rattle.store_model.specs.Publication.{Publication}
 use Rattle.build_store.proofs.Clean.{hash_is_name, name_slashes}
 use Rattle.build_store.proofs.Others.{others_stay, others_untouched}
 use Rattle.setscene_plan.proofs.Naming.{signed_count}
-use Rattle.run_queue.specs.Opening.{Opening}
-use Rattle.run_queue.specs.Books.{book_after, book_by, rows_after, signed_after}
-use Rattle.run_queue.specs.Stands.{HasEnded, HasOwnRow, IsStanding}
+use Rattle.run_model.specs.Opening.{Opening}
+use Rattle.run_model.specs.Books.{book_after, book_by, rows_after, signed_after}
+use Rattle.run_model.specs.Stands.{HasEnded, HasOwnRow, IsStanding}
 use Rattle.run_queue.proofs.Aside.{object_on, work_on}
 use Rattle.run_queue.proofs.Clearing.{unihash_is}
 use Rattle.run_queue.proofs.Placing.{has_place}
@@ -85,7 +88,7 @@ step_behind : (gives : Gives) (plan : Plan) (book : Book) (event : Event) → (m
 step_behind gives plan book (events.Found t) = ([], sym (append-nil book))
 step_behind gives plan book (events.Restored t) = ([], sym (append-nil book))
 step_behind gives plan book (events.Started t seat) = ([], sym (append-nil book))
-step_behind gives plan book (events.Ended t) = (Rattle.run_queue.specs.Books.line_of_ended gives plan book t, refl)
+step_behind gives plan book (events.Ended t) = (Rattle.run_model.specs.Books.line_of_ended gives plan book t, refl)
 step_behind gives plan book (events.Failed t why) = ([], sym (append-nil book))
 step_behind gives plan book (events.Broke t cut) = ([], sym (append-nil book))
 

@@ -9,9 +9,10 @@ use Rattle.meta_model.specs.declared.plan.PlanTask.{PlanTask}
 use Rattle.meta_model.specs.CleanBuild.{Built, Entries, Gives, Lack, by_itself, built_over, clean_build, clean_task, is_beyond_layout, outputs_of, task_output}
 use Rattle.meta_model.specs.CleanBuild as clean_of
 use Rattle.meta_model.specs.Layout.{Needed, layout}
-use Rattle.run_core.specs.History.{gives, fails, layout_too_large}
+use Rattle.tale_model.specs.History.{gives, fails, layout_too_large}
 use Rattle.task_worker.proofs.Building.{at_place}
-use Rattle.run_queue.specs.Courses.{IsReal, clean_says, said, said_of, said_over}
+use Rattle.run_queue.specs.Courses.{IsReal}
+use Rattle.run_model.specs.Courses.{clean_says, said, said_of, said_over}
 use Rattle.run_queue.specs.Laws.{FailedIsReal}
 
 said_fails : (r : Result Entries Why) (cause : Why) → said r ≡ fails cause → by_itself r ≡ Err (clean_of.fails cause)

@@ -12,10 +12,11 @@ use Rattle.store_model.specs.Available.{object_folder, task_folder, work_folder}
 use Rattle.store_model.specs.Origins.{Book, Line, Reading}
 use Rattle.store_model.specs.Valid.{IsValidBook, StandsIn}
 use Rattle.build_store.specs.Named.{IsName}
-use Rattle.build_store.specs.Paths.{HasPlace, slashes}
+use Rattle.build_store.specs.Paths.{HasPlace}
+use Rattle.store_model.specs.Paths.{slashes}
 use Rattle.build_store.proofs.Clean.{folder_slashes, name_is_name, name_slashes}
 use Rattle.build_store.proofs.Slashes.{slashes_inside}
-use Rattle.run_queue.specs.Opening.{HasFolders}
+use Rattle.run_model.specs.Opening.{HasFolders}
 
 -- what stands above a path has fewer slashes
 fewer : (q path : List ℕ) (below : IsBelow q path) → slashes path ≡ slashes q + 1 + slashes below.0

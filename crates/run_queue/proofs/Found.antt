@@ -21,13 +21,14 @@ use Rattle.meta_model.specs.declared.event.Logged.{Logged}
 use Rattle.meta_model.specs.declared.plan.PlanTask.{PlanTask}
 use Rattle.meta_model.specs.CleanBuild.{Built, Entries, Gives, clean_build}
 use Rattle.meta_model.proofs.Building.{all_tasks}
-use Rattle.run_core.specs.declared.fate.Fate.{Fate}
-use Rattle.run_core.specs.declared.fate.Fate.TheVariants as fate
-use Rattle.run_core.specs.declared.fate.Next.TheVariants as next
+use Rattle.tale_model.specs.declared.fate.Fate.{Fate}
+use Rattle.tale_model.specs.declared.fate.Fate.TheVariants as fate
+use Rattle.run_core.specs.declared.next.Next.TheVariants as next
 use Rattle.run_core.specs.Choice.{MayAnswer}
-use Rattle.run_core.specs.Fates.{IsFree, fate_at, fates_told}
-use Rattle.run_core.specs.History.{Course, EachAfter, IsInOrder, IsOrderly, MayCome, settled_as}
-use Rattle.run_core.specs.Need.{IsIn}
+use Rattle.tale_model.specs.Fates.{IsFree, fate_at, fates_told}
+use Rattle.tale_model.specs.History.{Course, EachAfter, MayCome}
+use Rattle.run_core.specs.History.{IsInOrder, IsOrderly, settled_as}
+use Rattle.tale_model.specs.Need.{IsIn}
 use Rattle.run_core.proofs.Steps.{count_told, told_push}
 use Rattle.store_model.specs.declared.signature.EquivRow.{EquivRow}
 use Rattle.store_model.specs.Available.{HoldsClean, IsAvailable, IsInWork, work_folder}
@@ -42,12 +43,12 @@ use Rattle.store_model.proofs.Contents.{tree_same}
 use Rattle.store_model.proofs.Ordered.{each_weaker}
 use Rattle.store_model.proofs.Reusing.{known, reuse_is_clean}
 use Rattle.store_model.proofs.Standing.{row_found}
-use Rattle.run_queue.specs.Opening.{Opening}
-use Rattle.run_queue.specs.Books.{rows_after, signed_after}
-use Rattle.run_queue.specs.Courses.{IsCourse}
+use Rattle.run_model.specs.Opening.{Opening}
+use Rattle.run_model.specs.Books.{rows_after, signed_after}
+use Rattle.run_model.specs.Courses.{IsCourse}
 use Rattle.run_queue.specs.Keeps.{IsRun, IsUpToDate, WasThere}
 use Rattle.run_queue.specs.Seen.{IsBegun, Known, Seen}
-use Rattle.run_queue.specs.Stands.{HasEnded, IsStanding, HasOwnRow}
+use Rattle.run_model.specs.Stands.{HasEnded, IsStanding, HasOwnRow}
 use Rattle.store_model.proofs.Standing.{row_found}
 use Rattle.setscene_plan.proofs.Naming.{signed_count}
 use Rattle.run_queue.proofs.Agreement.{some_known}

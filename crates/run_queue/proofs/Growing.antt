@@ -5,7 +5,7 @@ use Rattle.std.specs.List.{slice_get}
 use Rattle.meta_model.specs.declared.event.Logged.{Logged}
 use Rattle.meta_model.specs.declared.plan.Plan.{Plan}
 use Rattle.meta_model.specs.CleanBuild.{Built, Entries, Gives, clean_build}
-use Rattle.run_core.specs.History.{MayCome}
+use Rattle.tale_model.specs.History.{MayCome}
 use Rattle.run_core.proofs.Agreeing.{each_push}
 use Rattle.store_model.specs.declared.signature.EquivRow.{EquivRow}
 use Rattle.store_model.specs.Lasting.{IsGrown, grown}
@@ -15,8 +15,8 @@ use Rattle.store_model.specs.Recording.{recorded, with_record}
 use Rattle.store_model.specs.Rows.{row_at}
 use Rattle.store_model.specs.Signatures.{Signed, signatures}
 use Rattle.store_model.specs.Spelling.{name_of}
-use Rattle.run_queue.specs.Books.{book_by, line_by, line_found, line_if_new, line_of_ended}
-use Rattle.run_queue.specs.Courses.{IsThere}
+use Rattle.run_model.specs.Books.{book_by, line_by, line_found, line_if_new, line_of_ended}
+use Rattle.run_model.specs.Courses.{IsThere}
 use Rattle.run_queue.specs.Laws.{BookGrows, CourseOfFront, EndedGrows, EndedIsStep, LegalGrows}
 
 pub book_grows : BookGrows

@@ -6,19 +6,19 @@ use Rattle.tree_model.specs.declared.manifest.ManifestLine.{ManifestLine}
 use Rattle.meta_model.specs.declared.plan.Plan.{Plan}
 use Rattle.meta_model.specs.declared.plan.PlanTask.{PlanTask}
 use Rattle.meta_model.specs.CleanBuild.{Built, Entries, Gives, by_itself, clean_build, is_beyond_layout, outputs_of, task_output}
-use Rattle.run_core.specs.declared.fate.Fate.TheVariants.{Running}
-use Rattle.run_core.specs.Fates.{fate_at, fates_told}
-use Rattle.run_core.specs.History.{MayCome}
-use Rattle.run_core.specs.History.{layout_too_large}
+use Rattle.tale_model.specs.declared.fate.Fate.TheVariants.{Running}
+use Rattle.tale_model.specs.Fates.{fate_at, fates_told}
+use Rattle.tale_model.specs.History.{MayCome, layout_too_large}
 use Rattle.task_worker.specs.declared.given.Given.{Given}
 use Rattle.task_worker.specs.declared.given.Given.TheVariants as given
 use Rattle.task_worker.specs.declared.given.Job.{Job}
 use Rattle.task_worker.specs.Jobs.{job_output, outcome_of}
-use Rattle.task_worker.specs.Layouts.{layout_over, needed_among}
-use Rattle.task_worker.specs.OneTask.{AreClean, job_of}
+use Rattle.run_model.specs.Layouts.{layout_over, needed_among}
+use Rattle.run_model.specs.CleanOutputs.{AreClean}
+use Rattle.task_worker.specs.OneTask.{job_of}
 use Rattle.task_worker.proofs.Building.{one_job, one_task, outputs_are}
-use Rattle.run_queue.specs.Opening.{Opening}
-use Rattle.run_queue.specs.Courses.{clean_says, said, said_of, said_over}
+use Rattle.run_model.specs.Opening.{Opening}
+use Rattle.run_model.specs.Courses.{clean_says, said, said_of, said_over}
 use Rattle.run_queue.specs.Laws.{EndMayCome, JobIsSaid}
 use Rattle.run_queue.specs.Seen.{Seen}
 use Rattle.run_queue.specs.Turns.{IsCleanJob, IsGivenBy, closed_as}

@@ -6,7 +6,8 @@ use Rattle.tree_model.specs.declared.hash.Hash.{Hash}
 use Rattle.meta_model.specs.declared.event.Avail.TheVariants.{Missing}
 use Rattle.meta_model.specs.declared.plan.PlanTask.{PlanTask}
 use Rattle.meta_model.specs.declared.plan.Plan.{Plan}
-use Rattle.run_core.specs.Need.{AreOrdered, IsIn, deps_in}
+use Rattle.run_core.specs.Need.{AreOrdered}
+use Rattle.tale_model.specs.Need.{IsIn, deps_in}
 use Rattle.plan_model.specs.Sound.{IsSound}
 use Rattle.store_model.specs.Rows.{row_at, IsClear}
 use Rattle.store_model.specs.Signatures.{Signed, signatures}

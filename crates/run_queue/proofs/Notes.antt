@@ -7,9 +7,10 @@ use Rattle.meta_model.specs.declared.event.Event.TheVariants as events
 use Rattle.meta_model.specs.declared.event.Logged.{Logged}
 use Rattle.meta_model.specs.declared.plan.Plan.{Plan}
 use Rattle.meta_model.specs.declared.plan.PlanTask.{PlanTask}
-use Rattle.run_core.specs.declared.fate.Fate.{Fate}
-use Rattle.run_core.specs.declared.fate.Fate.TheVariants as fate
-use Rattle.run_core.specs.Fates.{fate_at, fate_by, fates_told, is_running, is_settled, running_count, runs_once, task_of, CanMark}
+use Rattle.tale_model.specs.declared.fate.Fate.{Fate}
+use Rattle.tale_model.specs.declared.fate.Fate.TheVariants as fate
+use Rattle.tale_model.specs.Fates.{fate_at, fate_by, fates_told, is_running, is_settled, task_of}
+use Rattle.run_core.specs.Fates.{running_count, runs_once, CanMark}
 use Rattle.run_core.specs.History.{IsInOrder, IsOrderly}
 use Rattle.store_model.specs.declared.signature.EquivRow.{EquivRow}
 use Rattle.run_core.proofs.Agreeing.{each_push}
@@ -18,7 +19,8 @@ use Rattle.run_core.proofs.Steps.{told_push}
 use Rattle.std.specs.Prelude.{Option, IfSome}
 use Rattle.run_queue.specs.declared.fault.RunFault.{RunFault}
 use Rattle.run_queue.specs.declared.fault.RunFault.TheVariants as ends
-use Rattle.run_queue.specs.Causes.{IsCause, is_fault_break}
+use Rattle.run_queue.specs.Causes.{IsCause}
+use Rattle.run_model.specs.Causes.{is_fault_break}
 use Rattle.run_queue.specs.Keeps.{HasRoom, IsState}
 use Rattle.run_queue.specs.Seen.{RunView}
 use Rattle.run_queue.specs.Turns.{fates_of}

@@ -6,7 +6,7 @@ use Rattle.outside_traits.specs.Store.{Store}
 use Rattle.outside_traits.specs.Story.{IsImage, IsImageSince, Story, moment}
 use Rattle.outside_traits.proofs.Images.{now-since, since-now}
 use Rattle.store_model.specs.Valid.{IsValid}
-use Rattle.run_queue.specs.Opening.{Opening}
+use Rattle.run_model.specs.Opening.{Opening}
 use Rattle.run_queue.specs.Keeps.{IsRun, nobody}
 use Rattle.run_queue.specs.declared.fault.RunFault.{RunFault}
 use Rattle.build_store.specs.View.{SameBooks, View}

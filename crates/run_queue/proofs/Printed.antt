@@ -1,6 +1,6 @@
 -- A text is printed behind another one, as long as the sink takes it.
 use Rattle.std.proofs.Common.{◌≡◌, ◌++◌, ◌∙◌, sym, ap, ℕ, List, append_assoc, true, false, subst}
-use Rattle.bb_report.specs.Written.{WritesFront}
+use Rattle.run_model.specs.Written.{WritesFront}
 use Rattle.bb_report.proofs.Chains.{front_first, front_then}
 use Rattle.run_queue.specs.Keeps.{IsFront, Prints}
 

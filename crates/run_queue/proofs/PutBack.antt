@@ -23,12 +23,13 @@ use Rattle.meta_model.specs.declared.plan.PlanTask.{PlanTask}
 use Rattle.meta_model.specs.CleanBuild.{Built, Entries, Gives, clean_build}
 use Rattle.meta_model.proofs.Building.{all_tasks}
 use Rattle.plan_model.proofs.Reached.{all_at}
-use Rattle.run_core.specs.declared.fate.Fate.TheVariants as fate
-use Rattle.run_core.specs.declared.fate.Next.TheVariants as next
+use Rattle.tale_model.specs.declared.fate.Fate.TheVariants as fate
+use Rattle.run_core.specs.declared.next.Next.TheVariants as next
 use Rattle.run_core.specs.Choice.{MayAnswer}
-use Rattle.run_core.specs.Fates.{fate_at, fates_told, is_settled}
-use Rattle.run_core.specs.History.{EachAfter, IsOrderly}
-use Rattle.run_core.specs.Need.{IsIn}
+use Rattle.tale_model.specs.Fates.{fate_at, fates_told, is_settled}
+use Rattle.tale_model.specs.History.{EachAfter}
+use Rattle.run_core.specs.History.{IsOrderly}
+use Rattle.tale_model.specs.Need.{IsIn}
 use Rattle.store_model.specs.declared.signature.EquivRow.{EquivRow}
 use Rattle.store_model.specs.Available.{IsInObject, object_folder, task_folder}
 use Rattle.store_model.specs.Origins.{Book, Line, Reading, row_of, rows_of}
@@ -45,16 +46,18 @@ use Rattle.store_model.proofs.Reusing.{known, reuse_is_clean}
 use Rattle.store_model.proofs.Standing.{row_found}
 use Rattle.build_store.specs.Laws.{IsOfLine, IsOfTask}
 use Rattle.build_store.specs.Named.{IsName}
-use Rattle.build_store.specs.Publication.{HasNoObject, IsObjectOf, KeepsOthers, Publishes, Restores, RestoresObject, record_file, restoration}
+use Rattle.build_store.specs.Publication.{HasNoObject, IsObjectOf, KeepsOthers, Publishes, Restores, RestoresObject, restoration}
+use Rattle.store_model.specs.Publication.{record_file}
 use Rattle.build_store.proofs.Others.{others_untouched}
 use Rattle.build_store.proofs.Validity.{published_is_valid}
 use Rattle.setscene_plan.proofs.Naming.{signed_count}
-use Rattle.run_queue.specs.Opening.{HasFolders, Opening}
+use Rattle.run_model.specs.Opening.{HasFolders, Opening}
 use Rattle.run_queue.specs.declared.fault.RunFault.{RunFault}
 use Rattle.run_queue.specs.Keeps.{IsRun, IsRunBut, IsUpToDate, WasThere}
 use Rattle.run_queue.specs.Seen.{IsBegun, Known, Seen}
-use Rattle.run_queue.specs.Own.{IsAside}
-use Rattle.run_queue.specs.Stands.{AllStand, HasEnded, HasStarted, IsAsBegun, IsLeft, KeepObjects}
+use Rattle.run_model.specs.Own.{IsAside}
+use Rattle.run_model.specs.Stands.{AllStand, HasEnded, HasStarted}
+use Rattle.run_queue.specs.Stands.{IsAsBegun, IsLeft, KeepObjects}
 use Rattle.run_queue.proofs.Touched.{aside_less, told_halted, tried_as, tried_besides}
 use Rattle.run_queue.proofs.Agreement.{some_known}
 use Rattle.run_queue.proofs.Aside.{aside_stays, folders_on, honest_on, object_stays}

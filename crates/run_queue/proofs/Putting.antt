@@ -16,8 +16,9 @@ use Rattle.meta_model.specs.declared.event.Avail.{Avail}
 use Rattle.meta_model.specs.declared.event.Logged.{Logged}
 use Rattle.meta_model.specs.declared.plan.PlanTask.{PlanTask}
 use Rattle.meta_model.specs.CleanBuild.{Entries}
-use Rattle.run_core.specs.Fates.{fate_at, fates_told, is_settled}
-use Rattle.run_core.specs.History.{EachAfter, IsOrderly}
+use Rattle.tale_model.specs.Fates.{fate_at, fates_told, is_settled}
+use Rattle.tale_model.specs.History.{EachAfter}
+use Rattle.run_core.specs.History.{IsOrderly}
 use Rattle.run_core.proofs.Seats.{by_fronts, settled_kept}
 use Rattle.run_core.proofs.Steps.{told_push}
 use Rattle.store_model.specs.Origins.{Book, Line, rows_of}
@@ -32,20 +33,22 @@ use Rattle.store_model.specs.Spelling.{name_of, signature_bytes}
 use Rattle.store_model.specs.Valid.{IsValid, IsValidBook, IsValidLine}
 use Rattle.store_model.proofs.Ordered.{each_append}
 use Rattle.store_model.proofs.Standing.{split_last, stands_further}
-use Rattle.build_store.specs.Laws.{HasLine}
+use Rattle.store_model.specs.Lines.{HasLine}
 use Rattle.build_store.specs.Named.{IsName}
-use Rattle.build_store.specs.Paths.{record_path}
-use Rattle.build_store.specs.Publication.{IsPublished, KeepsOthers, Publication, Publishes, line_for, publication}
-use Rattle.build_store.specs.Sound.{IsReadable}
+use Rattle.store_model.specs.Paths.{record_path}
+use Rattle.build_store.specs.Publication.{IsPublished, KeepsOthers, Publishes, line_for, publication}
+use Rattle.store_model.specs.Publication.{Publication}
+use Rattle.store_model.specs.Readable.{IsReadable}
 use Rattle.build_store.proofs.Clean.{name_is_name, name_slashes}
 use Rattle.build_store.proofs.Apart.{apart_under, apart_within}
 use Rattle.build_store.proofs.Others.{longer_valid, others_untouched, texts_apart}
-use Rattle.run_queue.specs.Opening.{HasFolders, Opening}
-use Rattle.run_queue.specs.Books.{book_after}
+use Rattle.run_model.specs.Opening.{HasFolders, Opening}
+use Rattle.run_model.specs.Books.{book_after}
 use Rattle.run_queue.specs.Keeps.{IsRun}
 use Rattle.run_queue.specs.Seen.{IsBegun, Seen}
-use Rattle.run_queue.specs.Own.{IsAside, IsOfNone}
-use Rattle.run_queue.specs.Stands.{AllStand, HasStarted, IsAsBegun, IsLeft, IsSettledIn, IsStanding}
+use Rattle.run_model.specs.Own.{IsAside, IsOfNone}
+use Rattle.run_model.specs.Stands.{AllStand, HasStarted, IsSettledIn, IsStanding}
+use Rattle.run_queue.specs.Stands.{IsAsBegun, IsLeft}
 use Rattle.run_queue.proofs.Aside.{aside_stays, folders_on, honest_on, in_objects, object_stays}
 use Rattle.run_queue.proofs.Clearing.{clear_is_no_collision, unihashes_are}
 use Rattle.run_queue.proofs.Enduring.{differ_at, front_book, keeps_object, standing_on}
@@ -97,7 +100,7 @@ settled_front tasks tale each t k settled =
         → (n : ℕ) → is_settled (fate_at (fates_told (length tasks) (take n (before ++ entry ∷ []))) t) ≡ true → is_settled (fate_at (fates_told (length tasks) (before ++ entry ∷ [])) t) ≡ true
     next before entry again order n is = elim (le_or n (length before)) [
       | inl le ↦
-          subst (λ (l : List Rattle.run_core.specs.declared.fate.Fate.Fate). is_settled (fate_at l t) ≡ true) (sym (told_push (length tasks) before entry))
+          subst (λ (l : List Rattle.tale_model.specs.declared.fate.Fate.Fate). is_settled (fate_at l t) ≡ true) (sym (told_push (length tasks) before entry))
           (settled_kept (fates_told (length tasks) before) entry.event order.can t (again n (subst (λ (l : List Logged). is_settled (fate_at (fates_told (length tasks) l) t) ≡ true) (take-append-le n before (entry ∷ []) le) is)))
       | inr gt ↦ subst (λ (l : List Logged). is_settled (fate_at (fates_told (length tasks) l) t) ≡ true) (take_all n (before ++ entry ∷ []) (let m = Rattle.std.proofs.Common.length-append before (entry ∷ []) in omega (arith, m, gt))) is
     ]
@@ -355,8 +358,8 @@ module _ (o : Opening) (s : Seen) (run : IsRun o s) (faultless : s.fault ≡ Non
     where
       same : IsReadable put.line
       same = record {
-        spelled = subst (λ (x : Rattle.store_model.specs.declared.signature.StoredSig.StoredSig). Rattle.sig_gen.specs.Stored.SpellsStored (Rattle.store_model.specs.Spelling.record_bytes x) x) (λ i. record { sig = sym put.sig i; manifest = sym put.manifest i; unihash = sym put.unihash i }) is.spelled;
-        short = subst (λ (l : List Rattle.tree_model.specs.declared.manifest.ManifestLine.ManifestLine). Rattle.build_store.specs.Sound.HasShortPaths l) (sym put.manifest) is.short;
+        spelled = subst (λ (x : Rattle.store_model.specs.declared.signature.StoredSig.StoredSig). Rattle.store_model.specs.Stored.SpellsStored (Rattle.store_model.specs.Spelling.record_bytes x) x) (λ i. record { sig = sym put.sig i; manifest = sym put.manifest i; unihash = sym put.unihash i }) is.spelled;
+        short = subst (λ (l : List Rattle.tree_model.specs.declared.manifest.ManifestLine.ManifestLine). Rattle.store_model.specs.Readable.HasShortPaths l) (sym put.manifest) is.short;
       }
 
       by : (HasLine (book_now o s) put.line × (put.more ≡ []) × ((publication (rows_of (book_now o s)) sg tree).is_new ≡ false)) ⊎ (IsValidLine o.gives o.reading (book_now o s) put.line × (put.more ≡ put.line ∷ []) × (row_at (rows_of (book_now o s)) (name_of sg.sig) ≡ None) × (put.line ≡ recorded (rows_of (book_now o s)) sg tree)) → AllByRecursion IsReadable put.more

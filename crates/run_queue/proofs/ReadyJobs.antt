@@ -16,12 +16,14 @@ use Rattle.meta_model.specs.CleanBuild.{Built, Entries, Gives, Lack, built_over,
 use Rattle.meta_model.specs.Layout as laid
 use Rattle.meta_model.proofs.Building.{all_tasks}
 use Rattle.plan_model.specs.Sound.{IsSound}
-use Rattle.run_core.specs.declared.fate.Fate.TheVariants as fate
-use Rattle.run_core.specs.Choice.{IsReady, MayAnswer}
-use Rattle.run_core.specs.Fates.{IsFree, fate_at, fate_by, fates_told, is_settled, task_of}
-use Rattle.run_core.specs.History.{Clean, Course, EachAfter, IsInOrder, IsOrderly, MayCome, layout_too_large, started_as}
-use Rattle.run_core.specs.Need.{IsNeed, deps_in}
-use Rattle.run_core.specs.declared.fate.Next.TheVariants as next
+use Rattle.tale_model.specs.declared.fate.Fate.TheVariants as fate
+use Rattle.tale_model.specs.Choice.{IsReady}
+use Rattle.run_core.specs.Choice.{MayAnswer}
+use Rattle.tale_model.specs.Fates.{IsFree, fate_at, fate_by, fates_told, is_settled, task_of}
+use Rattle.tale_model.specs.History.{Clean, Course, EachAfter, MayCome, layout_too_large}
+use Rattle.run_core.specs.History.{IsInOrder, IsOrderly, started_as}
+use Rattle.tale_model.specs.Need.{IsNeed, deps_in}
+use Rattle.run_core.specs.declared.next.Next.TheVariants as next
 use Rattle.run_core.proofs.Steps.{count_told}
 use Rattle.meta_model.specs.declared.event.Logged.{Logged}
 use Rattle.meta_model.specs.declared.plan.Plan.{Plan}
@@ -29,18 +31,19 @@ use Rattle.store_model.specs.Origins.{Book}
 use Rattle.store_model.specs.Available.{work_folder}
 use Rattle.build_store.specs.Finding.{IsOutput}
 use Rattle.task_worker.specs.declared.given.Job.{Job}
-use Rattle.task_worker.specs.Layouts.{layout_over}
+use Rattle.run_model.specs.Layouts.{layout_over}
 use Rattle.task_worker.specs.Jobs.{job_output}
-use Rattle.task_worker.specs.OneTask.{AreClean, Has, job_of}
+use Rattle.run_model.specs.CleanOutputs.{AreClean, Has}
+use Rattle.task_worker.specs.OneTask.{job_of}
 use Rattle.task_worker.proofs.Building.{at_place}
-use Rattle.run_queue.specs.Opening.{Opening}
+use Rattle.run_model.specs.Opening.{Opening}
 use Rattle.run_queue.specs.Outputs.{AreRead, IsJobOf, IsRead, IsTooLarge, LacksOne}
 use Rattle.run_queue.specs.Outputs.IsTooLarge.{laid as too_laid, output as too_output}
-use Rattle.run_queue.specs.Books.{book_by}
-use Rattle.run_queue.specs.Courses.{IsCourse, clean_says, said}
+use Rattle.run_model.specs.Books.{book_by}
+use Rattle.run_model.specs.Courses.{IsCourse, clean_says, said}
 use Rattle.run_queue.specs.Keeps.{IsRun, IsUpToDate}
 use Rattle.run_queue.specs.Seen.{Known, Seen}
-use Rattle.run_queue.specs.Stands.{AllStand}
+use Rattle.run_model.specs.Stands.{AllStand}
 use Rattle.run_queue.specs.Turns.{IsCleanJob}
 use Rattle.run_queue.proofs.Claiming.{claim_may_come}
 use Rattle.run_queue.proofs.Jobs.{job_is_said}

@@ -29,9 +29,11 @@ use Rattle.store_model.proofs.Ordered.{map_each}
 use Rattle.store_model.proofs.Recording.{line_is_valid, stage}
 use Rattle.store_model.proofs.Reusing.{reuse_is_clean}
 use Rattle.store_model.proofs.Standing.{each_line, row_found, row_none}
-use Rattle.build_store.specs.Laws.{HasLine, IsOfLine, IsOfTask}
-use Rattle.build_store.specs.Paths.{record_path}
-use Rattle.build_store.specs.Publication.{IsPublished, Publication, Publishes, line_for, publication, record_file, rows_with, unihash_for}
+use Rattle.store_model.specs.Lines.{HasLine}
+use Rattle.build_store.specs.Laws.{IsOfLine, IsOfTask}
+use Rattle.store_model.specs.Paths.{record_path}
+use Rattle.build_store.specs.Publication.{IsPublished, Publishes, line_for, publication, rows_with, unihash_for}
+use Rattle.store_model.specs.Publication.{Publication, record_file}
 use Rattle.build_store.proofs.Validity.{published_is_valid}
 
 -- ---- records of a book

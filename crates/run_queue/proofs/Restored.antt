@@ -12,13 +12,14 @@ use Rattle.meta_model.specs.declared.event.Avail.TheVariants as avail
 use Rattle.meta_model.specs.declared.event.Event.TheVariants as events
 use Rattle.meta_model.specs.declared.event.Logged.{Logged}
 use Rattle.meta_model.specs.declared.plan.PlanTask.{PlanTask}
-use Rattle.run_core.specs.declared.fate.Fate.{Fate}
-use Rattle.run_core.specs.declared.fate.Fate.TheVariants as fate
-use Rattle.run_core.specs.declared.fate.Next.TheVariants as next
+use Rattle.tale_model.specs.declared.fate.Fate.{Fate}
+use Rattle.tale_model.specs.declared.fate.Fate.TheVariants as fate
+use Rattle.run_core.specs.declared.next.Next.TheVariants as next
 use Rattle.run_core.specs.Choice.{MayAnswer}
-use Rattle.run_core.specs.Fates.{IsFree, fate_at, fates_told}
-use Rattle.run_core.specs.History.{Course, EachAfter, IsInOrder, IsOrderly, MayCome, settled_as}
-use Rattle.run_core.specs.Need.{IsIn}
+use Rattle.tale_model.specs.Fates.{IsFree, fate_at, fates_told}
+use Rattle.tale_model.specs.History.{Course, EachAfter, MayCome}
+use Rattle.run_core.specs.History.{IsInOrder, IsOrderly, settled_as}
+use Rattle.tale_model.specs.Need.{IsIn}
 use Rattle.run_core.proofs.Steps.{count_told, told_push}
 use Rattle.store_model.specs.declared.signature.EquivRow.{EquivRow}
 use Rattle.store_model.specs.Available.{IsInWork}
@@ -28,14 +29,14 @@ use Rattle.store_model.specs.Signatures.{Signed, signatures}
 use Rattle.store_model.specs.Spelling.{name_of}
 use Rattle.build_store.specs.Publication.{IsRestored}
 use Rattle.build_store.specs.View.{SameBooks, View}
-use Rattle.run_queue.specs.Opening.{Opening}
-use Rattle.run_queue.specs.Books.{rows_after, signed_after}
-use Rattle.run_queue.specs.Courses.{IsCourse}
+use Rattle.run_model.specs.Opening.{Opening}
+use Rattle.run_model.specs.Books.{rows_after, signed_after}
+use Rattle.run_model.specs.Courses.{IsCourse}
 use Rattle.run_queue.specs.declared.fault.RunFault.{RunFault}
 use Rattle.run_queue.specs.Keeps.{IsRun, IsRunBut, IsUpToDate, nobody}
 use Rattle.run_queue.specs.Puts.{HasPutObject, IsSignedAt, PutsObject}
 use Rattle.run_queue.specs.Seen.{Known, RunView, Seen, seen}
-use Rattle.run_queue.specs.Stands.{HasOwnRow, IsStanding, IsTakenUp}
+use Rattle.run_model.specs.Stands.{HasOwnRow, IsStanding, IsTakenUp}
 use Rattle.run_queue.specs.Turns.{MarksAt, Notes}
 use Rattle.run_queue.proofs.Claiming.{claim_may_come}
 use Rattle.run_queue.proofs.Growing.{book_grows}

@@ -13,11 +13,11 @@ use Rattle.meta_model.specs.declared.event.Avail.TheVariants.{Missing}
 use Rattle.meta_model.specs.declared.event.Event.{Event}
 use Rattle.meta_model.specs.declared.event.Logged.{Logged}
 use Rattle.meta_model.specs.declared.plan.PlanTask.{PlanTask}
-use Rattle.run_core.specs.declared.fate.Fate.{Fate}
-use Rattle.run_core.specs.declared.fate.Fate.TheVariants as fate
-use Rattle.run_core.specs.Fates.{fate_at, fate_by, fates_told, is_settled, task_of}
-use Rattle.run_core.specs.History.{Course, MayCome}
-use Rattle.run_core.specs.Need.{IsIn}
+use Rattle.tale_model.specs.declared.fate.Fate.{Fate}
+use Rattle.tale_model.specs.declared.fate.Fate.TheVariants as fate
+use Rattle.tale_model.specs.Fates.{fate_at, fate_by, fates_told, is_settled, task_of}
+use Rattle.tale_model.specs.History.{Course, MayCome}
+use Rattle.tale_model.specs.Need.{IsIn}
 use Rattle.run_core.proofs.Steps.{told_push}
 use Rattle.store_model.specs.Origins.{Book, rows_of}
 use Rattle.store_model.specs.Premises.{HasNoCollision}
@@ -27,13 +27,15 @@ use Rattle.store_model.specs.Reuse.{MayReuse}
 use Rattle.store_model.specs.Rows.{row_at, uni}
 use Rattle.store_model.specs.Signatures.{Signed, signatures}
 use Rattle.store_model.specs.Spelling.{name_of}
-use Rattle.run_queue.specs.Opening.{Opening}
-use Rattle.run_queue.specs.Books.{book_after, book_by, rows_after, signed_after}
-use Rattle.run_queue.specs.Courses.{IsCourse, IsReal}
+use Rattle.run_model.specs.Opening.{Opening}
+use Rattle.run_model.specs.Books.{book_after, book_by, rows_after, signed_after}
+use Rattle.run_model.specs.Courses.{IsCourse}
+use Rattle.run_queue.specs.Courses.{IsReal}
 use Rattle.run_queue.specs.Keeps.{IsRun, IsRunBut, WasThere}
 use Rattle.run_queue.specs.declared.fault.RunFault.{RunFault}
 use Rattle.run_queue.specs.Seen.{Known, RunView, Seen, seen}
-use Rattle.run_queue.specs.Stands.{AllStand, HasEnded, HasObjects, HasOwnRow, IsSettledIn, IsStanding, IsTakenUp}
+use Rattle.run_model.specs.Stands.{AllStand, HasEnded, HasOwnRow, IsSettledIn, IsStanding, IsTakenUp}
+use Rattle.run_queue.specs.Stands.{HasObjects}
 use Rattle.run_queue.specs.Turns.{MarksAt, Notes}
 use Rattle.run_queue.proofs.Touched.{aside_on, none_on, started_on, told_on, tried_as}
 use Rattle.run_queue.proofs.Growing.{book_grows, legal_grows}

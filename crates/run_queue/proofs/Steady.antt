@@ -4,9 +4,10 @@ use Rattle.std.specs.Prelude.{IfErr, Option}
 use Rattle.tree_model.specs.declared.hash.Hash.{Hash}
 use Rattle.tree_model.specs.Manifest.{manifest_lines}
 use Rattle.meta_model.specs.CleanBuild.{Entries}
-use Rattle.run_core.specs.declared.fate.Fate.TheVariants as fate
-use Rattle.run_core.specs.Fates.{fate_at, fates_told}
-use Rattle.run_core.specs.History.{EachAfter, IsOrderly}
+use Rattle.tale_model.specs.declared.fate.Fate.TheVariants as fate
+use Rattle.tale_model.specs.Fates.{fate_at, fates_told}
+use Rattle.tale_model.specs.History.{EachAfter}
+use Rattle.run_core.specs.History.{IsOrderly}
 use Rattle.store_model.specs.declared.signature.EquivRow.{EquivRow}
 use Rattle.store_model.specs.Origins.{row_of, rows_of}
 use Rattle.store_model.specs.Recording.{recorded}
@@ -15,13 +16,13 @@ use Rattle.store_model.specs.Signatures.{Signed}
 use Rattle.store_model.specs.Spelling.{name_of, signature_bytes}
 use Rattle.store_model.specs.Valid.{IsValidLine}
 use Rattle.build_store.specs.Faults.{IsClash, IsOutside, IsRefusal}
-use Rattle.build_store.specs.Laws.{HasLine}
+use Rattle.store_model.specs.Lines.{HasLine}
 use Rattle.build_store.specs.Publication.{IsAgreed, publication}
 use Rattle.build_store.specs.declared.fault.StoreFault.{StoreFault}
 use Rattle.build_store.specs.declared.fault.StoreFault.TheVariants as fault_of
 use Rattle.run_queue.specs.declared.fault.RunFault.{RunFault}
 use Rattle.run_queue.specs.Keeps.{IsRun, IsSteady, IsSteadyAnswer, IsUpToDate}
-use Rattle.run_queue.specs.Opening.{Opening}
+use Rattle.run_model.specs.Opening.{Opening}
 use Rattle.run_queue.specs.Puts.{IsCleanOutput, IsSignedAt}
 use Rattle.run_queue.specs.Seen.{Known, Seen}
 use Rattle.run_queue.proofs.Putting.{book_now}

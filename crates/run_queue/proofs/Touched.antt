@@ -8,16 +8,16 @@ use Rattle.meta_model.specs.declared.event.Avail.TheVariants as avail
 use Rattle.meta_model.specs.declared.event.Event.{Event}
 use Rattle.meta_model.specs.declared.event.Event.TheVariants as events
 use Rattle.meta_model.specs.declared.event.Logged.{Logged}
-use Rattle.run_core.specs.declared.fate.Fate.{Fate}
-use Rattle.run_core.specs.declared.fate.Fate.TheVariants as fate
+use Rattle.tale_model.specs.declared.fate.Fate.{Fate}
+use Rattle.tale_model.specs.declared.fate.Fate.TheVariants as fate
 use Rattle.meta_model.specs.declared.plan.Plan.{Plan}
-use Rattle.run_core.specs.Fates.{fate_at, fate_by, fates_by, fates_told, task_of}
+use Rattle.tale_model.specs.Fates.{fate_at, fate_by, fates_by, fates_told, task_of}
 use Rattle.run_queue.specs.declared.fault.RunFault.{RunFault}
 use Rattle.run_queue.specs.Keeps.{WasThere, nobody}
-use Rattle.run_queue.specs.Opening.{Opening}
-use Rattle.run_queue.specs.Own.{IsAside, IsOfNone}
+use Rattle.run_model.specs.Opening.{Opening}
+use Rattle.run_model.specs.Own.{IsAside, IsOfNone}
 use Rattle.run_queue.specs.Seen.{Seen}
-use Rattle.run_queue.specs.Stands.{HasStarted, IsTakenUp}
+use Rattle.run_model.specs.Stands.{HasStarted, IsTakenUp}
 
 -- ---- a running task was started
 

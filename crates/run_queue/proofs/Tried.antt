@@ -10,20 +10,24 @@ use Rattle.meta_model.specs.declared.event.Event.TheVariants as events
 use Rattle.meta_model.specs.declared.event.Logged.{Logged}
 use Rattle.meta_model.specs.declared.plan.Options.{Options}
 use Rattle.meta_model.specs.declared.plan.Plan.{Plan}
-use Rattle.bb_report.specs.Runs.{tale_text}
-use Rattle.run_core.specs.Choice.{IsFinished, MayAnswer}
-use Rattle.run_core.specs.declared.fate.Next.TheVariants as next
-use Rattle.run_core.specs.Fates.{HoldsFailure, IsFree, SomeRuns, fates_told}
-use Rattle.run_core.specs.History.{Course, EachAfter, IsOrderly}
-use Rattle.run_core.specs.Need.{IsNeed}
+use Rattle.run_model.specs.Report.{tale_text}
+use Rattle.tale_model.specs.Choice.{IsFinished}
+use Rattle.run_core.specs.Choice.{MayAnswer}
+use Rattle.run_core.specs.declared.next.Next.TheVariants as next
+use Rattle.tale_model.specs.Fates.{HoldsFailure, IsFree, fates_told}
+use Rattle.run_core.specs.Fates.{SomeRuns}
+use Rattle.tale_model.specs.History.{Course, EachAfter}
+use Rattle.run_core.specs.History.{IsOrderly}
+use Rattle.tale_model.specs.Need.{IsNeed}
 use Rattle.run_core.proofs.Agreeing.{answer_across}
-use Rattle.run_queue.specs.Opening.{Opening}
-use Rattle.run_queue.specs.Courses.{IsCourse, IsThere}
+use Rattle.run_model.specs.Opening.{Opening}
+use Rattle.run_model.specs.Courses.{IsCourse, IsThere}
 use Rattle.run_queue.specs.declared.state.Claim.{Claim}
 use Rattle.run_queue.specs.declared.state.Claim.TheVariants as claim
 use Rattle.run_queue.specs.Keeps.{IsFront, IsRun, IsUpToDate, Prints}
 use Rattle.run_queue.specs.Seen.{Known, RunView, Seen, seen}
-use Rattle.run_queue.specs.Turns.{Claims, ClaimsClean, IsAnew, IsAtEnd, Looks, Marks, Settles, TurnsClean, TurnsTo, fates_of}
+use Rattle.run_queue.specs.Turns.{Claims, ClaimsClean, IsAnew, Looks, Marks, Settles, TurnsClean, TurnsTo, fates_of}
+use Rattle.run_model.specs.Outcome.{IsAtEnd}
 use Rattle.run_queue.proofs.Agreement.{agreement}
 use Rattle.run_queue.proofs.Claiming.{agree_waiting}
 
@@ -97,9 +101,9 @@ module _ {D W : Type 0} (old mid : RunView D W) (same : SameTold old mid) where
     is_task = subst (λ (p : Plan). slice_get p.tasks job.task ≡ Some c.task) same.plan c.is_task;
     outputs = c.outputs;
     numbers = c.numbers;
-    clean = subst (λ (p : Plan). Rattle.task_worker.specs.OneTask.AreClean o.gives p.tasks c.outputs) same.plan c.clean;
+    clean = subst (λ (p : Plan). Rattle.run_model.specs.CleanOutputs.AreClean o.gives p.tasks c.outputs) same.plan c.clean;
     script = c.script;
-    layout = subst (λ (p : Plan). job.layout ≡ Rattle.task_worker.specs.Layouts.layout_over p.tasks c.task c.outputs) same.plan c.layout;
+    layout = subst (λ (p : Plan). job.layout ≡ Rattle.run_model.specs.Layouts.layout_over p.tasks c.task c.outputs) same.plan c.layout;
     placing = c.placing;
     within = c.within;
   }

@@ -28,10 +28,11 @@ use Rattle.meta_model.specs.declared.event.Logged.{Logged}
 use Rattle.meta_model.specs.declared.plan.Plan.{Plan}
 use Rattle.meta_model.specs.declared.plan.PlanTask.{PlanTask}
 use Rattle.meta_model.specs.CleanBuild.{Built, Entries, clean_build}
-use Rattle.run_core.specs.declared.fate.Fate.TheVariants as fate
-use Rattle.run_core.specs.Fates.{fate_at, fates_told, is_running, is_settled}
-use Rattle.run_core.specs.History.{Course, EachAfter, IsOrderly, MayCome}
-use Rattle.run_core.specs.Need.{IsIn, deps_in}
+use Rattle.tale_model.specs.declared.fate.Fate.TheVariants as fate
+use Rattle.tale_model.specs.Fates.{fate_at, fates_told, is_running, is_settled}
+use Rattle.tale_model.specs.History.{Course, EachAfter, MayCome}
+use Rattle.run_core.specs.History.{IsOrderly}
+use Rattle.tale_model.specs.Need.{IsIn, deps_in}
 use Rattle.store_model.specs.declared.signature.EquivRow.{EquivRow}
 use Rattle.store_model.specs.Origins.{rows_of}
 use Rattle.store_model.specs.Recording.{NeedsHaveRows}
@@ -39,11 +40,12 @@ use Rattle.store_model.specs.Reuse.{MayReuse}
 use Rattle.store_model.specs.Rows.{row_at}
 use Rattle.store_model.specs.Signatures.{Signed, signatures}
 use Rattle.store_model.specs.Spelling.{name_of}
-use Rattle.build_store.specs.Publication.{IsPublished, Publication, line_for, publication}
-use Rattle.build_store.specs.Sound.{IsReadable}
+use Rattle.build_store.specs.Publication.{IsPublished, line_for, publication}
+use Rattle.store_model.specs.Publication.{Publication}
+use Rattle.store_model.specs.Readable.{IsReadable}
 use Rattle.build_store.specs.View.{SameBooks, View}
-use Rattle.run_queue.specs.Opening.{Opening}
-use Rattle.run_queue.specs.Courses.{IsCourse, clean_says, said}
+use Rattle.run_model.specs.Opening.{Opening}
+use Rattle.run_model.specs.Courses.{IsCourse, clean_says, said}
 use Rattle.run_queue.specs.declared.fault.RunFault.{RunFault}
 use Rattle.run_queue.specs.Asking.{earlier_in, kept_or_meant}
 use Rattle.run_queue.specs.Keeps.{IsRun, IsUpToDate, WasThere, nobody}
@@ -51,7 +53,7 @@ use Rattle.run_queue.specs.Puts.{HasPut, IsCleanOutput, IsSignedAt, Puts}
 use Rattle.setscene_plan.specs.declared.replan.Replan.{Replan}
 use Rattle.setscene_plan.specs.Replans.{IsCurrent}
 use Rattle.run_queue.specs.Seen.{Known, RunView, Seen, known_in, no_meaning, seen}
-use Rattle.run_queue.specs.Stands.{HasEnded}
+use Rattle.run_model.specs.Stands.{HasEnded}
 use Rattle.run_queue.specs.Turns.{IsCleanJob, IsGivenBy, MarksAt, Notes, closed_as}
 use Rattle.run_queue.proofs.Agreement.{running_over}
 use Rattle.run_queue.proofs.Breaking.{running_within}
@@ -230,7 +232,7 @@ module _ {D W : Type 0} (story : D → Story) (written : W → List ℕ) (o : Op
         published : IsPublished (publication (rows_of (book_now o (seen story written old))) x.sg tree) (story old.store.disk).held
         published = (has_put x).published tt (story old.store.disk).held (subst (λ (d : D). story_of.IsImage (story d) (story old.store.disk).held) (sym disk) (held-image (story old.store.disk) sound))
 
-        by : (Rattle.build_store.specs.Laws.HasLine (book_now o (seen story written old)) x.put.line × (x.put.more ≡ []) × ((publication (rows_of (book_now o (seen story written old))) x.sg tree).is_new ≡ false)) ⊎ (Rattle.store_model.specs.Valid.IsValidLine o.gives o.reading (book_now o (seen story written old)) x.put.line × (x.put.more ≡ x.put.line ∷ []) × (row_at (rows_of (book_now o (seen story written old))) (name_of x.sg.sig) ≡ None) × (x.put.line ≡ Rattle.store_model.specs.Recording.recorded (rows_of (book_now o (seen story written old))) x.sg tree)) → x.put.more ≡ []
+        by : (Rattle.store_model.specs.Lines.HasLine (book_now o (seen story written old)) x.put.line × (x.put.more ≡ []) × ((publication (rows_of (book_now o (seen story written old))) x.sg tree).is_new ≡ false)) ⊎ (Rattle.store_model.specs.Valid.IsValidLine o.gives o.reading (book_now o (seen story written old)) x.put.line × (x.put.more ≡ x.put.line ∷ []) × (row_at (rows_of (book_now o (seen story written old))) (name_of x.sg.sig) ≡ None) × (x.put.line ≡ Rattle.store_model.specs.Recording.recorded (rows_of (book_now o (seen story written old))) x.sg tree)) → x.put.more ≡ []
         by (inl known) = known.1
         by (inr new_line) =
             let none = Rattle.run_queue.proofs.Recorded.no_record o.gives o.reading (story old.store.disk).held (book_now o (seen story written old)) x.sg.sig (durable_now o (seen story written old) run faultless (story old.store.disk).held (held-image (story old.store.disk) sound)) new_line.2 in

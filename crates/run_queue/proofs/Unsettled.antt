@@ -13,10 +13,10 @@ use Rattle.meta_model.specs.declared.event.Avail.{Avail}
 use Rattle.meta_model.specs.declared.event.Event.{Event}
 use Rattle.meta_model.specs.declared.event.Logged.{Logged}
 use Rattle.meta_model.specs.declared.plan.Plan.{Plan}
-use Rattle.run_core.specs.declared.fate.Fate.{Fate}
-use Rattle.run_core.specs.declared.fate.Fate.TheVariants as fate
-use Rattle.run_core.specs.Fates.{fate_at, fate_by, fates_told, is_settled, task_of}
-use Rattle.run_core.specs.History.{Course, MayCome}
+use Rattle.tale_model.specs.declared.fate.Fate.{Fate}
+use Rattle.tale_model.specs.declared.fate.Fate.TheVariants as fate
+use Rattle.tale_model.specs.Fates.{fate_at, fate_by, fates_told, is_settled, task_of}
+use Rattle.tale_model.specs.History.{Course, MayCome}
 use Rattle.run_core.proofs.Steps.{told_push}
 use Rattle.store_model.specs.Origins.{Book, rows_of}
 use Rattle.store_model.specs.Premises.{HasNoCollision}
@@ -26,15 +26,17 @@ use Rattle.store_model.specs.Reuse.{MayReuse}
 use Rattle.store_model.specs.Rows.{uni}
 use Rattle.store_model.specs.Signatures.{Signed, signatures}
 use Rattle.store_model.specs.Spelling.{name_of}
-use Rattle.run_queue.specs.Opening.{Opening}
-use Rattle.run_queue.specs.Books.{book_after, book_by, rows_after, signed_after}
-use Rattle.run_queue.specs.Courses.{IsCourse, IsReal}
+use Rattle.run_model.specs.Opening.{Opening}
+use Rattle.run_model.specs.Books.{book_after, book_by, rows_after, signed_after}
+use Rattle.run_model.specs.Courses.{IsCourse}
+use Rattle.run_queue.specs.Courses.{IsReal}
 use Rattle.run_queue.specs.Keeps.{IsRun, Prints, WasThere, nobody}
 use Rattle.run_queue.specs.declared.fault.RunFault.{RunFault}
 use Rattle.run_queue.specs.Seen.{Known, RunView, Seen, seen}
-use Rattle.run_queue.specs.Stands.{AllStand, HasEnded, HasObjects, HasOwnRow, IsSettledIn}
+use Rattle.run_model.specs.Stands.{AllStand, HasEnded, HasOwnRow, IsSettledIn}
+use Rattle.run_queue.specs.Stands.{HasObjects}
 use Rattle.run_queue.specs.Turns.{Marks, MarksAt, Notes}
-use Rattle.bb_report.specs.Runs.{event_line, tale_text}
+use Rattle.run_model.specs.Report.{event_line, tale_text}
 use Rattle.run_queue.proofs.Touched.{aside_on, none_on, started_on, told_on, tried_as}
 use Rattle.run_queue.proofs.Growing.{book_grows, legal_grows}
 use Rattle.run_queue.proofs.Notes.{set_other, set_same}
@@ -180,8 +182,8 @@ unsettled_run o s seat event failed fault written settles run faultless may real
         | inr l ↦ subst (λ (y : Logged). IsReal o.gives s.plan.tasks y.event) (sym l.1) real
       ];
       stored = λ u sg settled is. run.stored u sg (settled_back o s.plan s.tale e settles u settled) is;
-      there = if_some_on s.known (λ (k : Known). (u : ℕ) (a : Avail) → Rattle.run_core.specs.Need.IsIn k.need u → (HasEnded s.plan s.tale u → ⊥) → slice_get k.avail u ≡ Some a → WasThere o s u a)
-          (λ (k : Known). (u : ℕ) (a : Avail) → Rattle.run_core.specs.Need.IsIn k.need u → (HasEnded s.plan (s.tale ++ e ∷ []) u → ⊥) → slice_get k.avail u ≡ Some a → WasThere o later u a)
+      there = if_some_on s.known (λ (k : Known). (u : ℕ) (a : Avail) → Rattle.tale_model.specs.Need.IsIn k.need u → (HasEnded s.plan s.tale u → ⊥) → slice_get k.avail u ≡ Some a → WasThere o s u a)
+          (λ (k : Known). (u : ℕ) (a : Avail) → Rattle.tale_model.specs.Need.IsIn k.need u → (HasEnded s.plan (s.tale ++ e ∷ []) u → ⊥) → slice_get k.avail u ≡ Some a → WasThere o later u a)
           (λ k h u a member not_yet is. h u a member (λ ended. not_yet (ended_on o s.plan s.tale e settles u ended)) is) run.there;
       answered = λ none u a is not_yet. run.answered (faultless none) u a is (λ ended. not_yet (ended_on o s.plan s.tale e settles u ended));
       met = λ u settled not_yet.

@@ -11,7 +11,7 @@ use Rattle.meta_model.specs.declared.plan.PlanTask.{PlanTask}
 use Rattle.meta_model.specs.CleanBuild.{Built, Entries, Gives, Lack, built_over, clean_build, outputs_of, with_output}
 use Rattle.meta_model.specs.Layout.{Needed}
 use Rattle.plan_model.specs.Sound.{AreWanted, IsSound}
-use Rattle.run_core.specs.Need.{deps_in, deps_of}
+use Rattle.tale_model.specs.Need.{deps_in, deps_of}
 use Rattle.run_queue.specs.Laws.{AllHaveOutputs, HasOutput}
 use Rattle.run_queue.proofs.Failing.{has_task}
 

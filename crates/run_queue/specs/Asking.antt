@@ -9,7 +9,7 @@ use Rattle.meta_model.specs.declared.event.Avail.{Avail}
 use Rattle.meta_model.specs.declared.event.Avail.TheVariants.{Missing}
 use Rattle.meta_model.specs.declared.plan.Plan.{Plan}
 use Rattle.meta_model.specs.declared.plan.PlanTask.{PlanTask}
-use Rattle.run_core.specs.Need.{IsIn}
+use Rattle.tale_model.specs.Need.{IsIn}
 use Rattle.store_model.specs.declared.signature.EquivRow.{EquivRow}
 use Rattle.store_model.specs.declared.signature.SigRecord.{SigRecord}
 use Rattle.store_model.specs.Available.{IsAvailable}
@@ -24,7 +24,7 @@ use Rattle.setscene_plan.specs.declared.replan.Replan.{Replan}
 use Rattle.setscene_plan.specs.Replans.{avail_in, need_in, unihashes_in}
 use Rattle.setscene_plan.specs.View.{Says}
 use Rattle.sig_gen.specs.Signing.{signature_by}
-use Rattle.run_queue.specs.Causes.{IsClashOf}
+use Rattle.run_model.specs.Causes.{IsClashOf}
 
 -- ---- what answers mean
 

@@ -11,15 +11,16 @@ use Rattle.meta_model.specs.declared.event.Avail.{Avail}
 use Rattle.meta_model.specs.declared.event.Logged.{Logged}
 use Rattle.meta_model.specs.declared.plan.Options.{Options}
 use Rattle.meta_model.specs.declared.plan.Plan.{Plan}
-use Rattle.run_core.specs.declared.fate.Fate.{Fate}
+use Rattle.tale_model.specs.declared.fate.Fate.{Fate}
 use Rattle.run_core.specs.Fates.{running_count}
-use Rattle.run_core.specs.History.{EachAfter, IsOrderly}
-use Rattle.run_core.specs.Need.{IsIn, IsNeed}
+use Rattle.tale_model.specs.History.{EachAfter}
+use Rattle.run_core.specs.History.{IsOrderly}
+use Rattle.tale_model.specs.Need.{IsIn, IsNeed}
 use Rattle.plan_model.specs.Sound.{IsSound}
 use Rattle.store_model.specs.declared.signature.EquivRow.{EquivRow}
-use Rattle.build_store.specs.Sound.{IsReadable}
+use Rattle.store_model.specs.Readable.{IsReadable}
 use Rattle.store_model.specs.Origins.{Book, Line, rows_of}
-use Rattle.build_store.specs.Laws.{HasLine}
+use Rattle.store_model.specs.Lines.{HasLine}
 use Rattle.meta_model.specs.declared.plan.PlanTask.{PlanTask}
 use Rattle.store_model.specs.Premises.{HasNoCollision}
 use Rattle.store_model.specs.Reuse.{MayReuse}
@@ -33,16 +34,20 @@ use Rattle.setscene_plan.specs.Names.{names_over}
 use Rattle.build_store.specs.View.{View}
 use Rattle.build_store.specs.declared.fault.StoreFault.{StoreFault}
 use Rattle.build_store.specs.declared.fault.StoreFault.TheVariants as fault_of
-use Rattle.bb_report.specs.Runs.{tale_text}
-use Rattle.bb_report.specs.Written.{WritesFront}
+use Rattle.run_model.specs.Report.{tale_text}
+use Rattle.run_model.specs.Written.{WritesFront}
 use Rattle.run_queue.specs.declared.fault.RunFault.{RunFault}
 use Rattle.run_queue.specs.declared.fault.RunFault.TheVariants as ends
-use Rattle.run_queue.specs.Opening.{MayRun, Opening}
-use Rattle.run_queue.specs.Causes.{IsCause, fault_broke}
-use Rattle.run_queue.specs.Books.{book_after, rows_after}
-use Rattle.run_queue.specs.Courses.{IsLegalTale, IsReal}
+use Rattle.run_queue.specs.Opening.{MayRun}
+use Rattle.run_model.specs.Opening.{Opening}
+use Rattle.run_queue.specs.Causes.{IsCause}
+use Rattle.run_model.specs.Causes.{fault_broke}
+use Rattle.run_model.specs.Books.{book_after, rows_after}
+use Rattle.run_model.specs.Courses.{IsLegalTale}
+use Rattle.run_queue.specs.Courses.{IsReal}
 use Rattle.run_queue.specs.Seen.{IsBegun, Known, RunView, Seen}
-use Rattle.run_queue.specs.Stands.{AllStand, HasEnded, HasStarted, IsTakenUp, KeepObjects, IsLeft, IsSettledIn, StandSince}
+use Rattle.run_model.specs.Stands.{AllStand, HasEnded, HasStarted, IsTakenUp, IsSettledIn}
+use Rattle.run_queue.specs.Stands.{KeepObjects, IsLeft, StandSince}
 
 -- ---- in every state
 

@@ -9,17 +9,19 @@ use Rattle.meta_model.specs.declared.plan.Plan.{Plan}
 use Rattle.meta_model.specs.declared.plan.PlanTask.{PlanTask}
 use Rattle.meta_model.specs.CleanBuild.{Built, Entries, Gives, clean_build, is_beyond_layout, fails as own_failure}
 use Rattle.meta_model.specs.declared.event.Why.{Why}
-use Rattle.run_core.specs.declared.fate.Next.{Next}
+use Rattle.run_core.specs.declared.next.Next.{Next}
 use Rattle.plan_model.specs.Sound.{AreWanted, IsSound}
 use Rattle.run_core.specs.Choice.{MayAnswer}
-use Rattle.run_core.specs.Fates.{HoldsFailure, IsFree, fate_at, fates_told}
-use Rattle.run_core.specs.declared.fate.Fate.TheVariants.{Running}
+use Rattle.tale_model.specs.Fates.{HoldsFailure, IsFree, fate_at, fates_told}
+use Rattle.tale_model.specs.declared.fate.Fate.TheVariants.{Running}
 use Rattle.task_worker.specs.declared.given.Given.{Given}
 use Rattle.task_worker.specs.declared.given.Job.{Job}
 use Rattle.task_worker.specs.Jobs.{job_output}
-use Rattle.task_worker.specs.Layouts.{layout_over}
-use Rattle.task_worker.specs.OneTask.{AreClean, job_of}
-use Rattle.run_core.specs.History.{Course, EachAfter, IsOrderly, MayCome, layout_too_large, marked_for}
+use Rattle.run_model.specs.Layouts.{layout_over}
+use Rattle.run_model.specs.CleanOutputs.{AreClean}
+use Rattle.task_worker.specs.OneTask.{job_of}
+use Rattle.tale_model.specs.History.{Course, EachAfter, MayCome, layout_too_large}
+use Rattle.run_core.specs.History.{IsOrderly, marked_for}
 use Rattle.store_model.specs.Available.{HoldsClean, work_folder}
 use Rattle.meta_model.specs.declared.event.Event.TheVariants as events
 use Rattle.store_model.specs.declared.signature.EquivRow.{EquivRow}
@@ -30,12 +32,14 @@ use Rattle.store_model.specs.Recording.{NeedsHaveRows, recorded, with_record}
 use Rattle.store_model.specs.Rows.{row_at}
 use Rattle.store_model.specs.Signatures.{Signed, signatures}
 use Rattle.store_model.specs.Spelling.{name_of}
-use Rattle.run_queue.specs.Opening.{MayRun, Opening}
-use Rattle.run_queue.specs.Books.{book_after, book_by}
-use Rattle.run_queue.specs.Courses.{IsCourse, IsLegalTale, clean_says, said}
+use Rattle.run_queue.specs.Opening.{MayRun}
+use Rattle.run_model.specs.Opening.{Opening}
+use Rattle.run_model.specs.Books.{book_after, book_by}
+use Rattle.run_model.specs.Courses.{IsCourse, IsLegalTale, clean_says, said}
 use Rattle.run_queue.specs.Keeps.{IsRun, IsUpToDate}
 use Rattle.run_queue.specs.Seen.{Known, Seen}
-use Rattle.run_queue.specs.Turns.{IsAtEnd, IsCleanJob, IsGivenBy, closed_as}
+use Rattle.run_model.specs.Outcome.{IsAtEnd}
+use Rattle.run_queue.specs.Turns.{IsCleanJob, IsGivenBy, closed_as}
 
 -- how the state of a run begins, as plain values, over an opening
 abbrev pub at_begin : Opening → Plan → Options → List ℕ → Seen

@@ -1,9 +1,7 @@
 pub mod Opening
-pub mod Books
 pub mod Courses
 pub mod Seen
 pub mod Outputs
-pub mod Own
 pub mod Stands
 pub mod Causes
 pub mod Keeps

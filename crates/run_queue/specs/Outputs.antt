@@ -7,7 +7,7 @@ use Rattle.meta_model.specs.CleanBuild.{Entries, is_beyond_layout}
 use Rattle.store_model.specs.Available.{work_folder}
 use Rattle.build_store.specs.Finding.{IsOutput}
 use Rattle.task_worker.specs.declared.given.Job.{Job}
-use Rattle.task_worker.specs.Layouts.{layout_over}
+use Rattle.run_model.specs.Layouts.{layout_over}
 use Rattle.task_worker.specs.OneTask.{placing_of}
 
 -- the output of the task of a number was read back

@@ -9,8 +9,9 @@ use Rattle.meta_model.specs.CleanBuild.{Built, Entries, Gives, clean_build}
 use Rattle.store_model.specs.declared.signature.EquivRow.{EquivRow}
 use Rattle.store_model.specs.Signatures.{Signed, signatures}
 use Rattle.store_model.specs.Available.{task_folder}
-use Rattle.build_store.specs.Publication.{HasNoObject, IsPublished, IsRestored, KeepsOthers, Publication, Publishes, Restores, publication, rows_with}
-use Rattle.run_queue.specs.Courses.{clean_says, said}
+use Rattle.build_store.specs.Publication.{HasNoObject, IsPublished, IsRestored, KeepsOthers, Publishes, Restores, publication, rows_with}
+use Rattle.store_model.specs.Publication.{Publication}
+use Rattle.run_model.specs.Courses.{clean_says, said}
 
 -- What it does to the disk, whatever is answered.
 pub record Puts (tells : Type 0) (old new : Story) (p : Publication) : Type 0 where

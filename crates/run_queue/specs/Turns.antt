@@ -1,39 +1,38 @@
 -- What one turn does to a run's tale.
-use Rattle.std.specs.Prelude.{◌≡◌, ◌⊎◌, ◌-◌, ◌^◌, min, ℕ, Bool, false, List, [], ◌∷◌, ◌++◌, length, set, Option, Some, None, IsSome, Result, Ok, Err}
+use Rattle.std.specs.Prelude.{◌≡◌, ◌⊎◌, ◌-◌, ◌^◌, min, ℕ, false, List, [], ◌∷◌, ◌++◌, length, set, Option, Some, None, IsSome, Result, Ok, Err, map}
 use Rattle.std.specs.List.{slice_get}
-use Rattle.meta_model.specs.declared.event.Avail.{Avail}
+use Rattle.tree_model.specs.declared.text.Mem.{Mem}
+use Rattle.outside_traits.specs.Story.{Story, moment}
 use Rattle.meta_model.specs.declared.event.Avail.TheVariants.{Missing}
 use Rattle.meta_model.specs.declared.event.Cut.TheVariants as cut
 use Rattle.meta_model.specs.declared.event.Event.{Event}
 use Rattle.meta_model.specs.declared.event.Event.TheVariants as events
 use Rattle.meta_model.specs.declared.event.Logged.{Logged}
 use Rattle.meta_model.specs.declared.event.Why.TheVariants as why
-use Rattle.meta_model.specs.declared.plan.Options.{Options}
-use Rattle.meta_model.specs.declared.plan.Plan.{Plan}
 use Rattle.meta_model.specs.declared.plan.PlanTask.{PlanTask}
 use Rattle.meta_model.specs.CleanBuild.{Gives, is_beyond_layout}
-use Rattle.tree_model.specs.declared.text.Mem.{Mem}
-use Rattle.outside_traits.specs.Story.{Story, moment}
-use Rattle.run_core.specs.declared.fate.Fate.TheVariants.{Running}
-use Rattle.run_core.specs.declared.fate.Next.{Next}
-use Rattle.run_core.specs.Choice.{IsFinished, MayAnswer}
-use Rattle.run_core.specs.Fates.{HoldsFailure, SomeRuns, fate_at, fates_told}
-use Rattle.run_core.specs.History.{Course}
-use Rattle.run_core.specs.Need.{IsNeed}
+use Rattle.tale_model.specs.declared.fate.Fate.TheVariants.{Running}
+use Rattle.tale_model.specs.Choice.{IsFinished}
+use Rattle.tale_model.specs.Fates.{HoldsFailure, fate_at, fates_told}
+use Rattle.tale_model.specs.History.{Course}
+use Rattle.run_model.specs.Layouts.{layout_over}
+use Rattle.run_model.specs.CleanOutputs.{AreClean}
+use Rattle.run_model.specs.Courses.{IsCourse}
+use Rattle.run_model.specs.Opening.{Opening}
+use Rattle.run_model.specs.Outcome.{IsAtEnd}
+use Rattle.run_core.specs.declared.next.Next.{Next}
+use Rattle.run_core.specs.Choice.{MayAnswer}
+use Rattle.run_core.specs.Fates.{SomeRuns}
 use Rattle.build_store.specs.View.{SameBooks}
 use Rattle.task_worker.specs.declared.given.Given.{Given}
 use Rattle.task_worker.specs.declared.given.Given.TheVariants as given
 use Rattle.task_worker.specs.declared.given.Job.{Job}
 use Rattle.task_worker.specs.Jobs.{job_output, outcome_of}
-use Rattle.task_worker.specs.Layouts.{layout_over}
-use Rattle.task_worker.specs.OneTask.{AreClean, placing_of}
-use Rattle.std.specs.Prelude.{map}
+use Rattle.task_worker.specs.OneTask.{placing_of}
 use Rattle.run_queue.specs.declared.restoring.Restoring.{Restoring}
 use Rattle.run_queue.specs.declared.restoring.Restoring.TheVariants as restoring
 use Rattle.run_queue.specs.declared.state.Claim.{Claim}
 use Rattle.run_queue.specs.declared.state.Claim.TheVariants as claim
-use Rattle.run_queue.specs.Courses.{IsCourse}
-use Rattle.run_queue.specs.Opening.{Opening}
 use Rattle.run_queue.specs.Seen.{Known, RunView, Seen}
 
 -- one event more, marked by a seat
@@ -52,15 +51,8 @@ pub record Begins (seat : ℕ) (tasks : List PlanTask) (old new : List Logged) (
 abbrev pub Settles : ℕ → ℕ → List Logged → List Logged → Type 0
 Settles seat t old new = Marks seat (events.Found t) old new ⊎ (Marks seat (events.Restored t) old new ⊎ Marks seat (events.Failed t why.TooLarge) old new)
 
-abbrev pub fates_of : {D W : Type 0} → RunView D W → List Rattle.run_core.specs.declared.fate.Fate.Fate
+abbrev pub fates_of : {D W : Type 0} → RunView D W → List Rattle.tale_model.specs.declared.fate.Fate.Fate
 fates_of s = fates_told (length s.plan.tasks) s.tale
-
--- the run is finished, by some lists of what is needed and there that fit each other
-pub record IsAtEnd (plan : Plan) (options : Options) (tale : List Logged) : Type 0 where
-  pub need : List Bool
-  pub avail : List Avail
-  pub needed : IsNeed plan avail need
-  pub finished : IsFinished options plan.tasks need avail (fates_told (length plan.tasks) tale)
 
 -- What a claim does, by its answer. With Wait another seat's task runs. Stopped comes only where a task failed without `keep_going`, or a
 -- fault is kept.

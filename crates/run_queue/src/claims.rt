@@ -2,9 +2,9 @@
 ghost use Rattle.std.specs.Prelude.{◌≡◌, ◌<◌, ◌≤◌, IfSome, IsSome, MatchBool, None, Ok, Some};
 ghost use Rattle.std.specs.List.{slice_get};
 ghost use Rattle.meta_model.specs.declared.event.Avail.TheVariants as avails;
-ghost use Rattle.run_core.specs.Fates.{IsFree};
-ghost use Rattle.run_core.specs.declared.fate.Next.TheVariants as next;
-ghost use Rattle.run_queue.specs.Opening.{Opening};
+ghost use Rattle.tale_model.specs.Fates.{IsFree};
+ghost use Rattle.run_core.specs.declared.next.Next.TheVariants as next;
+ghost use Rattle.run_model.specs.Opening.{Opening};
 ghost use Rattle.run_queue.specs.Keeps.{IsRun, IsSteady, KeepsCount, KeepsFront, PrintsOn};
 ghost use Rattle.run_queue.specs.Seen.{seen};
 ghost use Rattle.run_queue.specs.Turns.{Claims, ClaimsClean, MayDo, RestsAfterFault, SameRun, TurnsClean, TurnsTo, fates_of};

@@ -1,6 +1,6 @@
 // What is known of the plan's tasks.
 ghost use Rattle.std.specs.Prelude.{◌≡◌, IfOk, IsSome, MatchBool, None, OnErr};
-ghost use Rattle.run_queue.specs.Opening.{Opening};
+ghost use Rattle.run_model.specs.Opening.{Opening};
 ghost use Rattle.run_queue.specs.Seen.{seen};
 ghost use Rattle.run_queue.specs.Keeps.{IsRun, IsSteady};
 ghost use Rattle.run_queue.specs.Turns.{Looks};

@@ -1,8 +1,8 @@
 // A ready task is started.
 ghost use Rattle.std.specs.Prelude.{◌≡◌, None};
-ghost use Rattle.run_core.specs.Fates.{IsFree};
-ghost use Rattle.run_core.specs.declared.fate.Next.TheVariants as next;
-ghost use Rattle.run_queue.specs.Opening.{Opening};
+ghost use Rattle.tale_model.specs.Fates.{IsFree};
+ghost use Rattle.run_core.specs.declared.next.Next.TheVariants as next;
+ghost use Rattle.run_model.specs.Opening.{Opening};
 ghost use Rattle.run_queue.specs.Seen.{seen};
 ghost use Rattle.run_queue.specs.Keeps.{IsRun, IsSteady, KeepsCount, KeepsFront, PrintsOn};
 ghost use Rattle.run_queue.specs.Turns.{Claims, ClaimsClean, MayDo, SameRun, fates_of};

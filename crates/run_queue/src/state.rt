@@ -1,16 +1,17 @@
 // The state of a run.
 ghost use Rattle.std.specs.Prelude.{◌≡◌, ◌++◌, List, ℕ, true, ◌<◌, ◌≤◌, [], Ok, IfOk, IfErr, OnOk, OnErr, IsSome, Some, None, false, length, replicate};
 ghost use Rattle.outside_traits.specs.Fault.{Counts};
-ghost use Rattle.run_core.specs.Fates.{fate_at, fate_by, is_running, task_of};
+ghost use Rattle.tale_model.specs.Fates.{fate_at, fate_by, is_running, task_of};
 ghost use Rattle.run_core.specs.History.{IsInOrder};
-ghost use Rattle.run_core.specs.declared.fate.Fate.TheVariants.{Waiting};
+ghost use Rattle.tale_model.specs.declared.fate.Fate.TheVariants.{Waiting};
 ghost use Rattle.plan_model.specs.Sound.{IsSound};
-ghost use Rattle.run_queue.specs.Opening.{Opening, MayRun};
+ghost use Rattle.run_model.specs.Opening.{Opening};
+ghost use Rattle.run_queue.specs.Opening.{MayRun};
 ghost use Rattle.run_queue.specs.Seen.{seen};
-ghost use Rattle.build_store.specs.Sound.{HoldsRecords};
-ghost use Rattle.run_queue.specs.Causes.{is_fault_break};
+ghost use Rattle.store_model.specs.Readable.{HoldsRecords};
+ghost use Rattle.run_model.specs.Causes.{is_fault_break};
 ghost use Rattle.run_queue.specs.Keeps.{Begun, IsFront, IsOpening, IsRun, IsState, IsSteady, KeepsCount, KeepsFront, Prints, PrintsOn};
-ghost use Rattle.bb_report.specs.Runs.{event_line};
+ghost use Rattle.run_model.specs.Report.{event_line};
 ghost use Rattle.run_queue.specs.Turns.{Marks, MarksAt, Notes, RunsUnder, SameButSink, SameRun, fates_of};
 ghost use Rattle.meta_model.specs.declared.event.Event.TheVariants as events;
 
@@ -63,7 +64,7 @@ impl<D: Disk, W: Sink> Model for RunState<D, W> {
 
     ghost Value = { RunView D W };
 
-    ghost use Rattle.run_core.specs.Fates.{fates_told};
+    ghost use Rattle.tale_model.specs.Fates.{fates_told};
     ghost use Rattle.std.specs.Prelude.{None, IfSome, vec_capacity};
     ghost use Rattle.std.specs.Option.{option_map};
     ghost use Rattle.setscene_plan.specs.Replans.{IsCurrent};

@@ -21,9 +21,9 @@ use Rattle.meta_model.specs.Needs.{Task, Needs}
 use Rattle.meta_model.specs.GraphRefusal.{GraphRefusal, target_task}
 use Rattle.meta_model.specs.TaskGraph.{IsReached, IsGraph, HasNoRefusal, node_task}
 use Rattle.task_graph.specs.Reached.{IsGraphRefusal}
-use Rattle.run_targets.specs.Refused.{IsGraphStatus, lacking, cycle, many}
-use Rattle.run_targets.specs.Asked.{Asked}
-use Rattle.run_targets.specs.Runs.{HasGraph}
+use Rattle.answer_model.specs.GraphStatus.{IsGraphStatus, lacking, cycle, many}
+use Rattle.answer_model.specs.RunAsked.{Asked}
+use Rattle.answer_model.specs.Runs.{HasGraph}
 
 -- nothing is asked for that nobody has
 no_lack : (facts : FactSet) (targets : List Target) (refusal : GraphRefusal) → HasNoRefusal facts targets → IsGraphRefusal facts targets refusal → ⊥

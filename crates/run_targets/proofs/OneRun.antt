@@ -6,9 +6,10 @@ use Rattle.meta_model.specs.declared.event.Status.{Status}
 use Rattle.meta_model.specs.declared.facts.Graph.{Graph}
 use Rattle.meta_model.specs.Threads.{AreThreads}
 use Rattle.load_model.specs.Loading.{sources_of}
-use Rattle.run_targets.specs.Refused.{IsGraphStatus}
-use Rattle.run_targets.specs.Asked.{Asked, asked, threads_text}
-use Rattle.run_targets.specs.Runs.{IsRun, IsRunRefused, asking, graph as no_graph, value as no_value, threads as no_threads}
+use Rattle.answer_model.specs.GraphStatus.{IsGraphStatus}
+use Rattle.answer_model.specs.RunAsked.{Asked, asked, threads_text}
+use Rattle.answer_model.specs.Runs.{IsRun, IsRunRefused, asking, graph as no_graph}
+use Rattle.run_targets.specs.Runs.{value as no_value, threads as no_threads}
 use Rattle.run_targets.proofs.AnyGraph.{graph_stands}
 
 -- an answer is one

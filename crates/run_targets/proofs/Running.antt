@@ -5,9 +5,10 @@ use Rattle.meta_model.specs.declared.event.Status.TheVariants.{OutOfMemory}
 use Rattle.meta_model.specs.declared.facts.Graph.{Graph}
 use Rattle.load_model.specs.Loading.{sources_of}
 use Rattle.project_reading.specs.Answered.{IsRefusedAs}
-use Rattle.run_targets.specs.Refused.{IsGraphStatus}
-use Rattle.run_targets.specs.Asked.{Asked, asked}
-use Rattle.run_targets.specs.Runs.{HasGraph, HasNoThreads, IsDeviceStatus, HasRun, HasNoRun, device, no_graph, no_threads, IsRun, asking, graph as graph_refused, IsNoRun}
+use Rattle.answer_model.specs.GraphStatus.{IsGraphStatus}
+use Rattle.answer_model.specs.RunAsked.{Asked, asked}
+use Rattle.answer_model.specs.Runs.{HasGraph, IsRun, asking, graph as graph_refused}
+use Rattle.run_targets.specs.Runs.{HasNoThreads, IsDeviceStatus, HasRun, HasNoRun, device, no_graph, no_threads, IsNoRun}
 use Rattle.run_targets.proofs.Told.{threads_refused}
 
 -- the targets have no graph

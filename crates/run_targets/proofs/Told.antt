@@ -9,13 +9,14 @@ use Rattle.meta_model.specs.GraphRefusal.{nothing_provides, several_provide, no_
 use Rattle.meta_model.specs.Threads.{AreThreads}
 use Rattle.load_model.specs.Loading.{sources_of}
 use Rattle.project_reading.specs.Faults.{IsAnswered, fault_status}
-use Rattle.project_reading.specs.Said.{threads_status}
+use Rattle.answer_model.specs.Said.{threads_status}
 use Rattle.task_graph.specs.Reached.{IsGraphFault}
 use Rattle.task_graph.specs.declared.fault.GraphFault.{GraphFault}
 use Rattle.task_graph.specs.declared.fault.GraphFault.TheVariants.{NoSuchTask, TaskCycle, NothingProvides, SeveralProvide, Tasks, BadThreads, Memory}
-use Rattle.run_targets.specs.Refused.{IsGraphStatus, lacking, cycle, many}
-use Rattle.run_targets.specs.Asked.{Asked, asked, threads_text}
-use Rattle.run_targets.specs.Runs.{HasGraph, IsDeviceStatus, HasNoThreads, value, threads, IsRunRefused, value as no_value_of, threads as no_threads_of}
+use Rattle.answer_model.specs.GraphStatus.{IsGraphStatus, lacking, cycle, many}
+use Rattle.answer_model.specs.RunAsked.{Asked, asked, threads_text}
+use Rattle.answer_model.specs.Runs.{HasGraph, IsRunRefused}
+use Rattle.run_targets.specs.Runs.{IsDeviceStatus, HasNoThreads, value, threads, value as no_value_of, threads as no_threads_of}
 
 -- the status of a fault of the graph
 pub graph_told : (facts : FactSet) (targets : List Target) (fault : GraphFault) (status : Status) → IsGraphFault facts targets fault → IsAnswered status (fault_status fault) → (status ≡ OutOfMemory) ⊎ IsGraphStatus facts targets status

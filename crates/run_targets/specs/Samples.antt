@@ -4,7 +4,7 @@ use Rattle.meta_model.specs.declared.facts.Target.{Target}
 use Rattle.meta_model.specs.declared.event.Status.{Status}
 use Rattle.load_model.specs.LoadRefusal.{◌>>=◌}
 use Rattle.load_model.specs.LoadSamples.{Files, sample}
-use Rattle.run_targets.specs.Asked.{asked}
+use Rattle.answer_model.specs.RunAsked.{asked}
 
 -- the targets of words over these files
 abbrev pub targets_over : Files → List (List ℕ) → Option (List ℕ) → Result (List Target) Status

@@ -5,8 +5,9 @@ ghost use Rattle.outside_traits.specs.Fault.{Counts};
 ghost use Rattle.outside_traits.specs.Store.{IsListing, SameFiles};
 ghost use Rattle.load_model.specs.Loading.{sources_of};
 ghost use Rattle.layer_conf.specs.Config.{config_meant};
-ghost use Rattle.project_reading.specs.Answered.{IsRefusedAs, is_refusal, mode_failed};
-ghost use Rattle.run_targets.specs.Asked as meant;
+ghost use Rattle.project_reading.specs.Answered.{IsRefusedAs, mode_failed};
+ghost use Rattle.answer_model.specs.Answers.{is_refusal};
+ghost use Rattle.answer_model.specs.RunAsked as meant;
 ghost use Rattle.run_targets.specs.Meaning.{asked_meant};
 
 use crate::targets::targets_of;

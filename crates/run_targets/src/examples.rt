@@ -3,10 +3,10 @@ ghost use Rattle.std.specs.Prelude.{◌≡◌, ◌∷◌, [], Some, None, Ok, Er
 ghost use Rattle.meta_model.specs.declared.entry.Op.TheVariants.{Set as Assigned, Weak};
 ghost use Rattle.meta_model.specs.declared.entry.EntryLine.TheVariants.{Set};
 ghost use Rattle.meta_model.specs.GraphRefusal.{no_such_task, nothing_provides, several_provide};
-ghost use Rattle.bb_report.specs.Texts.{fault_text};
-ghost use Rattle.run_targets.specs.Targets.{target_of};
-ghost use Rattle.project_reading.specs.Said.{cycle_status, lack_status, threads_status, too_many_status};
-ghost use Rattle.run_targets.specs.Asked.{default_task, targets_of};
+ghost use Rattle.run_model.specs.Texts.{fault_text};
+ghost use Rattle.answer_model.specs.Targets.{target_of};
+ghost use Rattle.answer_model.specs.Said.{cycle_status, lack_status, threads_status, too_many_status};
+ghost use Rattle.answer_model.specs.RunAsked.{default_task, targets_of};
 
 /// The target that a word means.
 pub fn example_of_targets()

@@ -2,11 +2,13 @@
 ghost use Rattle.std.specs.Prelude.{◌≡◌, ◌⊎◌, ℕ, true, false, IfOk, IfErr};
 ghost use Rattle.meta_model.specs.declared.event.Status.TheVariants.{OutOfMemory};
 ghost use Rattle.meta_model.specs.Threads.{AreThreads};
-ghost use Rattle.project_reading.specs.Answered.{is_refusal, mode_failed};
-ghost use Rattle.project_reading.specs.Said.{threads_status};
-ghost use Rattle.run_targets.specs.Refused.{IsGraphStatus};
+ghost use Rattle.answer_model.specs.Answers.{is_refusal};
+ghost use Rattle.project_reading.specs.Answered.{mode_failed};
+ghost use Rattle.answer_model.specs.Said.{threads_status};
+ghost use Rattle.answer_model.specs.GraphStatus.{IsGraphStatus};
 ghost use Rattle.run_targets.specs.Meaning.{asked_meant};
-ghost use Rattle.run_targets.specs.Runs.{HasGraph, HasNoThreads, HasThreads, IsDeviceStatus};
+ghost use Rattle.answer_model.specs.Runs.{HasGraph, HasThreads};
+ghost use Rattle.run_targets.specs.Runs.{HasNoThreads, IsDeviceStatus};
 
 use crate::asked::{Asked, config_text};
 use meta_model::{Graph, Status};

@@ -4,8 +4,8 @@ ghost use Rattle.meta_model.specs.declared.event.Status.{Status as End};
 ghost use Rattle.meta_model.specs.declared.facts.Graph.{Graph as Tasks};
 ghost use Rattle.outside_traits.specs.Store.{IsListing};
 ghost use Rattle.load_model.specs.Loading.{sources_of};
-ghost use Rattle.run_targets.specs.Asked.{Asked as What};
-ghost use Rattle.run_targets.specs.Runs.{IsRun, IsRunRefused};
+ghost use Rattle.answer_model.specs.RunAsked.{Asked as What};
+ghost use Rattle.answer_model.specs.Runs.{IsRun, IsRunRefused};
 
 /// Words that have a run of one project aren't refused: their graph has no refusal, no cycle and no more tasks than a graph may
 /// have.

@@ -1,7 +1,7 @@
 //! The run that words have: what they ask for, the graph of their tasks, and the number of threads.
 //!
-//! The definitions stand in `specs/`: the target that a word means (`Targets`), what words ask for (`Asked`), which words have a run
-//! and with which status others are refused (`Runs`, `Refused`). `examples` and `project_examples` work some of them out.
+//! The definitions stand in `answer_model`: the target that a word means (`Targets`), what words ask for (`RunAsked`), which words have a
+//! run and with which status others are refused (`Runs`, `GraphStatus`). `examples` and `project_examples` work some of them out.
 //!
 //! Promised of `find_run`, for layers that tell what they hold: the answer is the run that the words have, and each refusal is that of
 //! the words, the first in the stated order. `run_law` says that words which have a run aren't refused. `ReadFault` comes only where

@@ -4,9 +4,11 @@ ghost use Rattle.std.specs.Option.{option_copied};
 ghost use Rattle.outside_traits.specs.Fault.{Counts};
 ghost use Rattle.outside_traits.specs.Store.{IsListing, SameFiles};
 ghost use Rattle.load_model.specs.Loading.{sources_of};
-ghost use Rattle.project_reading.specs.Answered.{is_refusal, mode_failed};
+ghost use Rattle.answer_model.specs.Answers.{is_refusal};
+ghost use Rattle.project_reading.specs.Answered.{mode_failed};
 ghost use Rattle.run_targets.specs.Meaning.{asked_meant};
-ghost use Rattle.run_targets.specs.Runs.{HasNoRun, HasRun, IsNoRun, IsRun};
+ghost use Rattle.run_targets.specs.Runs.{HasNoRun, HasRun, IsNoRun};
+ghost use Rattle.answer_model.specs.Runs.{IsRun};
 
 use crate::asked::{Asked, read_asked};
 use crate::graph::{graph_of, number_of_threads};
@@ -64,7 +66,7 @@ fn run_of(alloc: Global, asked: Asked) -> Result<Run, Status>
 /// Finds the run that words have. `task` is the task of targets that name none, as the option `-c` gives it; where it isn't given,
 /// BB_DEFAULT_TASK of the configuration counts.
 ///
-/// - `Metadata` and `Limit`: as `specs/Runs.antt` says (`IsRunRefused`): the configuration, the recipes, the default task, a word of
+/// - `Metadata` and `Limit`: as `answer_model` says (`IsRunRefused`): the configuration, the recipes, the default task, a word of
 ///   another configuration, the graph and the number of threads, in this order.
 /// - `ReadFault`: only where the layers' count of faults rose in the call.
 /// - `OutOfMemory`: memory ran out.

@@ -1,9 +1,10 @@
 // The targets that words name.
 ghost use Rattle.std.specs.Prelude.{◌≡◌, true, false, Ok, IfOk, IfErr};
 ghost use Rattle.meta_model.specs.Grammar.{task_of};
-ghost use Rattle.project_reading.specs.Answered.{IsRefusedAs, is_refusal, mode_failed};
-ghost use Rattle.run_targets.specs.Targets as targets;
-ghost use Rattle.run_targets.specs.Asked as asked;
+ghost use Rattle.project_reading.specs.Answered.{IsRefusedAs, mode_failed};
+ghost use Rattle.answer_model.specs.Answers.{is_refusal};
+ghost use Rattle.answer_model.specs.Targets as targets;
+ghost use Rattle.answer_model.specs.RunAsked as asked;
 
 use meta_model::{Status, Target, task_name};
 use project_reading::{nothing_provides, or_status};

@@ -8,14 +8,15 @@ use Rattle.meta_model.specs.declared.event.Avail.{Avail}
 use Rattle.meta_model.specs.declared.event.Event.TheVariants as events
 use Rattle.meta_model.specs.declared.event.Why.{Why}
 use Rattle.meta_model.specs.declared.plan.Options.{Options}
-use Rattle.run_core.specs.declared.fate.Fate.{Fate}
-use Rattle.run_core.specs.declared.fate.Fate.TheVariants.{Waiting, Running, Failed}
-use Rattle.run_core.specs.declared.fate.Next.TheVariants as next
+use Rattle.tale_model.specs.declared.fate.Fate.{Fate}
+use Rattle.tale_model.specs.declared.fate.Fate.TheVariants.{Waiting, Running, Failed}
+use Rattle.run_core.specs.declared.next.Next.TheVariants as next
 use Rattle.run_core.specs.declared.front.Front.{Front}
 use Rattle.run_core.specs.Candidates.{ChangesOnly, Covers}
 use Rattle.run_core.specs.Choice.{MayAnswer}
-use Rattle.run_core.specs.Fates.{CanMark, fate_at, is_running, is_settled, NoneRuns}
-use Rattle.run_core.specs.Need.{IsIn}
+use Rattle.run_core.specs.Fates.{CanMark}
+use Rattle.tale_model.specs.Fates.{fate_at, is_running, is_settled, NoneRuns}
+use Rattle.tale_model.specs.Need.{IsIn}
 use Rattle.run_core.proofs.Marking.{fate_kept, fate_set}
 use Rattle.setscene_plan.specs.declared.replan.Replan.{Replan}
 use Rattle.setscene_plan.specs.Replans.{IsCurrent, avail_in, need_in, told_in}

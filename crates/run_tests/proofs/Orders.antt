@@ -3,7 +3,8 @@ use Rattle.std.proofs.Common.{sym, ap, subst, ℕ, ◌<◌, ◌≤◌, arith, Li
 use Rattle.std.proofs.lemmas.Option.{slice_get_past}
 use Rattle.std.proofs.lemmas.Bool.{cases_lt}
 use Rattle.meta_model.specs.declared.plan.PlanTask.{PlanTask}
-use Rattle.run_core.specs.Need.{AreOrdered, deps_in, deps_of}
+use Rattle.run_core.specs.Need.{AreOrdered}
+use Rattle.tale_model.specs.Need.{deps_in, deps_of}
 
 pub ordered_all : (tasks : List PlanTask) (count : ℕ) → length tasks ≤ count → ((t : ℕ) → t < count → All (λ d. d < t) (deps_of tasks t)) → AreOrdered tasks
 ordered_all tasks count past each t = elim (cases_lt t count) [

@@ -1,10 +1,10 @@
 -- A run of one seat, and what it knows.
 use Rattle.std.specs.Prelude.{◌≡◌, ℕ, ◌<◌, ◌≤◌, ◌⊎◌, List, All, length, Contains}
 use Rattle.meta_model.specs.declared.plan.Plan.{Plan}
-use Rattle.run_core.specs.declared.fate.Fate.{Fate}
-use Rattle.run_core.specs.declared.fate.Fate.TheVariants.{Waiting}
+use Rattle.tale_model.specs.declared.fate.Fate.{Fate}
+use Rattle.tale_model.specs.declared.fate.Fate.TheVariants.{Waiting}
 use Rattle.run_core.specs.Candidates.{Covers}
-use Rattle.run_core.specs.Fates.{fate_at, NoneRuns}
+use Rattle.tale_model.specs.Fates.{fate_at, NoneRuns}
 use Rattle.run_core.specs.Need.{AreOrdered}
 use Rattle.setscene_plan.specs.declared.replan.Replan.{Replan}
 use Rattle.setscene_plan.specs.Asked.{SameAt}

@@ -13,15 +13,15 @@ use Rattle.meta_model.specs.declared.plan.Plan.{Plan}
 use Rattle.tree_model.specs.declared.text.Mem.{Mem}
 use Rattle.task_worker.specs.declared.given.Given.{Given}
 use Rattle.task_worker.specs.declared.given.Job.{Job}
-use Rattle.task_worker.specs.Layouts.{layout_over}
-use Rattle.task_worker.specs.OneTask.{AreClean}
+use Rattle.run_model.specs.Layouts.{layout_over}
+use Rattle.run_model.specs.CleanOutputs.{AreClean}
 use Rattle.run_queue.specs.declared.state.Claim.{Claim}
 use Rattle.run_queue.specs.declared.state.Claim.TheVariants as claim
-use Rattle.run_queue.specs.Opening.{Opening}
+use Rattle.run_model.specs.Opening.{Opening}
 use Rattle.run_queue.specs.Seen.{RunView, Seen}
 use Rattle.run_queue.specs.Turns.{Claims, ClaimsClean, Ends, IsCleanJob, Marks, closed_as}
 use Rattle.run_workers.specs.declared.shared.Told.{Told}
-use Rattle.run_workers.specs.Runs.{IsScriptOf}
+use Rattle.run_model.specs.Runs.{IsScriptOf}
 use Rattle.run_workers.specs.Seats.{AddsBy, EndAdds, ended_as, IsCleanClaim, IsScripted}
 use Rattle.run_workers.specs.Told.{tell}
 

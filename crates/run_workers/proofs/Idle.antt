@@ -3,9 +3,9 @@ use Rattle.std.proofs.Common.{◌≡◌, ◌≢◌, sym, ◌∙◌, ap, refl, �
 use Rattle.std.proofs.lemmas.Bool.{cases_eq}
 use Rattle.meta_model.specs.declared.event.Event.TheVariants as events
 use Rattle.meta_model.specs.declared.event.Logged.{Logged}
-use Rattle.run_core.specs.declared.fate.Fate.{Fate}
-use Rattle.run_core.specs.declared.fate.Fate.TheVariants.{Waiting, Running, Found, Restored, Ended, Failed}
-use Rattle.run_core.specs.Fates.{fate_at, is_running, NoneRuns}
+use Rattle.tale_model.specs.declared.fate.Fate.{Fate}
+use Rattle.tale_model.specs.declared.fate.Fate.TheVariants.{Waiting, Running, Found, Restored, Ended, Failed}
+use Rattle.tale_model.specs.Fates.{fate_at, is_running, NoneRuns}
 use Rattle.run_core.specs.History.{last_of}
 use Rattle.turn_lock.specs.declared.rule.Record.{Record}
 use Rattle.turn_lock.specs.Totals.{once}

@@ -8,7 +8,7 @@ use Rattle.outside_traits.specs.Fault.{Counts, Rose}
 use Rattle.outside_traits.specs.Story.{Story}
 use Rattle.meta_model.specs.declared.event.Logged.{Logged}
 use Rattle.meta_model.specs.CleanBuild.{Gives}
-use Rattle.run_core.specs.Fates.{NoneRuns}
+use Rattle.tale_model.specs.Fates.{NoneRuns}
 use Rattle.run_queue.specs.Seen.{RunView, Seen, seen}
 use Rattle.run_queue.specs.Turns.{fates_of}
 use Rattle.turn_lock.specs.declared.rule.Record.{Record}
@@ -18,8 +18,10 @@ use Rattle.turn_lock.specs.Views.{entries_of, numbered, records_of}
 use Rattle.run_workers.specs.declared.shared.Told.{Told}
 use Rattle.run_workers.specs.declared.worker.Halt.{Halt}
 use Rattle.run_workers.specs.Left.{AllDid, IsLeft}
-use Rattle.run_workers.specs.Runs.{RanScripts, RanSoFar, RanThese, Runs, ScriptsSoFar, broken_off, by_bench, started_in}
-use Rattle.run_workers.specs.Told.{logged_in, own, printed_in, told}
+use Rattle.run_model.specs.Runs.{RanScripts, RanThese, Runs, broken_off, started_in}
+use Rattle.run_workers.specs.Runs.{RanSoFar, ScriptsSoFar, by_bench}
+use Rattle.run_workers.specs.Told.{logged_in, printed_in, told}
+use Rattle.run_model.specs.Seats.{own}
 use Rattle.run_workers.specs.Worked.{AllWorked, Breaks, Did, IsJoined, Worked}
 use Rattle.run_workers.proofs.Sinces.{lines_first, since_first}
 use Rattle.run_workers.proofs.Spreading.{WorkedAt, all_at, all_long, all_within}

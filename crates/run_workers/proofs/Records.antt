@@ -4,7 +4,7 @@ use Rattle.std.proofs.lemmas.List.Sums.{fold_push}
 use Rattle.meta_model.specs.declared.event.Event.{Event}
 use Rattle.meta_model.specs.declared.event.Event.TheVariants as events
 use Rattle.meta_model.specs.declared.event.Logged.{Logged}
-use Rattle.bb_report.specs.Runs.{is_started}
+use Rattle.run_model.specs.Report.{is_started}
 use Rattle.run_core.specs.History.{last_of}
 use Rattle.run_workers.specs.declared.shared.Told.{Told}
 use Rattle.run_workers.specs.Seats.{HoldsNone}

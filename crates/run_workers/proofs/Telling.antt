@@ -3,7 +3,8 @@ use Rattle.std.proofs.Common.{◌≡◌, ◌∙◌, ap, refl, ℕ, zero, suc, �
 use Rattle.meta_model.specs.declared.event.Logged.{Logged}
 use Rattle.turn_lock.specs.Views.{entries_of}
 use Rattle.run_workers.specs.declared.shared.Told.{Told}
-use Rattle.run_workers.specs.Told.{logged_in, own, printed_in, tell, told}
+use Rattle.run_workers.specs.Told.{logged_in, printed_in, tell, told}
+use Rattle.run_model.specs.Seats.{own}
 
 -- the entries of the tale are those that it tells
 pub logged_told : (tale : List Logged) (n : ℕ) → logged_in (told tale n) ≡ tale

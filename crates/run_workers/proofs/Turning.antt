@@ -5,16 +5,17 @@ use Rattle.std.proofs.Math.Seq.{drop-append_seam}
 use Rattle.meta_model.specs.declared.event.Event.{Event}
 use Rattle.meta_model.specs.declared.event.Event.TheVariants as events
 use Rattle.meta_model.specs.declared.event.Logged.{Logged}
-use Rattle.run_core.specs.declared.fate.Fate.{Fate}
-use Rattle.run_core.specs.declared.fate.Fate.TheVariants.{Running}
-use Rattle.run_core.specs.Fates.{fate_at, IsFree}
+use Rattle.tale_model.specs.declared.fate.Fate.{Fate}
+use Rattle.tale_model.specs.declared.fate.Fate.TheVariants.{Running}
+use Rattle.tale_model.specs.Fates.{fate_at, IsFree}
 use Rattle.run_core.specs.History.{last_of}
 use Rattle.turn_lock.specs.declared.rule.Stage.TheVariants.{Holding}
 use Rattle.turn_lock.specs.declared.rule.View.{View}
 use Rattle.turn_lock.specs.Views.{Begins, HasEntries, after_turn, entries_of, records_of, staged, tale_out}
 use Rattle.run_workers.specs.declared.shared.Told.{Told}
 use Rattle.run_workers.specs.Seats.{Holds, HoldsNone, Turned}
-use Rattle.run_workers.specs.Told.{logged_in, own, told}
+use Rattle.run_workers.specs.Told.{logged_in, told}
+use Rattle.run_model.specs.Seats.{own}
 use Rattle.run_workers.proofs.Telling.{logged_own, logged_told}
 
 -- the last event of a seat is that of its own entries

@@ -10,19 +10,21 @@ use Rattle.meta_model.specs.declared.event.Why.TheVariants as why
 use Rattle.meta_model.specs.declared.event.Logged.{Logged}
 use Rattle.meta_model.specs.declared.plan.Plan.{Plan}
 use Rattle.meta_model.specs.CleanBuild.{Entries, Gives}
-use Rattle.bb_report.specs.Runs.{is_started}
+use Rattle.run_model.specs.Report.{is_started}
 use Rattle.task_worker.specs.declared.given.Job.{Job}
 use Rattle.run_queue.specs.declared.state.Claim.TheVariants as claim
-use Rattle.run_queue.specs.Opening.{Opening}
+use Rattle.run_model.specs.Opening.{Opening}
 use Rattle.run_queue.specs.Keeps.{IsRun}
 use Rattle.run_queue.specs.Seen.{Seen}
 use Rattle.run_queue.specs.Turns.{IsCleanJob}
 use Rattle.run_workers.specs.declared.shared.Told.{Told}
 use Rattle.run_workers.specs.declared.worker.Halt.{Halt}
-use Rattle.run_workers.specs.Runs.{AllRan, AllScripts, IsRunOf, IsScriptOf, RanScripts, RanSoFar, RanThese, Runs, ScriptsSoFar, broken_off, by_bench, started_in}
+use Rattle.run_workers.specs.Runs.{AllRan, AllScripts, RanSoFar, ScriptsSoFar, by_bench}
+use Rattle.run_model.specs.Runs.{IsRunOf, IsScriptOf, RanScripts, RanThese, Runs, broken_off, started_in}
 use Rattle.run_workers.specs.Seats.{AddsBy, HoldsNone}
 use Rattle.run_workers.specs.Told.{logged_in, printed_in}
-use Rattle.run_workers.specs.Worked.{Breaks, BrokeOff, Closes, NoneBroke, RanMine, RanOnce, SaidMine, Worked, is_break, is_bench_break}
+use Rattle.run_workers.specs.Worked.{Breaks, BrokeOff, Closes, NoneBroke, RanMine, RanOnce, SaidMine, Worked, is_break}
+use Rattle.run_model.specs.Seats.{is_bench_break}
 use Rattle.run_workers.proofs.Records.{none_added, none_first}
 use Rattle.run_workers.proofs.Telling.{logged_split, printed_split}
 

@@ -4,8 +4,8 @@ use Rattle.std.specs.List.{slice_get}
 use Rattle.outside_traits.specs.Bench.{Workplace}
 use Rattle.outside_traits.specs.Story.{Story}
 use Rattle.meta_model.specs.CleanBuild.{Gives}
-use Rattle.bb_report.specs.Runs.{tale_text}
-use Rattle.run_core.specs.Fates.{NoneRuns}
+use Rattle.run_model.specs.Report.{tale_text}
+use Rattle.tale_model.specs.Fates.{NoneRuns}
 use Rattle.run_queue.specs.Keeps.{IsFront, Prints}
 use Rattle.run_queue.specs.Seen.{RunView, Seen}
 use Rattle.run_queue.specs.Turns.{fates_of}

@@ -5,7 +5,7 @@ use Rattle.meta_model.specs.declared.event.Event.TheVariants as events
 use Rattle.meta_model.specs.declared.event.Logged.{Logged}
 use Rattle.meta_model.specs.declared.plan.Plan.{Plan}
 use Rattle.meta_model.specs.Worked.{planned}
-use Rattle.run_workers.specs.Runs.{Runs}
+use Rattle.run_model.specs.Runs.{Runs}
 
 abbrev pub one_plan : Plan
 one_plan = record { threads = 1; targets = 0 ∷ []; tasks = planned (codes "a") (codes "do_build") [] 0 (codes "gen") ∷ [] }

@@ -12,7 +12,7 @@ use Rattle.run_core.specs.History.{last_of}
 use Rattle.run_queue.specs.declared.fault.RunFault.{RunFault}
 use Rattle.run_queue.specs.declared.state.Claim.{Claim}
 use Rattle.run_queue.specs.declared.state.Claim.TheVariants as claim
-use Rattle.run_queue.specs.Opening.{Opening}
+use Rattle.run_model.specs.Opening.{Opening}
 use Rattle.run_queue.specs.Seen.{Seen}
 use Rattle.run_queue.specs.Turns.{IsCleanJob, closed_as}
 use Rattle.task_worker.specs.declared.given.Given.{Given}
@@ -21,7 +21,7 @@ use Rattle.turn_lock.specs.declared.rule.View.{View}
 use Rattle.turn_lock.specs.Views.{Begins}
 use Rattle.run_workers.specs.declared.shared.Claimed.{Claimed}
 use Rattle.run_workers.specs.declared.shared.Told.{Told}
-use Rattle.run_workers.specs.Runs.{IsScriptOf}
+use Rattle.run_model.specs.Runs.{IsScriptOf}
 use Rattle.run_workers.specs.Since.{SharedView}
 use Rattle.run_workers.specs.Told.{logged_in, told}
 

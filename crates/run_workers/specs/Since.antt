@@ -3,8 +3,8 @@ use Rattle.std.specs.Prelude.{◌≡◌, ◌≤◌, ℕ, ◌++◌, Bool, true, f
 use Rattle.outside_traits.specs.Fault.{Counts}
 use Rattle.outside_traits.specs.Story.{Story}
 use Rattle.meta_model.specs.CleanBuild.{Gives}
-use Rattle.bb_report.specs.Runs.{tale_text}
-use Rattle.run_queue.specs.Opening.{Opening}
+use Rattle.run_model.specs.Report.{tale_text}
+use Rattle.run_model.specs.Opening.{Opening}
 use Rattle.run_queue.specs.Keeps.{IsFront, IsRun, IsSteady, Prints}
 use Rattle.run_queue.specs.Seen.{RunView, Seen, seen}
 

@@ -1,6 +1,5 @@
 -- The tale of a run as its seats hand it on: each entry with whether it had been printed, that is its line and all lines before it.
-use Rattle.std.specs.Prelude.{ℕ, zero, suc, ◌==◌, Bool, true, false, if◌then◌else◌, List, [], ◌∷◌, map}
-use Rattle.std.specs.List.{filter}
+use Rattle.std.specs.Prelude.{ℕ, zero, suc, Bool, true, false, if◌then◌else◌, List, [], ◌∷◌, map}
 use Rattle.meta_model.specs.declared.event.Logged.{Logged}
 use Rattle.run_workers.specs.declared.shared.Told.{Told}
 
@@ -21,7 +20,3 @@ logged_in tale = map (λ e. e.logged) tale
 abbrev pub printed_in : List Told → List Logged
 printed_in [] = []
 printed_in (e ∷ tale) = if e.printed then e.logged ∷ printed_in tale else printed_in tale
-
--- the entries of a tale that the seat of a number marked
-abbrev pub own : ℕ → List Logged → List Logged
-own n tale = filter (λ e. e.seat == n) tale

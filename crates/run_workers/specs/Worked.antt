@@ -8,17 +8,19 @@ use Rattle.meta_model.specs.declared.event.Event.TheVariants as events
 use Rattle.meta_model.specs.declared.event.Logged.{Logged}
 use Rattle.meta_model.specs.declared.plan.Plan.{Plan}
 use Rattle.meta_model.specs.CleanBuild.{Entries, Gives}
-use Rattle.bb_report.specs.Runs.{is_started}
-use Rattle.run_queue.specs.Opening.{Opening}
-use Rattle.run_queue.specs.Keeps.{IsRun}
-use Rattle.run_queue.specs.Seen.{Seen}
+use Rattle.run_model.specs.Report.{is_started}
+use Rattle.run_model.specs.Opening.{Opening}
+use Rattle.run_model.specs.Runs.{RanScripts, Runs, broken_off, started_in}
+use Rattle.run_model.specs.Seats.{own, is_bench_break, RanStarted}
 use Rattle.turn_lock.specs.declared.rule.Record.{Record}
 use Rattle.turn_lock.specs.declared.rule.View.{View}
+use Rattle.run_queue.specs.Keeps.{IsRun}
+use Rattle.run_queue.specs.Seen.{Seen}
 use Rattle.run_workers.specs.declared.shared.Told.{Told}
 use Rattle.run_workers.specs.declared.worker.Halt.{Halt}
-use Rattle.run_workers.specs.Runs.{RanScripts, RanSoFar, RanThese, Runs, ScriptsSoFar, broken_off, by_bench, started_in}
+use Rattle.run_workers.specs.Runs.{RanSoFar, ScriptsSoFar, by_bench}
 use Rattle.run_workers.specs.Seats.{HoldsNone}
-use Rattle.run_workers.specs.Told.{logged_in, own, printed_in}
+use Rattle.run_workers.specs.Told.{logged_in, printed_in}
 
 -- the event is that a task broke off
 abbrev pub is_break : Event → Bool
@@ -28,11 +30,6 @@ is_break (events.Started t seat) = false
 is_break (events.Ended t) = false
 is_break (events.Failed t cause) = false
 is_break (events.Broke t c) = true
-
--- the event is that a task broke off since its bench failed
-abbrev pub is_bench_break : Event → Bool
-is_bench_break (events.Broke t cut.Bench) = true
-is_bench_break _ = false
 
 -- in these entries no task broke off
 abbrev pub NoneBroke : List Logged → Type 0
@@ -75,12 +72,6 @@ pub record SaidMine (plan : Plan) (halt : Option Halt) (mine said : List Logged)
   pub runs : Runs
   pub ran : now ≡ before ++ runs
   pub these : ScriptsSoFar plan halt (broken_off mine) (started_in said) runs
-
--- The bench ran what was started in these entries of its seat, but for maybe the last one, where the last of them says that it broke off.
-pub record RanStarted (gives : Gives) (plan : Plan) (mine : List Logged) (before now : Runs) : Type 0 where
-  pub runs : Runs
-  pub ran : now ≡ before ++ runs
-  pub these : RanThese gives plan (broken_off mine) (started_in mine) runs
 
 -- The bench ran the scripts of what was started in those of its seat's entries that had been printed, but for maybe the last one, where the
 -- last of all its entries says that it broke off.

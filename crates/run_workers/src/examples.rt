@@ -2,7 +2,8 @@
 ghost use Rattle.std.specs.Prelude.{[]};
 ghost use Rattle.meta_model.specs.Worked.{shell};
 ghost use Rattle.run_workers.specs.Rows.{broken_tale, ended_tale, one_plan, one_run};
-ghost use Rattle.run_workers.specs.Worked.{RanPrinted, RanStarted};
+ghost use Rattle.run_workers.specs.Worked.{RanPrinted};
+ghost use Rattle.run_model.specs.Seats.{RanStarted};
 
 /// What a bench ran of the one task that its seat started.
 pub fn example_of_runs()

@@ -1,7 +1,7 @@
 // The run that its workers share.
 ghost use Rattle.std.specs.Prelude.{◌≡◌, ◌<◌, ◌≤◌, [], List, IfErr, IfOk};
-ghost use Rattle.run_core.specs.Fates.{NoneRuns};
-ghost use Rattle.run_queue.specs.Opening.{Opening};
+ghost use Rattle.tale_model.specs.Fates.{NoneRuns};
+ghost use Rattle.run_model.specs.Opening.{Opening};
 ghost use Rattle.run_queue.specs.Keeps.{IsRun};
 ghost use Rattle.run_queue.specs.Seen.{seen};
 ghost use Rattle.run_queue.specs.Turns.{IsCleanJob, IsGivenBy, fates_of};

@@ -1,9 +1,10 @@
 // The state that seats hand on.
 ghost use Rattle.std.specs.Prelude.{◌≡◌, ◌≤◌, [], IsSome, List, None, length, true};
 ghost use Rattle.meta_model.specs.declared.event.Event.TheVariants as events;
-ghost use Rattle.run_core.specs.Fates.{IsFree};
-ghost use Rattle.run_core.specs.History.{EachAfter, IsOrderly};
-ghost use Rattle.run_queue.specs.Opening.{Opening};
+ghost use Rattle.tale_model.specs.Fates.{IsFree};
+ghost use Rattle.tale_model.specs.History.{EachAfter};
+ghost use Rattle.run_core.specs.History.{IsOrderly};
+ghost use Rattle.run_model.specs.Opening.{Opening};
 ghost use Rattle.run_queue.specs.Keeps.{IsRun};
 ghost use Rattle.run_queue.specs.Seen.{seen};
 ghost use Rattle.run_queue.specs.Turns.{IsCleanJob, IsGivenBy, RunsUnder, fates_of};

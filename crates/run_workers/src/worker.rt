@@ -1,7 +1,7 @@
 // One worker of a run.
 ghost use Rattle.std.specs.Prelude.{◌≡◌, ◌≤◌, [], List, None, Some, false, true};
 ghost use Rattle.outside_traits.specs.Fault.{Counts};
-ghost use Rattle.run_queue.specs.Opening.{Opening};
+ghost use Rattle.run_model.specs.Opening.{Opening};
 ghost use Rattle.run_queue.specs.Keeps.{IsRun};
 ghost use Rattle.run_queue.specs.Turns.{IsCleanJob};
 ghost use Rattle.turn_lock.specs.Seats.{view_of, IsFree, IsSeatOf};

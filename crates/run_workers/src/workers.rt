@@ -3,16 +3,16 @@ ghost use Rattle.std.specs.Prelude.{◌≡◌, ◌≤◌, ◌<◌, ◌+◌, ◌+
 ghost use Rattle.std.specs.List.{slice_get};
 ghost use Rattle.std.specs.Thread.{IsSync};
 ghost use Rattle.outside_traits.specs.Fault.{Rose};
-ghost use Rattle.bb_report.specs.Runs.{tale_text};
-ghost use Rattle.run_core.specs.Fates.{NoneRuns};
-ghost use Rattle.run_queue.specs.Opening.{Opening};
+ghost use Rattle.run_model.specs.Report.{tale_text};
+ghost use Rattle.tale_model.specs.Fates.{NoneRuns};
+ghost use Rattle.run_model.specs.Opening.{Opening};
 ghost use Rattle.run_queue.specs.Keeps.{IsFront, IsRun, IsSteady, KeepsCount, KeepsFront, Prints};
 ghost use Rattle.run_queue.specs.Seen.{seen};
 ghost use Rattle.run_queue.specs.Turns.{SameRun, fates_of};
 ghost use Rattle.turn_lock.specs.Seats.{view_of, IsFree, IsSeatOf};
-ghost use Rattle.run_workers.specs.Worked.{AllWorked, Breaks, HasBegun, IsJoined, RanPrinted, RanStarted};
+ghost use Rattle.run_workers.specs.Worked.{AllWorked, Breaks, HasBegun, IsJoined, RanPrinted};
+ghost use Rattle.run_model.specs.Seats.{RanStarted, own};
 ghost use Rattle.run_workers.specs.Left.{AllDid};
-ghost use Rattle.run_workers.specs.Told.{own};
 
 use crate::began::Began;
 use crate::bell::Bell;

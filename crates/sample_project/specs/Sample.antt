@@ -1,8 +1,6 @@
--- The sample, and what is printed of its two runs. (Own rules.)
-use Rattle.std.specs.Prelude.{ℕ, zero, suc, ◌/◌, ◌*◌, List, [], ◌∷◌, ◌++◌, codes}
+-- The project that `--sample` generates. (Own rules.)
+use Rattle.std.specs.Prelude.{ℕ, zero, suc, ◌/◌, List, [], ◌∷◌, ◌++◌, codes}
 use Rattle.std.specs.Fmt.{decimal}
-use Rattle.meta_model.specs.declared.event.Logged.{Logged}
-use Rattle.bb_report.specs.Runs.{count_events, is_found, is_started}
 
 -- the name of the recipe with a number
 abbrev pub recipe_name : ℕ → List ℕ
@@ -40,15 +38,3 @@ sample_files (suc k) = sample_files k ++ recipe_file k ∷ []
 abbrev pub sample_names : ℕ → List (List ℕ)
 sample_names zero = []
 sample_names (suc k) = sample_names k ++ recipe_name k ∷ []
-
--- how many recipes and tasks there are
-abbrev pub size_text : ℕ → List ℕ
-size_text size = codes "sample " ++ (decimal size ++ (codes ": " ++ (decimal size ++ (codes " recipes, " ++ (decimal (2 * size) ++ codes " tasks; ")))))
-
--- how many events of which kind two tales have
-abbrev pub runs_text : List Logged → List Logged → List ℕ
-runs_text first second = codes "first run " ++ (decimal (count_events is_started first) ++ (codes " started; second run " ++ (decimal (count_events is_found second) ++ (codes " found, " ++ (decimal (count_events is_started second) ++ codes " started\n")))))
-
--- What is printed of two runs over the sample.
-abbrev pub sample_text : ℕ → List Logged → List Logged → List ℕ
-sample_text size first second = size_text size ++ runs_text first second

@@ -4,7 +4,7 @@
 //! `do_build` of the recipe with half its number: a tree of recipes with `s0` at its root. The targets are all recipes.
 //!
 //! Promised: the files and the targets are those of the definitions (`specs/Sample.antt`), and the text of the two runs has
-//! the counts of their tales. (Own rule: no part of the BitBake User Manual.)
+//! the counts of their tales (`Sample` of `answer_model`). (Own rule: no part of the BitBake User Manual.)
 #![tactic(auto)]
 
 mod recipes;

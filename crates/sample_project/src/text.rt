@@ -1,6 +1,6 @@
 // What is printed of the sample.
 ghost use Rattle.std.specs.Prelude.{◌≡◌, ◌++◌, IfOk, OnOk};
-ghost use Rattle.sample_project.specs.Sample as sample;
+ghost use Rattle.answer_model.specs.Sample as sample;
 
 use bb_report::{count_found, count_started, push_count};
 use meta_model::Logged;

@@ -7,7 +7,8 @@ use Rattle.std.proofs.lemmas.Option.{slice_get-get_or, slice_get_past, slice_get
 use Rattle.meta_model.specs.declared.event.Avail.{Avail}
 use Rattle.meta_model.specs.declared.event.Avail.TheVariants.{Missing}
 use Rattle.meta_model.specs.declared.plan.Plan.{Plan}
-use Rattle.run_core.specs.Need.{AreOrdered, IsIn, IsNeed}
+use Rattle.run_core.specs.Need.{AreOrdered}
+use Rattle.tale_model.specs.Need.{IsIn, IsNeed}
 use Rattle.setscene_plan.specs.Sets.{Adds, IsBelow}
 use Rattle.tree_model.specs.declared.hash.Hash.{Hash}
 use Rattle.setscene_plan.specs.View.{IsKnown, Says, View}

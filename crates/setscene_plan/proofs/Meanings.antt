@@ -3,7 +3,7 @@ use Rattle.std.proofs.Common.{◌≡◌, ℕ, Bool, List, Contains, Option, Some
 use Rattle.tree_model.specs.declared.hash.Hash.{Hash}
 use Rattle.meta_model.specs.declared.event.Avail.{Avail}
 use Rattle.meta_model.specs.declared.plan.PlanTask.{PlanTask}
-use Rattle.run_core.specs.Need.{IsIn}
+use Rattle.tale_model.specs.Need.{IsIn}
 use Rattle.sig_gen.specs.Signing.{signature_by}
 use Rattle.setscene_plan.specs.declared.replan.Replan.{Replan}
 use Rattle.setscene_plan.specs.View.{Follows, IsKnown, Says, View}

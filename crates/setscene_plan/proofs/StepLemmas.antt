@@ -7,7 +7,8 @@ use Rattle.std.proofs.lemmas.List.Sums.{fold-append}
 use Rattle.std.proofs.lemmas.Option.{slice_get_past}
 use Rattle.meta_model.specs.declared.plan.PlanTask.{PlanTask}
 use Rattle.run_core.specs.Above.{IsAbove, above_of}
-use Rattle.run_core.specs.Need.{AreOrdered, deps_in, deps_of}
+use Rattle.run_core.specs.Need.{AreOrdered}
+use Rattle.tale_model.specs.Need.{deps_in, deps_of}
 use Rattle.store_model.specs.declared.signature.EquivRow.{EquivRow}
 use Rattle.setscene_plan.specs.declared.work.Names.{Names}
 use Rattle.setscene_plan.specs.Reworks.{Ascend, IsFound, IsRightAt, IsTouched, IsUntouched, IsWorkable, IsWorked, Steps, raised}

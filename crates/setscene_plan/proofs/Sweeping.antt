@@ -8,7 +8,8 @@ use Rattle.meta_model.specs.declared.event.Avail.{Avail}
 use Rattle.meta_model.specs.declared.event.Avail.TheVariants.{Missing, Work, Object}
 use Rattle.meta_model.specs.declared.plan.Plan.{Plan}
 use Rattle.meta_model.specs.declared.plan.PlanTask.{PlanTask}
-use Rattle.run_core.specs.Need.{AreOrdered, IsIn, IsClosed, IsNeed, deps_in, deps_of}
+use Rattle.run_core.specs.Need.{AreOrdered}
+use Rattle.tale_model.specs.Need.{IsIn, IsClosed, IsNeed, deps_in, deps_of}
 use Rattle.setscene_plan.specs.Sets.{Adds, IsForced, IsBelow}
 
 -- one task is put

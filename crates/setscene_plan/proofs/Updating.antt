@@ -8,7 +8,8 @@ use Rattle.meta_model.specs.declared.plan.Plan.{Plan}
 use Rattle.meta_model.specs.declared.plan.PlanTask.{PlanTask}
 use Rattle.meta_model.proofs.Bools.{either_way}
 use Rattle.run_core.specs.Above.{IsAbove}
-use Rattle.run_core.specs.Need.{AreOrdered, IsIn, IsNeed, deps_in}
+use Rattle.run_core.specs.Need.{AreOrdered}
+use Rattle.tale_model.specs.Need.{IsIn, IsNeed, deps_in}
 use Rattle.store_model.specs.declared.signature.EquivRow.{EquivRow}
 use Rattle.store_model.specs.declared.signature.SigRecord.{SigRecord}
 use Rattle.store_model.specs.Rows.{hash_eq, row_at}

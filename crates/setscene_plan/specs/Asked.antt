@@ -4,7 +4,7 @@ use Rattle.std.specs.List.{slice_get}
 use Rattle.tree_model.specs.declared.hash.Hash.{Hash}
 use Rattle.meta_model.specs.declared.event.Avail.{Avail}
 use Rattle.meta_model.specs.declared.event.Avail.TheVariants.{Missing}
-use Rattle.run_core.specs.Need.{IsIn, IsNeed}
+use Rattle.tale_model.specs.Need.{IsIn, IsNeed}
 use Rattle.setscene_plan.specs.View.{IsKnown, Says, View}
 
 -- what is kept of each member of a set is known

@@ -5,7 +5,7 @@ use Rattle.tree_model.specs.declared.hash.Hash.{Hash}
 use Rattle.meta_model.specs.declared.event.Avail.{Avail}
 use Rattle.meta_model.specs.declared.plan.PlanTask.{PlanTask}
 use Rattle.run_core.specs.Above.{IsAbove}
-use Rattle.run_core.specs.Need.{IsIn, IsNeed}
+use Rattle.tale_model.specs.Need.{IsIn, IsNeed}
 use Rattle.store_model.specs.declared.signature.EquivRow.{EquivRow}
 use Rattle.store_model.specs.Rows.{row_at}
 use Rattle.setscene_plan.specs.declared.replan.Replan.{Replan}

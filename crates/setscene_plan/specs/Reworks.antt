@@ -4,7 +4,7 @@ use Rattle.std.specs.List.{AllByRecursion, slice_get}
 use Rattle.tree_model.specs.declared.hash.Hash.{Hash}
 use Rattle.meta_model.specs.declared.plan.PlanTask.{PlanTask}
 use Rattle.run_core.specs.Above.{above_of}
-use Rattle.run_core.specs.Need.{deps_of}
+use Rattle.tale_model.specs.Need.{deps_of}
 use Rattle.store_model.specs.declared.signature.EquivRow.{EquivRow}
 use Rattle.store_model.specs.Spelling.{name_of}
 use Rattle.sig_gen.specs.Signing.{signature_by}

@@ -1,7 +1,8 @@
 // What a run needs, asked of a probe.
 ghost use Rattle.std.specs.Prelude.{List, Bool, ◌≡◌, ◌≢◌, ◌<◌, ◌≤◌, ◌+◌, ℕ, ◌⊎◌, IfOk, OnErr, OnOk, All, Contains, None, Some, drop, unwrap_or, true, length, replicate, false, slice_get};
 ghost use Rattle.meta_model.specs.declared.event.Avail.TheVariants as avails;
-ghost use Rattle.run_core.specs.Need.{AreOrdered, IsIn, IsNeed};
+ghost use Rattle.run_core.specs.Need.{AreOrdered};
+ghost use Rattle.tale_model.specs.Need.{IsIn, IsNeed};
 ghost use Rattle.setscene_plan.specs.Sets.{Adds, IsBelow};
 ghost use Rattle.setscene_plan.specs.Names.{unihashes_over};
 ghost use Rattle.setscene_plan.specs.View.{Counts, IsKnown, probe_failed};

@@ -2,7 +2,7 @@
 ghost use Rattle.std.specs.Prelude.{◌≡◌, ℕ, Bool, List, slice_get};
 ghost use Rattle.meta_model.specs.declared.event.Avail.{Avail as Availability};
 ghost use Rattle.meta_model.specs.declared.plan.Plan.{Plan as ThePlan};
-ghost use Rattle.run_core.specs.Need.{IsIn, IsNeed};
+ghost use Rattle.tale_model.specs.Need.{IsIn, IsNeed};
 ghost use Rattle.store_model.specs.declared.signature.EquivRow.{EquivRow as Row};
 ghost use Rattle.setscene_plan.specs.declared.replan.Replan.{Replan as Kept};
 ghost use Rattle.setscene_plan.specs.Names.{NamesAreOver};

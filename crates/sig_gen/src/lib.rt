@@ -1,7 +1,7 @@
 //! Signatures: what decides a task's output, from a plan, and as bytes.
 //!
 //! A signature and a stored record (`store_model`) are seen as the values of their fields; their bytes as a list. What a value's
-//! bytes are says `store_model` (`Spelling`); which values have bytes that are read again say `Sound` and `Stored` here: texts
+//! bytes are says `store_model` (`Spelling`), and so it does which values have bytes that are read again (`Sound`, `Stored`): texts
 //! are UTF-8, lists ascend strictly, and the paths of a manifest are those of a tree.
 //!
 //! - `sig_of` gives the signature of a task of a plan, by the unihashes of all its tasks; `encode_sig_of` gives the bytes of the same

@@ -9,8 +9,9 @@ use Rattle.task_worker.specs.Runnable.{IsRunnable}
 use Rattle.meta_model.proofs.Building.{all_tasks}
 use Rattle.meta_model.specs.CleanBuild.{Built, Entries, Gives, Lack, built_over, clean_build, clean_from, clean_task, outputs_of, with_output}
 use Rattle.meta_model.specs.Layout.{Needed}
-use Rattle.task_worker.specs.Layouts.{needed_among}
-use Rattle.task_worker.specs.OneTask.{AreClean, NoJob, OneJob, OneTask}
+use Rattle.run_model.specs.Layouts.{needed_among}
+use Rattle.run_model.specs.CleanOutputs.{AreClean}
+use Rattle.task_worker.specs.OneTask.{NoJob, OneJob, OneTask}
 
 get_front : (xs : List Built) (last : Built) (k : ℕ) (x : Built) → slice_get xs k ≡ Some x → slice_get (xs ++ last ∷ []) k ≡ Some x
 get_front [] last k x e = absurd (cc)

@@ -22,7 +22,8 @@ use Rattle.meta_model.specs.declared.plan.Plan.{Plan}
 use Rattle.plan_model.specs.Sound.{IsOnePart}
 use Rattle.task_worker.specs.Runnable.{IsRunnable}
 use Rattle.task_worker.specs.declared.parts.Part.{Part}
-use Rattle.task_worker.specs.Layouts.{AreShort, IsWithinLayout, layout_over, needed_among}
+use Rattle.task_worker.specs.Layouts.{AreShort, IsWithinLayout}
+use Rattle.run_model.specs.Layouts.{layout_over, needed_among}
 use Rattle.task_worker.specs.Work.{HasNames, IsLayable, part_needed, parts_needed}
 use Rattle.task_worker.proofs.Lists.{each_part, first_kept, last_kept, outputs_map, overlaid_last}
 use Rattle.task_worker.proofs.Names.{clean_files, clean_work, has_names}

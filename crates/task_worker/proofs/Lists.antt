@@ -9,7 +9,7 @@ use Rattle.meta_model.specs.declared.plan.PlanTask.{PlanTask}
 use Rattle.tree_model.specs.Overlay.{overlaid}
 use Rattle.meta_model.specs.CleanBuild.{Entries}
 use Rattle.meta_model.specs.Layout.{Needed, dependency_part, overlaid_onto}
-use Rattle.task_worker.specs.Layouts.{needed_at, needed_among}
+use Rattle.run_model.specs.Layouts.{needed_at, needed_among}
 use Rattle.task_worker.specs.declared.parts.Part.{Part}
 use Rattle.task_worker.specs.Work.{if_wanted, is_wanted, part_needed, parts_needed}
 

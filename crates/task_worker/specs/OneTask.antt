@@ -1,21 +1,14 @@
 -- What the clean build has of a task, by what is laid out and given for it.
-use Rattle.std.specs.Prelude.{◌≡◌, ◌<◌, ℕ, true, false, List, Some, Ok, Err, Result, map}
+use Rattle.std.specs.Prelude.{◌≡◌, ◌<◌, ℕ, true, false, List, Some, Err, map}
 use Rattle.std.specs.List.{slice_get, AllByRecursion}
 use Rattle.meta_model.specs.declared.event.Why.TheVariants as why
 use Rattle.meta_model.specs.declared.plan.PlanTask.{PlanTask}
-use Rattle.meta_model.specs.CleanBuild.{Built, Entries, Gives, Lack, by_itself, clean_build, is_beyond_layout, task_output}
+use Rattle.meta_model.specs.CleanBuild.{Entries, Gives, by_itself, is_beyond_layout, task_output}
+use Rattle.run_model.specs.Layouts.{layout_over}
+use Rattle.run_model.specs.CleanOutputs.{Has, AreClean}
 use Rattle.task_worker.specs.declared.given.Job.{Job}
 use Rattle.task_worker.specs.declared.given.Placing.{Placing}
 use Rattle.task_worker.specs.Jobs.{job_output}
-use Rattle.task_worker.specs.Layouts.{layout_over}
-
--- the clean build has this of the task of a number
-abbrev pub Has : Gives → List PlanTask → ℕ → Result Entries Lack → Type 0
-Has gives tasks n outcome = (built : Built) × (slice_get (clean_build gives tasks) n ≡ Some built) × (built.outcome ≡ outcome)
-
--- these are the clean outputs of the tasks of their numbers
-abbrev pub AreClean : Gives → List PlanTask → List (ℕ × Entries) → Type 0
-AreClean gives tasks outputs = AllByRecursion (λ o. Has gives tasks o.0 (Ok o.1)) outputs
 
 -- Of a task that needs earlier tasks alone, the clean build has what its script gives over the layout of their clean outputs.
 abbrev pub OneTask : Type 0

@@ -8,7 +8,8 @@ ghost use Rattle.meta_model.specs.declared.plan.PlanTask.{PlanTask as TaskOfPlan
 ghost use Rattle.meta_model.specs.CleanBuild.{Entries};
 ghost use Rattle.meta_model.specs.Layout.{by_depth, by_name, dependency_part, files_part, is_of, overlaid_all, overlaid_onto, put_inside};
 ghost use Rattle.plan_model.specs.Sound.{IsOnePart};
-ghost use Rattle.task_worker.specs.Layouts.{AreShort, IsWithinLayout, layout_over, needed_among};
+ghost use Rattle.task_worker.specs.Layouts.{AreShort, IsWithinLayout};
+ghost use Rattle.run_model.specs.Layouts.{layout_over, needed_among};
 ghost use Rattle.task_worker.specs.Runnable.{IsRunnable};
 ghost use Rattle.task_worker.specs.Work.{HasNames, IsLayable, part_needed, parts_needed};
 

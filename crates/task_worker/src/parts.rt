@@ -2,7 +2,7 @@
 ghost use Rattle.std.specs.Prelude.{◌≡◌, ◌++◌, IfOk, OnOk, filter, not};
 ghost use Rattle.std.specs.Option.{option_map};
 ghost use Rattle.meta_model.specs.Layout.{by_depth, by_name, is_of};
-ghost use Rattle.task_worker.specs.Layouts.{needed_at, needed_among};
+ghost use Rattle.run_model.specs.Layouts.{needed_at, needed_among};
 ghost use Rattle.task_worker.specs.Work.{depth_cmp, if_wanted, is_wanted, name_cmp, part_needed, parts_needed};
 
 use meta_model::PlanTask;

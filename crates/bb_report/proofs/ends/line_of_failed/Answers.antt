@@ -1,6 +1,7 @@
 use Rattle.std.proofs.Common.{◌≡◌, ◌∙◌, sym, ap, subst, List, ◌++◌, ℕ, append_assoc, length}
 use Rattle.std.specs.Prelude.{codes}
-use Rattle.bb_report.specs.Runs.{AreMarks, comma_joined, failed_from, marked}
+use Rattle.bb_report.specs.Runs.{AreMarks, marked}
+use Rattle.run_model.specs.Report.{comma_joined, failed_from}
 use Rattle.bb_report.proofs.Marks.{failed_text}
 use Rattle.bb_report.proofs.ends.line_of_failed.Goals as goal
 

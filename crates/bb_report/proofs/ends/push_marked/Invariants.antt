@@ -1,5 +1,6 @@
 use Rattle.std.proofs.Common.{◌≡◌, ◌++◌, take}
-use Rattle.bb_report.specs.Runs.{comma_joined, marked}
+use Rattle.run_model.specs.Report.{comma_joined}
+use Rattle.bb_report.specs.Runs.{marked}
 use Rattle.bb_report.proofs.Marks.{is_some}
 use Rattle.bb_report.proofs.ends.push_marked.Given as goal
 

@@ -1,7 +1,7 @@
 use Rattle.std.proofs.Common.{◌++◌}
 use Rattle.std.specs.Prelude.{codes}
-use Rattle.bb_report.specs.Texts.{task_label}
-use Rattle.bb_report.specs.Runs.{why_text}
+use Rattle.run_model.specs.Texts.{task_label}
+use Rattle.run_model.specs.Report.{why_text}
 use Rattle.bb_report.proofs.Chains.{front_first, on_err_of}
 use Rattle.bb_report.proofs.events.write_failed.Goals as goal
 

@@ -1,4 +1,4 @@
-use Rattle.bb_report.specs.Texts.{task_label}
+use Rattle.run_model.specs.Texts.{task_label}
 use Rattle.bb_report.proofs.Chains.{err_then, front_first, on_err_of}
 use Rattle.bb_report.proofs.events.write_rest.Goals as goal
 

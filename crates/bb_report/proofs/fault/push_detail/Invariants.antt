@@ -1,5 +1,5 @@
 use Rattle.std.proofs.Common.{◌≡◌, ◌++◌, take}
-use Rattle.bb_report.specs.Texts as texts
+use Rattle.run_model.specs.Texts as texts
 use Rattle.bb_report.proofs.fault.push_detail.Given as goal
 
 abbrev pub invariant-loop-text : goal.invariant-loop-text

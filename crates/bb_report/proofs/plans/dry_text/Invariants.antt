@@ -1,6 +1,6 @@
 use Rattle.std.proofs.Common.{◌≡◌, ◌++◌, take}
 use Rattle.std.specs.Prelude.{flat_map}
-use Rattle.bb_report.specs.Texts as texts
+use Rattle.run_model.specs.Texts as texts
 use Rattle.bb_report.proofs.plans.dry_text.Given as goal
 
 abbrev pub invariant-loop-task : goal.invariant-loop-task

@@ -1,5 +1,5 @@
 use Rattle.std.proofs.Common.{◌≡◌, take}
-use Rattle.bb_report.specs.Texts as texts
+use Rattle.run_model.specs.Texts as texts
 use Rattle.bb_report.proofs.values.env_text.Given as goal
 
 abbrev pub invariant-loop-row : goal.invariant-loop-row

@@ -1,5 +1,5 @@
 use Rattle.std.proofs.Common.{◌∙◌, ap, subst, ◌++◌, ℕ, List}
-use Rattle.bb_report.specs.Written.{WritesFront}
+use Rattle.run_model.specs.Written.{WritesFront}
 use Rattle.bitbake_top.proofs.Drying.{dry_printed, dry_refused, one_text}
 use Rattle.bitbake_top.proofs.dry.dry.Goals as goal
 

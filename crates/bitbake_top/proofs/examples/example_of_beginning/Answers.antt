@@ -11,7 +11,7 @@ use Rattle.store_model.specs.Premises.{HasOneSignature, IsBlind, IsContent, IsTr
 use Rattle.store_model.specs.Premises as of
 use Rattle.store_model.proofs.Hello.{empty_tree, nothing_stands}
 use Rattle.store_model.proofs.Lasting.{empty_is_valid}
-use Rattle.build_resume.specs.Laws.{nothing}
+use Rattle.run_model.specs.Headline.{nothing}
 use Rattle.bitbake_top.proofs.Kept.{begins_first}
 use Rattle.bitbake_top.specs.Worked.{no_plan}
 use Rattle.bitbake_top.proofs.examples.example_of_beginning.Goals as goal

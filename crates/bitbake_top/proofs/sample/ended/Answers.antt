@@ -1,5 +1,5 @@
 use Rattle.std.proofs.Common.{sym, subst, ◌++◌}
-use Rattle.bitbake_top.specs.Sample.{IsLine}
+use Rattle.answer_model.specs.Sample.{IsLine}
 use Rattle.bitbake_top.proofs.Sampled.{line_behind}
 use Rattle.bitbake_top.proofs.sample.ended.Goals as goal
 

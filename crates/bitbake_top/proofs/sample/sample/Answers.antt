@@ -1,5 +1,5 @@
 use Rattle.std.proofs.Common.{sym, subst}
-use Rattle.bitbake_top.specs.Sample.{IsLine, SaysSample}
+use Rattle.answer_model.specs.Sample.{IsLine, SaysSample}
 use Rattle.bitbake_top.proofs.Sampled.{Printed, said_sample}
 use Rattle.bitbake_top.proofs.sample.sample.Goals as goal
 

@@ -1,7 +1,7 @@
 use Rattle.std.proofs.Common.{◌∙◌, ap, subst, inl, ◌∷◌, [], ℕ, List, map}
 use Rattle.meta_model.specs.declared.plan.Plan.{Plan}
-use Rattle.run_workers.specs.Runs.{Runs}
-use Rattle.build_resume.specs.Build.{RanPrinted, TellsDifference}
+use Rattle.run_model.specs.Runs.{Runs}
+use Rattle.run_model.specs.Build.{RanPrinted, TellsDifference}
 use Rattle.build_resume.proofs.Statuses.{wider_cause}
 use Rattle.bitbake_top.proofs.Begun.{all_of_one, certain_ample, certain_apart}
 use Rattle.bitbake_top.proofs.Devices.{none_rose, rose_from}

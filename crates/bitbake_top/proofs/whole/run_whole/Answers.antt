@@ -1,13 +1,13 @@
 use Rattle.std.proofs.Common.{◌≡◌, ◌∙◌, inl, refl, subst, ℕ, List}
 use Rattle.meta_model.specs.declared.event.Status.TheVariants as status
 use Rattle.meta_model.specs.declared.plan.Plan.{Plan}
-use Rattle.build_resume.specs.Build.{TellsDifference}
+use Rattle.run_model.specs.Build.{TellsDifference}
 use Rattle.build_resume.proofs.Statuses.{nothing_differs}
 use Rattle.bitbake_top.proofs.Begun.{all_of_none, all_of_one, refused_not_ok, refused_steady}
 use Rattle.bitbake_top.proofs.Devices.{rose_from}
 use Rattle.bitbake_top.proofs.Kept.{one_behind, unbegun_broke, unbegun_keeps}
 use Rattle.bitbake_top.proofs.Written.{plan_front}
-use Rattle.bb_report.specs.Written.{WritesFront}
+use Rattle.run_model.specs.Written.{WritesFront}
 use Rattle.bitbake_top.proofs.whole.run_whole.Goals as goal
 
 pub returns-clause-keeps : goal.returns-clause-keeps

@@ -1,5 +1,5 @@
 use Rattle.std.proofs.Common.{◌∙◌, sym, subst, refl, None, Some}
-use Rattle.bb_report.specs.Runs.{tale_text}
+use Rattle.run_model.specs.Report.{tale_text}
 use Rattle.meta_model.specs.declared.plan.Plan.{Plan}
 use Rattle.run_queue.specs.Keeps.{Prints}
 use Rattle.build_resume.specs.Drive.{RanSaid}

@@ -1,13 +1,13 @@
 use Rattle.std.proofs.Common.{◌≡◌, ℕ, List, None}
 use Rattle.outside_traits.specs.Fault.{Counts}
 use Rattle.meta_model.specs.declared.event.Logged.{Logged}
-use Rattle.run_core.specs.Fates.{NoneRuns}
-use Rattle.bb_report.specs.Runs.{tale_text}
-use Rattle.run_queue.specs.Opening.{Opening}
+use Rattle.tale_model.specs.Fates.{NoneRuns}
+use Rattle.run_model.specs.Report.{tale_text}
+use Rattle.run_model.specs.Opening.{Opening}
 use Rattle.run_queue.specs.Seen.{seen}
 use Rattle.run_queue.specs.Keeps.{IsRun, IsSteady, Prints}
 use Rattle.run_queue.specs.Turns.{SameRun, fates_of}
-use Rattle.run_workers.specs.Runs.{Runs}
+use Rattle.run_model.specs.Runs.{Runs}
 use Rattle.build_resume.specs.Drive.{Drove, Grows, RanSaid, left_over}
 use Rattle.build_resume.proofs.drive.drive.Given as goal
 

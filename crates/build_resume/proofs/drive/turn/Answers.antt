@@ -5,7 +5,7 @@ use Rattle.run_queue.specs.declared.state.Claim.{Claim}
 use Rattle.run_queue.specs.declared.state.Claim.TheVariants as claim
 use Rattle.run_queue.specs.Turns.{Begins, Claims, ClaimsClean, IsCleanJob, Settles}
 use Rattle.run_queue.specs.Seen.{seen}
-use Rattle.bb_report.specs.Runs.{tale_text}
+use Rattle.run_model.specs.Report.{tale_text}
 use Rattle.meta_model.specs.declared.plan.Plan.{Plan}
 use Rattle.run_queue.specs.Keeps.{Prints}
 use Rattle.build_resume.proofs.Driving.{clean_run, drove_job, drove_none, grows_job, grows_none, grows_one}

@@ -1,5 +1,5 @@
 use Rattle.std.proofs.Common.{◌≡◌, take}
-use Rattle.build_resume.specs.Build.{failed_in}
+use Rattle.run_model.specs.Build.{failed_in}
 use Rattle.build_resume.proofs.ending.failed_tasks.Given as goal
 
 abbrev pub invariant-loop-logged : goal.invariant-loop-logged

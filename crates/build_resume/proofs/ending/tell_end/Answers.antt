@@ -1,6 +1,6 @@
 use Rattle.std.proofs.Common.{◌≡◌, ◌∙◌, subst, List, ℕ, inr}
-use Rattle.bb_report.specs.Runs.{last_line, tale_text}
-use Rattle.bb_report.specs.Written.{WritesFront}
+use Rattle.run_model.specs.Report.{last_line, tale_text}
+use Rattle.run_model.specs.Written.{WritesFront}
 use Rattle.bb_report.proofs.Chains.{front_then}
 use Rattle.build_resume.proofs.Statuses.{ends_unwritten}
 use Rattle.build_resume.proofs.ending.tell_end.Goals as goal

@@ -8,7 +8,7 @@ use Rattle.meta_model.specs.declared.event.Why.TheVariants as why
 use Rattle.meta_model.specs.CleanBuild.{Built, clean_build, fails, is_beyond, is_beyond_layout}
 use Rattle.meta_model.specs.Layout.{layout_in_order}
 use Rattle.meta_model.specs.Worked.{planned, shell}
-use Rattle.build_resume.specs.Build.{failed_in}
+use Rattle.run_model.specs.Build.{failed_in}
 use Rattle.build_resume.specs.Worked.{failing_plan, failing_tale}
 use Rattle.build_resume.proofs.examples.example_of_failures.Goals as goal
 

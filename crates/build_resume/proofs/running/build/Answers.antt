@@ -4,13 +4,15 @@ use Rattle.meta_model.specs.declared.event.Status.TheVariants as status
 use Rattle.meta_model.specs.declared.plan.Options.{Options}
 use Rattle.meta_model.specs.declared.plan.Plan.{Plan}
 use Rattle.std.proofs.lemmas.Bool.{false≢true}
-use Rattle.run_queue.specs.Causes.{fault_broke}
+use Rattle.run_model.specs.Causes.{fault_broke}
 use Rattle.run_queue.specs.Keeps.{IsFront}
-use Rattle.run_workers.specs.Runs.{Runs}
-use Rattle.build_resume.specs.Benches.{AtSeats, BreaksByFault, SomeRose, broken_at, started_by}
-use Rattle.build_resume.specs.Build.{AllClean, DiffersOver, MayEndSo, RanJust, RanPrinted, RanStarted, TellsDifference, WritesReport, is_unsteady}
-use Rattle.build_resume.specs.Ends.{EndsBy, bench_broke, memory_broke}
-use Rattle.build_resume.specs.Outcome.{EndsAs}
+use Rattle.run_model.specs.Runs.{Runs}
+use Rattle.run_model.specs.Benches.{AtSeats, BreaksByFault, SomeRose, broken_at, started_by}
+use Rattle.run_model.specs.Build.{AllClean, DiffersOver, MayEndSo, RanJust, RanPrinted, RanStarted, TellsDifference, is_unsteady}
+use Rattle.build_resume.specs.Build.{WritesReport}
+use Rattle.build_resume.specs.Ends.{EndsBy}
+use Rattle.run_model.specs.Ends.{bench_broke, memory_broke}
+use Rattle.run_model.specs.Outcome.{EndsAs}
 use Rattle.build_resume.proofs.Begun.{just_nothing, ran_nothing}
 use Rattle.build_resume.proofs.Benches.{broke_nothing, seats_same, some_mapped}
 use Rattle.build_resume.proofs.Built.{WasOpened, as_begun, built_complete, built_leaves, is_opening, may_run, opening, unbegun_leaves}

@@ -1,6 +1,7 @@
 use Rattle.std.proofs.Common.{◌∙◌, sym, ap, inl, inr}
-use Rattle.bb_report.specs.Runs.{has_failure}
-use Rattle.build_resume.specs.Ends.{is_plain, status_by}
+use Rattle.run_model.specs.Report.{has_failure}
+use Rattle.run_model.specs.Ends.{is_plain}
+use Rattle.build_resume.specs.Ends.{status_by}
 use Rattle.build_resume.proofs.running.conclude.Goals as goal
 
 pub returns-in-Err-clause-text : goal.returns-in-Err-clause-text

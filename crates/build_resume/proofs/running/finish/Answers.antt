@@ -3,12 +3,12 @@ use Rattle.std.specs.Prelude.{◌⊎◌, Bool, IfSome}
 use Rattle.outside_traits.specs.Fault.{Counts, Rose}
 use Rattle.meta_model.specs.declared.event.Logged.{Logged}
 use Rattle.meta_model.specs.declared.plan.Plan.{Plan}
-use Rattle.bb_report.specs.Runs.{has_failure, tale_text}
-use Rattle.build_store.specs.Sound.{HoldsRecords}
+use Rattle.run_model.specs.Report.{has_failure, tale_text}
+use Rattle.store_model.specs.Readable.{HoldsRecords}
 use Rattle.run_queue.specs.Causes.{IsCause}
 use Rattle.run_queue.specs.Keeps.{IsFront, IsSteady, Prints}
-use Rattle.build_resume.specs.Build.{DiffersOver}
-use Rattle.build_resume.specs.Ends.{is_faultless}
+use Rattle.run_model.specs.Build.{DiffersOver}
+use Rattle.run_model.specs.Ends.{is_faultless}
 use Rattle.build_resume.proofs.Begun.{EndsSo, ends_by, kept_to, none_kept, ran_on, went_on}
 use Rattle.build_resume.proofs.Reports.{reports_as, rose_from, rose_on}
 use Rattle.build_resume.proofs.Printing.{grew, said_last}

@@ -3,12 +3,14 @@ use Rattle.std.proofs.lemmas.List.{length-map}
 use Rattle.outside_traits.specs.Bench.{Gives}
 use Rattle.outside_traits.specs.Fault.{Rose}
 use Rattle.meta_model.specs.declared.plan.Plan.{Plan}
-use Rattle.bb_report.specs.Runs.{tale_text}
+use Rattle.run_model.specs.Report.{tale_text}
 use Rattle.run_queue.specs.Keeps.{Prints}
 use Rattle.run_queue.proofs.Steady.{steady_none}
-use Rattle.run_workers.specs.Runs.{Runs}
-use Rattle.build_resume.specs.Benches.{AtSeats, BreaksByFault, SomeBreak, SomeRose, broken_at, started_by}
-use Rattle.build_resume.specs.Build.{RanJust, RanStarted, TellsDifference, WritesReport}
+use Rattle.run_model.specs.Runs.{Runs}
+use Rattle.run_model.specs.Benches.{AtSeats, BreaksByFault, SomeRose, broken_at, started_by}
+use Rattle.build_resume.specs.Benches.{SomeBreak}
+use Rattle.run_model.specs.Build.{RanJust, RanStarted, TellsDifference}
+use Rattle.build_resume.specs.Build.{WritesReport}
 use Rattle.build_resume.specs.Drive.{RanOn, RanSaid, SaidTo}
 use Rattle.build_resume.proofs.Begun.{ends_still, kept_still}
 use Rattle.build_resume.proofs.Benches.{at_seats, broke_before, broke_behind, broken_before, just_before, last_has, others_have, ran_before, ran_behind, rose_by, some_rose, workers_weaker}

@@ -1,12 +1,12 @@
 use Rattle.std.proofs.Common.{◌≡◌, ◌∙◌, ◌+◌, ◌++◌, ◌∷◌, [], ℕ, List, All, length, sym, ap, subst, refl, append-nil, length-append, arith}
 use Rattle.outside_traits.specs.Bench.{Gives}
-use Rattle.bb_report.specs.Runs.{tale_text}
+use Rattle.run_model.specs.Report.{tale_text}
 use Rattle.meta_model.specs.declared.event.Logged.{Logged}
 use Rattle.meta_model.specs.declared.plan.Plan.{Plan}
 use Rattle.run_queue.specs.Keeps.{IsFront, Prints}
-use Rattle.run_workers.specs.Runs.{RanThese}
-use Rattle.build_resume.specs.Benches.{BreaksByFault, broken_at, started_by}
-use Rattle.build_resume.specs.Build.{RanJust, RanStarted}
+use Rattle.run_model.specs.Runs.{RanThese}
+use Rattle.run_model.specs.Benches.{BreaksByFault, broken_at, started_by}
+use Rattle.run_model.specs.Build.{RanJust, RanStarted}
 use Rattle.build_resume.proofs.Begun.{just_nothing, ran_nothing}
 use Rattle.build_resume.proofs.Benches.{others_have, workers_same}
 use Rattle.build_resume.proofs.Reports.{prints_first}

@@ -14,7 +14,7 @@ use Rattle.build_store.specs.declared.drafting.Draft.{Draft}
 use Rattle.build_store.specs.declared.fault.StoreFault.{StoreFault}
 use Rattle.build_store.specs.Drafts.{IsDraft, IsKnownFault}
 use Rattle.build_store.specs.Faults.{IsRefusal}
-use Rattle.build_store.specs.Sound.{IsRow}
+use Rattle.store_model.specs.Readable.{IsRow}
 use Rattle.build_store.specs.View.{signed_by}
 use Rattle.build_store.proofs.Drafted.{known_is_draft, known_refusal}
 use Rattle.build_store.proofs.drafting.draft_of.Goals as goal

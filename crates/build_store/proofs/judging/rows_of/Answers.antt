@@ -1,7 +1,7 @@
 use Rattle.std.proofs.Common.{◌≡◌, ◌∙◌, sym, ap, Some, get_or, slice_get, ◌++◌, ◌∷◌, []}
 use Rattle.std.proofs.lemmas.Option.{slice_get-get_or}
 use Rattle.store_model.specs.Rows.{row_at}
-use Rattle.build_store.specs.Sound.{row_of_stored}
+use Rattle.store_model.specs.Readable.{row_of_stored}
 use Rattle.build_store.specs.Survey.{IsGood}
 use Rattle.build_store.proofs.Surveyed.{each_of}
 use Rattle.build_store.proofs.Indexed.{believed_at, new_name, rows_more}

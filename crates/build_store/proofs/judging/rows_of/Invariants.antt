@@ -1,5 +1,5 @@
 use Rattle.std.proofs.Common.{◌≡◌, take}
-use Rattle.build_store.specs.Opening.{rows_at}
+use Rattle.store_model.specs.Opened.{rows_at}
 use Rattle.build_store.proofs.judging.rows_of.Given as goal
 
 abbrev pub invariant-loop-place : goal.invariant-loop-place

@@ -1,9 +1,9 @@
 use Rattle.std.proofs.Common.{◌≡◌, ◌∙◌, ap, sym, subst, List, ℕ}
 use Rattle.std.specs.List.{AllByRecursion}
-use Rattle.record_belief.specs.declared.candidate.Candidate.{Candidate}
-use Rattle.record_belief.specs.Believed.{AreBelieved}
-use Rattle.build_store.specs.Opening.{rows_at}
-use Rattle.build_store.specs.Sound.{IsRow}
+use Rattle.store_model.specs.declared.candidate.Candidate.{Candidate}
+use Rattle.store_model.specs.Believed.{AreBelieved}
+use Rattle.store_model.specs.Opened.{rows_at}
+use Rattle.store_model.specs.Readable.{IsRow}
 use Rattle.build_store.specs.Survey.{DoomsUnbelieved, IsFoundIn}
 use Rattle.build_store.proofs.Indexed.{rows_good}
 use Rattle.build_store.proofs.Opened.{record_survey}

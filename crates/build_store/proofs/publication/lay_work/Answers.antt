@@ -1,6 +1,6 @@
 use Rattle.std.proofs.Common.{◌≡◌, ◌∙◌, sym, subst, List, ℕ, All}
 use Rattle.tree_model.specs.Path.{IsClean, inside}
-use Rattle.build_store.specs.Publication.{work_at}
+use Rattle.store_model.specs.Publication.{work_at}
 use Rattle.build_store.proofs.Clean.{work_paths_clean}
 use Rattle.build_store.proofs.publication.lay_work.Goals as goal
 

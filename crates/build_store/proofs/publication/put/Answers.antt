@@ -3,7 +3,8 @@ use Rattle.std.specs.Option.{is_some}
 use Rattle.outside_traits.specs.Store.{Store}
 use Rattle.outside_traits.proofs.Runs.{passes_again, passes_so}
 use Rattle.stamp_store.specs.Stamp.{staged_path}
-use Rattle.build_store.specs.Publication.{IsPublished, SameObjects, stamp_at, stamp_file}
+use Rattle.build_store.specs.Publication.{IsPublished, SameObjects}
+use Rattle.store_model.specs.Publication.{stamp_at, stamp_file}
 use Rattle.build_store.specs.Phases.{put_of}
 use Rattle.build_store.proofs.Areas.{differ, heads_differ}
 use Rattle.build_store.proofs.Free.{free_old, free_stamp}

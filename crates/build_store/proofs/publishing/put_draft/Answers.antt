@@ -6,7 +6,8 @@ use Rattle.outside_traits.specs.Passes.{EachNow}
 use Rattle.build_store.specs.Drafts.{row_of_new, rows_behind}
 use Rattle.build_store.specs.Named.{IsName}
 use Rattle.build_store.specs.Publication.{HoldsObject, IsPublished, object_for, publication}
-use Rattle.build_store.specs.Sound.{IsKept, IsRow}
+use Rattle.build_store.specs.Sound.{IsKept}
+use Rattle.store_model.specs.Readable.{IsRow}
 use Rattle.build_store.specs.View.{signed_by}
 use Rattle.build_store.proofs.Clean.{name_is_name}
 use Rattle.build_store.proofs.Drafted.{line_readable}

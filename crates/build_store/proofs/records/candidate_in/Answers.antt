@@ -1,7 +1,7 @@
 use Rattle.std.proofs.Common.{◌≡◌, ◌∙◌, ap, subst, sym, Option, Some, None, IfNone, IfSome}
-use Rattle.record_belief.specs.declared.candidate.Candidate.{Candidate}
+use Rattle.store_model.specs.declared.candidate.Candidate.{Candidate}
 use Rattle.store_model.specs.Spelling.{record_bytes}
-use Rattle.build_store.specs.Paths.{record_path}
+use Rattle.store_model.specs.Paths.{record_path}
 use Rattle.build_store.specs.Survey.{IsGood}
 use Rattle.build_store.proofs.Surveyed.{one_name}
 use Rattle.build_store.proofs.records.candidate_in.Goals as goal

@@ -4,7 +4,7 @@ use Rattle.store_model.specs.Rows.{row_at}
 use Rattle.store_model.specs.Spelling.{name_of, signature_bytes}
 use Rattle.sig_gen.specs.Sound.{Spells}
 use Rattle.build_store.specs.Finding.{IsOtherOrOutside}
-use Rattle.build_store.specs.Sound.{IsRow}
+use Rattle.store_model.specs.Readable.{IsRow}
 use Rattle.build_store.specs.View.{signed_by}
 use Rattle.build_store.proofs.Found.{clash_there}
 use Rattle.build_store.proofs.Restored.{restores_run, restored_by, kept_restored}

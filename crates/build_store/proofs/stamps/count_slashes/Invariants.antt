@@ -1,5 +1,5 @@
 use Rattle.std.proofs.Common.{◌≡◌, ◌≤◌, take}
-use Rattle.build_store.specs.Paths.{slashes}
+use Rattle.store_model.specs.Paths.{slashes}
 use Rattle.build_store.proofs.stamps.count_slashes.Given as goal
 
 abbrev pub invariant-loop-byte : goal.invariant-loop-byte

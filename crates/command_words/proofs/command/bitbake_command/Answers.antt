@@ -1,6 +1,6 @@
 use Rattle.std.proofs.Common.{◌++◌, codes}
 use Rattle.std.proofs.lemmas.Result.{IfOk-weaker}
-use Rattle.command_words.specs.Command.{command, mode_options, rest, run_options}
+use Rattle.answer_model.specs.Command.{command, mode_options, rest, run_options}
 use Rattle.command_words.proofs.BuildLemmas.{rule_added}
 use Rattle.command_words.proofs.command.bitbake_command.Goals as goal
 

@@ -1,7 +1,7 @@
 use Rattle.std.proofs.Common.{◌++◌, List, [], ◌∷◌, codes}
 use Rattle.std.proofs.lemmas.Result.{IfOk-weaker}
 use Rattle.clap.specs.Walk.{Rule}
-use Rattle.command_words.specs.Command.{lettered, numbered, run_options, switch, valued}
+use Rattle.answer_model.specs.Command.{lettered, numbered, run_options, switch, valued}
 use Rattle.command_words.proofs.BuildLemmas.{rule_added}
 use Rattle.command_words.proofs.command.command_with_modes.Goals as goal
 

@@ -1,5 +1,5 @@
 use Rattle.std.proofs.Common.{◌≡◌, take, map}
-use Rattle.project_reading.specs.Said.{id_text}
+use Rattle.answer_model.specs.Said.{id_text}
 use Rattle.project_reading.proofs.graph_faults.task_texts.Given as goal
 
 abbrev pub invariant-loop-task : goal.invariant-loop-task

@@ -2,7 +2,7 @@ use Rattle.std.proofs.Common.{arith}
 use Rattle.load_model.specs.Loading.{sources_of}
 use Rattle.layer_conf.specs.Config.{config_meant}
 use Rattle.std.proofs.lemmas.Result.{IfErr-weaker}
-use Rattle.read_modes.specs.Modes.{environment_of, targets_over}
+use Rattle.answer_model.specs.Modes.{environment_of, targets_over}
 use Rattle.project_reading.specs.Answered.{IsRefusedAs}
 use Rattle.project_reading.proofs.Told.{told_same}
 use Rattle.read_modes.proofs.Reading.{with_targets}

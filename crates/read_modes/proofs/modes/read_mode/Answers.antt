@@ -4,8 +4,8 @@ use Rattle.outside_traits.specs.Store.{IsListing}
 use Rattle.load_model.specs.Loading.{sources_of}
 use Rattle.layer_conf.specs.Config.{config_meant}
 use Rattle.meta_model.proofs.Passing.{goes_on}
-use Rattle.project_reading.specs.Project.{read_config}
-use Rattle.read_modes.specs.Modes.{text_of, mode_text}
+use Rattle.answer_model.specs.Project.{read_config}
+use Rattle.answer_model.specs.Modes.{text_of, mode_text}
 use Rattle.project_reading.specs.Answered.{IsRefusedAs}
 use Rattle.project_reading.proofs.Told.{told_later}
 use Rattle.read_modes.proofs.modes.read_mode.Goals as goal

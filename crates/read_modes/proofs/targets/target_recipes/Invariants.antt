@@ -1,6 +1,6 @@
 use Rattle.std.proofs.Common.{◌≡◌, ◌<◌, All, length, drop}
 use Rattle.meta_model.specs.Passing.{behind}
-use Rattle.read_modes.specs.Modes as modes
+use Rattle.answer_model.specs.Modes as modes
 use Rattle.read_modes.proofs.targets.target_recipes.Given as goal
 
 -- the numbers so far, and what is left of the targets

@@ -1,6 +1,6 @@
 use Rattle.std.proofs.Common.{◌≡◌, drop}
 use Rattle.meta_model.specs.Passing.{behind}
-use Rattle.read_modes.specs.Modes as modes
+use Rattle.answer_model.specs.Modes as modes
 use Rattle.read_modes.proofs.values.all_values.Given as goal
 
 -- the values so far, and what is left of the numbers

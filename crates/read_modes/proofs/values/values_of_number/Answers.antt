@@ -1,6 +1,6 @@
 use Rattle.std.proofs.Common.{◌≡◌, ◌∙◌, ap, Ok, get_or}
 use Rattle.std.proofs.lemmas.Result.{IfOk-weaker, IfErr-weaker}
-use Rattle.read_modes.specs.Modes.{recipe_values, values_of_number}
+use Rattle.answer_model.specs.Modes.{recipe_values, values_of_number}
 use Rattle.project_reading.specs.Answered.{IsRefusedAs}
 use Rattle.project_reading.proofs.Told.{told_same}
 use Rattle.read_modes.proofs.Numbers.{value_is}

@@ -1,5 +1,5 @@
 use Rattle.std.proofs.Common.{◌≡◌, ℕ, ◌<◌, Contains, length}
-use Rattle.run_core.specs.Need.{deps_of}
+use Rattle.tale_model.specs.Need.{deps_of}
 use Rattle.run_core.specs.Above.{above_of}
 use Rattle.run_core.proofs.front.all_above.Given as goal
 

@@ -2,7 +2,7 @@ use Rattle.std.proofs.Common.{◌∙◌, sym, subst, Bool, true, false, IfErr}
 use Rattle.plan_model.proofs.Reached.{graph_is_over}
 use Rattle.task_plan.specs.Faults.{IsPlanFault}
 use Rattle.run_targets.specs.Meaning.{asked_meant}
-use Rattle.run_plan.specs.Plans.{plan_under}
+use Rattle.answer_model.specs.Plans.{plan_under}
 use Rattle.run_plan.proofs.Planned.{status_told}
 use Rattle.run_plan.proofs.plan.plan_of.Goals.{then-force, else-force}
 use Rattle.run_plan.proofs.plan.plan_of.Goals as goal

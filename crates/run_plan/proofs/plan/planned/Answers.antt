@@ -2,7 +2,7 @@ use Rattle.std.proofs.Common.{◌≡◌, subst, Ok}
 use Rattle.std.specs.Option.{option_copied}
 use Rattle.std.proofs.lemmas.Result.{IfOk-weaker, IfErr-weaker}
 use Rattle.run_targets.specs.Meaning.{asked_meant}
-use Rattle.run_plan.specs.Plans.{plan_under}
+use Rattle.answer_model.specs.Plans.{plan_under}
 use Rattle.run_plan.specs.Steps.{IsNoPlanOf}
 use Rattle.run_plan.proofs.Planned.{has_plan, has_no_plan, run_refused}
 use Rattle.run_plan.proofs.plan.planned.Goals as goal

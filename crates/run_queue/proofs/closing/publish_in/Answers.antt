@@ -10,7 +10,7 @@ use Rattle.run_queue.specs.Keeps.{IsSteadyAnswer}
 use Rattle.store_model.specs.declared.signature.EquivRow.{EquivRow}
 use Rattle.store_model.specs.Signatures.{Signed}
 use Rattle.build_store.specs.Publication.{IsAgreed, line_for, publication}
-use Rattle.build_store.specs.Sound.{IsReadable}
+use Rattle.store_model.specs.Readable.{IsReadable}
 use Rattle.build_store.specs.View.{signed_by}
 use Rattle.run_queue.specs.Puts.{HasPut, IsSignedAt, Puts}
 use Rattle.run_queue.proofs.Causing.{refusal_given, store_cause}

@@ -5,10 +5,10 @@ use Rattle.outside_traits.specs.Store.{IsListing}
 use Rattle.load_model.specs.Loading.{sources_of}
 use Rattle.layer_conf.specs.Config.{config_meant}
 use Rattle.meta_model.proofs.Passing.{goes_on}
-use Rattle.project_reading.specs.Project.{read_config}
+use Rattle.answer_model.specs.Project.{read_config}
 use Rattle.project_reading.specs.Answered.{IsRefusedAs}
 use Rattle.project_reading.proofs.Told.{told_later}
-use Rattle.run_targets.specs.Asked.{asked, asked_under}
+use Rattle.answer_model.specs.RunAsked.{asked, asked_under}
 use Rattle.run_targets.specs.Meaning.{asked_meant}
 use Rattle.run_targets.proofs.asked.read_asked.Goals as goal
 

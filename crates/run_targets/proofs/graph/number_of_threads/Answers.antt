@@ -2,7 +2,7 @@ use Rattle.std.proofs.Common.{◌≡◌, ◌∙◌, ap, sym, ◌⊎◌, ℕ, Ok}
 use Rattle.meta_model.specs.declared.event.Status.TheVariants.{OutOfMemory}
 use Rattle.meta_model.specs.Threads.{AreThreads}
 use Rattle.std.proofs.lemmas.Result.{IfErr-weaker}
-use Rattle.project_reading.specs.Said.{threads_status}
+use Rattle.answer_model.specs.Said.{threads_status}
 use Rattle.run_targets.specs.Meaning.{asked_meant}
 use Rattle.run_targets.specs.Runs.{IsDeviceStatus, HasNoThreads}
 use Rattle.run_targets.proofs.Told.{threads_told}

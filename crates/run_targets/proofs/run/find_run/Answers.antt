@@ -4,7 +4,8 @@ use Rattle.outside_traits.specs.Store.{IsListing}
 use Rattle.load_model.specs.Loading.{sources_of}
 use Rattle.std.proofs.lemmas.Result.{IfErr-weaker}
 use Rattle.run_targets.specs.Meaning.{asked_meant}
-use Rattle.run_targets.specs.Runs.{HasRun, HasNoRun, IsRun, IsNoRun}
+use Rattle.run_targets.specs.Runs.{HasRun, HasNoRun, IsNoRun}
+use Rattle.answer_model.specs.Runs.{IsRun}
 use Rattle.run_targets.proofs.Running.{run_asked, ok_and_ok, no_run_asked, asking_refused}
 use Rattle.run_targets.proofs.run.find_run.Goals as goal
 

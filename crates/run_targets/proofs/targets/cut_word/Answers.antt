@@ -1,6 +1,6 @@
 use Rattle.std.proofs.Common.{ap, sym, Some, None}
 use Rattle.recipe_facts.proofs.Tasked.{cut_first}
-use Rattle.run_targets.specs.Targets.{target_of_cut}
+use Rattle.answer_model.specs.Targets.{target_of_cut}
 use Rattle.run_targets.proofs.targets.cut_word.Goals as goal
 
 pub returns-in-Some-clause-name : goal.returns-in-Some-clause-name

@@ -1,6 +1,6 @@
 use Rattle.std.proofs.Common.{◌≡◌, drop}
 use Rattle.meta_model.specs.Passing.{behind}
-use Rattle.run_targets.specs.Asked as asked
+use Rattle.answer_model.specs.RunAsked as asked
 use Rattle.run_targets.proofs.targets.targets_of.Given as goal
 
 -- the targets so far, and what is left of the words

@@ -1,5 +1,5 @@
 use Rattle.std.proofs.Common.{ℕ, ◌<◌, All}
-use Rattle.run_core.specs.Need.{deps_of}
+use Rattle.tale_model.specs.Need.{deps_of}
 use Rattle.run_tests.proofs.plans.are_ordered.Given as goal
 
 abbrev pub invariant-loop-place : goal.invariant-loop-place

@@ -1,7 +1,7 @@
 use Rattle.std.proofs.Common.{◌≡◌, ◌∙◌, ap, true, false, List, set}
 use Rattle.meta_model.specs.declared.event.Why.TheVariants as why
-use Rattle.run_core.specs.declared.fate.Fate.{Fate}
-use Rattle.run_core.specs.declared.fate.Fate.TheVariants.{Failed, Running}
+use Rattle.tale_model.specs.declared.fate.Fate.{Fate}
+use Rattle.tale_model.specs.declared.fate.Fate.TheVariants.{Failed, Running}
 use Rattle.setscene_plan.specs.Replans.{avail_in, need_in}
 use Rattle.run_tests.specs.Index.{view_of}
 use Rattle.run_tests.proofs.BoardSteps.{long_twice, may_fail, may_start, nothing_changed, rests_twice, stood}

@@ -1,5 +1,5 @@
 use Rattle.std.proofs.Common.{◌≡◌, ◌∙◌, true, false, set}
-use Rattle.run_core.specs.declared.fate.Fate.TheVariants.{Found}
+use Rattle.tale_model.specs.declared.fate.Fate.TheVariants.{Found}
 use Rattle.setscene_plan.specs.Replans.{avail_in, need_in}
 use Rattle.run_tests.specs.Index.{view_of}
 use Rattle.run_tests.proofs.BoardSteps.{long_once, nothing_changed, rests_once, stood}

@@ -6,7 +6,7 @@ use Rattle.tree_model.specs.Overlay.{overlaid}
 use Rattle.meta_model.specs.Layout.{layout_in_order}
 use Rattle.meta_model.specs.Worked.{planned, shell}
 use Rattle.run_workers.specs.Rows.{one_plan, one_run}
-use Rattle.run_workers.specs.Runs.{IsRunOf, RanScripts, RanThese, Runs}
+use Rattle.run_model.specs.Runs.{IsRunOf, RanScripts, RanThese, Runs}
 use Rattle.run_workers.proofs.examples.example_of_runs.Goals as goal
 
 is_run : IsRunOf shell one_plan 0 (codes "gen", [])

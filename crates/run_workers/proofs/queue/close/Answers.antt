@@ -1,5 +1,5 @@
 use Rattle.std.proofs.Common.{sym, subst}
-use Rattle.run_core.specs.Fates.{NoneRuns}
+use Rattle.tale_model.specs.Fates.{NoneRuns}
 use Rattle.run_queue.specs.Seen.{RunView}
 use Rattle.run_queue.specs.Turns.{fates_of}
 use Rattle.turn_lock.specs.Seats.{view_of}

@@ -1,7 +1,7 @@
 use Rattle.std.proofs.Common.{◌≡◌, ◌↔◌, ℕ, Some, sym, subst, ap, ◌∙◌}
 use Rattle.meta_model.specs.declared.event.Event.TheVariants as events
-use Rattle.run_core.specs.declared.fate.Fate.TheVariants.{Running}
-use Rattle.run_core.specs.Fates.{fate_at}
+use Rattle.tale_model.specs.declared.fate.Fate.TheVariants.{Running}
+use Rattle.tale_model.specs.Fates.{fate_at}
 use Rattle.run_core.specs.History.{last_of}
 use Rattle.run_queue.specs.Turns.{fates_of}
 use Rattle.turn_lock.specs.declared.rule.Stage.TheVariants.{Holding}

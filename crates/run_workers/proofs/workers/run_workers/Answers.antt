@@ -2,8 +2,8 @@ use Rattle.std.proofs.Common.{◌≡◌, ◌+◌, ◌<◌, suc, sym, subst, arit
 use Rattle.std.specs.Prelude.{take}
 use Rattle.outside_traits.specs.Fault.{Rose}
 use Rattle.meta_model.specs.CleanBuild.{Gives}
-use Rattle.run_workers.specs.Told.{own}
-use Rattle.run_workers.specs.Worked.{Breaks, RanPrinted, RanStarted}
+use Rattle.run_model.specs.Seats.{own, RanStarted}
+use Rattle.run_workers.specs.Worked.{Breaks, RanPrinted}
 use Rattle.run_workers.proofs.Picking.{alike_all, alike_first, gives_first}
 use Rattle.run_workers.proofs.workers.run_workers.Goals as goal
 

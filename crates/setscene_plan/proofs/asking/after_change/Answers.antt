@@ -1,7 +1,7 @@
 use Rattle.std.proofs.Common.{List, take, ◌≡◌, ◌∙◌, sym, ap, subst, length, arith}
 use Rattle.meta_model.specs.declared.event.Avail.{Avail}
 use Rattle.meta_model.specs.declared.plan.Plan.{Plan}
-use Rattle.run_core.specs.Need.{IsNeed}
+use Rattle.tale_model.specs.Need.{IsNeed}
 use Rattle.setscene_plan.specs.Asked.{AreNeeds, members_beyond}
 use Rattle.setscene_plan.proofs.Learning.{whole, none_needs, none_asked, none_told, some_asked, some_others, some_told}
 use Rattle.setscene_plan.proofs.Meanings.{others_follow}

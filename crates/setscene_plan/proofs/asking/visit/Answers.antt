@@ -1,6 +1,6 @@
 use Rattle.std.proofs.Common.{◌≡◌, List, ℕ, ◌<◌, ◌∙◌, All, Contains, Some, length, ap, sym, subst, arith}
 use Rattle.meta_model.specs.declared.plan.PlanTask.{PlanTask}
-use Rattle.run_core.specs.Need.{deps_of}
+use Rattle.tale_model.specs.Need.{deps_of}
 use Rattle.setscene_plan.specs.Sets.{Adds}
 use Rattle.setscene_plan.proofs.Sweeping.{below_within, below_put, is_in, deps_read}
 use Rattle.setscene_plan.proofs.Learning.{asks_in}

@@ -1,6 +1,6 @@
 use Rattle.std.proofs.Common.{ap, ◌∙◌, filter, not, List, ℕ}
 use Rattle.meta_model.specs.Layout.{by_name, is_of}
-use Rattle.task_worker.specs.Layouts.{needed_among}
+use Rattle.run_model.specs.Layouts.{needed_among}
 use Rattle.task_worker.specs.Work.{parts_needed}
 use Rattle.task_worker.proofs.Laid.{all_laid, files_clean, parts_layable}
 use Rattle.task_worker.proofs.laying.laid_out.Goals as goal

@@ -3,7 +3,7 @@ use Rattle.std.specs.Prelude.{codes}
 use Rattle.std.proofs.lemmas.Result.{IfOk-weaker}
 use Rattle.meta_model.specs.CleanBuild.{Entries}
 use Rattle.meta_model.specs.Layout.{Needed, by_depth, is_of, overlaid_all, put_inside}
-use Rattle.task_worker.specs.Layouts.{needed_among}
+use Rattle.run_model.specs.Layouts.{needed_among}
 use Rattle.task_worker.specs.Work.{parts_needed}
 use Rattle.task_worker.proofs.Laid.{own_clean, own_laid}
 use Rattle.task_worker.proofs.laying.work_of.Goals as goal

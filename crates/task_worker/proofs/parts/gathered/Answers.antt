@@ -2,7 +2,7 @@ use Rattle.std.proofs.Common.{ap, ◌∙◌, sym, ◌++◌, ℕ, List, filter, t
 use Rattle.meta_model.specs.CleanBuild.{Entries}
 use Rattle.meta_model.specs.Layout.{Needed}
 use Rattle.task_worker.specs.Work.{if_wanted, is_wanted}
-use Rattle.task_worker.specs.Layouts.{needed_at, needed_among}
+use Rattle.run_model.specs.Layouts.{needed_at, needed_among}
 use Rattle.task_worker.proofs.Lists.{wanted_more}
 use Rattle.task_worker.proofs.parts.gathered.Goals as goal
 

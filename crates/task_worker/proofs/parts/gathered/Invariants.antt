@@ -1,5 +1,5 @@
 use Rattle.std.proofs.Common.{◌≡◌, take, filter}
-use Rattle.task_worker.specs.Layouts.{needed_among}
+use Rattle.run_model.specs.Layouts.{needed_among}
 use Rattle.task_worker.specs.Work.{is_wanted, parts_needed}
 use Rattle.task_worker.proofs.parts.gathered.Given as goal
 

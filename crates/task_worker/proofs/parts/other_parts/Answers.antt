@@ -1,7 +1,7 @@
 use Rattle.std.proofs.Common.{◌≡◌, rules}
 use Rattle.std.specs.Ordering.{is_lt}
 use Rattle.std.proofs.lemmas.Fn.{always_returns_same}
-use Rattle.task_worker.specs.Layouts.{needed_among}
+use Rattle.run_model.specs.Layouts.{needed_among}
 use Rattle.task_worker.specs.Work.{name_cmp, part_needed}
 use Rattle.task_worker.proofs.Orders.{is_before, part_order, name_total, other_order}
 use Rattle.task_worker.proofs.parts.other_parts.Goals as goal

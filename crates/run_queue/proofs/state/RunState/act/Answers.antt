@@ -1,5 +1,5 @@
 use Rattle.std.proofs.Common.{subst}
-use Rattle.run_core.specs.declared.fate.Next.{Next}
+use Rattle.run_core.specs.declared.next.Next.{Next}
 use Rattle.run_core.specs.Choice.{MayAnswer}
 use Rattle.run_queue.specs.Keeps.{IsUpToDate}
 use Rattle.run_queue.specs.Seen.{seen}

@@ -3,8 +3,8 @@ use Rattle.std.specs.Prelude.{Option}
 use Rattle.std.proofs.lemmas.List.{length-replicate}
 use Rattle.meta_model.specs.declared.event.Avail.{Avail}
 use Rattle.std.proofs.Common.{vec_capacity}
-use Rattle.run_core.specs.Fates.{fates_told}
-use Rattle.run_core.specs.declared.fate.Fate.TheVariants.{Waiting}
+use Rattle.tale_model.specs.Fates.{fates_told}
+use Rattle.tale_model.specs.declared.fate.Fate.TheVariants.{Waiting}
 use Rattle.run_queue.proofs.Beginning.{begins_room, begins_run, begins_state}
 use Rattle.run_queue.proofs.state.RunState.begin.Goals as goal
 

@@ -1,6 +1,6 @@
 use Rattle.std.proofs.Common.{◌≡◌, sym, subst}
 use Rattle.meta_model.specs.declared.event.Event.TheVariants as events
-use Rattle.bb_report.specs.Runs.{tale_text}
+use Rattle.run_model.specs.Report.{tale_text}
 use Rattle.run_queue.specs.Keeps.{IsRun}
 use Rattle.run_queue.specs.Seen.{Seen, seen}
 use Rattle.run_queue.proofs.Breaking.{broke_run}

@@ -1,5 +1,5 @@
 use Rattle.std.proofs.Common.{◌≡◌, None}
-use Rattle.run_queue.specs.Opening.{Opening}
+use Rattle.run_model.specs.Opening.{Opening}
 use Rattle.run_queue.specs.Keeps.{IsRun}
 use Rattle.run_queue.specs.Seen.{seen}
 use Rattle.run_queue.proofs.Tried.{SameTold}

@@ -8,8 +8,8 @@ use Rattle.meta_model.specs.declared.event.Cut.TheVariants as cuts
 use Rattle.build_store.specs.declared.fault.StoreFault.TheVariants as fault_of
 use Rattle.run_queue.specs.declared.fault.RunFault.{RunFault}
 use Rattle.run_queue.specs.declared.fault.RunFault.TheVariants as ends
-use Rattle.run_core.specs.declared.fate.Fate.TheVariants.{Running}
-use Rattle.run_core.specs.Fates.{fate_at, fates_told}
+use Rattle.tale_model.specs.declared.fate.Fate.TheVariants.{Running}
+use Rattle.tale_model.specs.Fates.{fate_at, fates_told}
 use Rattle.run_core.proofs.Steps.{count_told}
 use Rattle.setscene_plan.specs.declared.replan.Replan.{Replan}
 use Rattle.setscene_plan.specs.Replans.{IsCurrent}

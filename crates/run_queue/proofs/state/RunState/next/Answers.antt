@@ -1,7 +1,7 @@
 use Rattle.std.proofs.Common.{◌∙◌, ap, subst, Bool, List, length}
 use Rattle.std.specs.Option.{option_map}
 use Rattle.meta_model.specs.declared.event.Avail.{Avail}
-use Rattle.run_core.specs.declared.fate.Fate.{Fate}
+use Rattle.tale_model.specs.declared.fate.Fate.{Fate}
 use Rattle.run_core.specs.Choice.{MayAnswer}
 use Rattle.run_core.proofs.Steps.{count_told}
 use Rattle.run_queue.specs.Seen.{RunView, known_in}

@@ -1,8 +1,9 @@
 use Rattle.std.proofs.Common.{◌≡◌, ◌∙◌, sym, ap, subst, ℕ, ◌<◌, List, ◌++◌, ◌∷◌, [], length, false, arith}
 use Rattle.std.proofs.Common.{vec_capacity}
 use Rattle.meta_model.specs.declared.event.Logged.{Logged}
-use Rattle.run_core.specs.declared.fate.Fate.{Fate}
-use Rattle.run_core.specs.Fates.{fate_at, fates_by, fates_told, is_running, running_count, task_of}
+use Rattle.tale_model.specs.declared.fate.Fate.{Fate}
+use Rattle.tale_model.specs.Fates.{fate_at, fates_by, fates_told, is_running, task_of}
+use Rattle.run_core.specs.Fates.{running_count}
 use Rattle.run_core.specs.History.{IsInOrder}
 use Rattle.run_core.proofs.Steps.{count_told}
 use Rattle.run_queue.specs.Keeps.{HasRoom, IsState}

@@ -4,9 +4,9 @@ use Rattle.std.specs.List.{slice_get}
 use Rattle.std.specs.Option.{option_map}
 use Rattle.outside_traits.specs.Fault.{Counts}
 use Rattle.meta_model.specs.declared.event.Avail.TheVariants as avails
-use Rattle.run_core.specs.Fates.{IsFree}
-use Rattle.run_core.specs.declared.fate.Next.TheVariants as next
-use Rattle.bb_report.specs.Runs.{tale_text}
+use Rattle.tale_model.specs.Fates.{IsFree}
+use Rattle.run_core.specs.declared.next.Next.TheVariants as next
+use Rattle.run_model.specs.Report.{tale_text}
 use Rattle.store_model.specs.Signatures.{Signed}
 use Rattle.run_queue.specs.Keeps.{IsFront, IsRun, IsUpToDate, Prints}
 use Rattle.run_queue.specs.Puts.{HasPutObject, IsSignedAt}

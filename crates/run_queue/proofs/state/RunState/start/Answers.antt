@@ -5,8 +5,8 @@ use Rattle.outside_traits.proofs.Images.{held-image}
 use Rattle.meta_model.specs.declared.event.Event.TheVariants as events
 use Rattle.meta_model.specs.declared.event.Why.TheVariants as why
 use Rattle.meta_model.specs.declared.plan.PlanTask.{PlanTask}
-use Rattle.run_core.specs.declared.fate.Next.TheVariants as next
-use Rattle.run_core.specs.Fates.{IsFree}
+use Rattle.run_core.specs.declared.next.Next.TheVariants as next
+use Rattle.tale_model.specs.Fates.{IsFree}
 use Rattle.task_worker.specs.declared.given.Job.{Job}
 use Rattle.task_worker.proofs.Building.{sound_is_runnable}
 use Rattle.run_queue.specs.Keeps.{IsRun, IsUpToDate}

@@ -1,5 +1,5 @@
 use Rattle.std.proofs.Common.{◌++◌, sym, subst, ap, ◌∙◌, Bool, map}
-use Rattle.run_queue.specs.Opening.{Opening}
+use Rattle.run_model.specs.Opening.{Opening}
 use Rattle.run_queue.specs.Seen.{seen}
 use Rattle.std.specs.Prelude.{Result}
 use Rattle.tree_model.specs.declared.text.Mem.{Mem}

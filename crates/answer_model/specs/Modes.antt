@@ -12,12 +12,12 @@ use Rattle.load_model.specs.LoadRefusal.{◌>>=◌, refused_as}
 use Rattle.load_model.specs.Loading.{Sources}
 use Rattle.load_model.specs.Layers.{Config}
 use Rattle.load_model.specs.Facts.{RecipeSet, environment}
-use Rattle.bb_report.specs.Texts.{env_text, recipe_line, versions_text, parsed_text}
-use Rattle.read_modes.specs.declared.modes.ReadMode.{ReadMode}
-use Rattle.read_modes.specs.declared.modes.ReadMode.TheVariants.{Parse, Versions, Environment}
-use Rattle.project_reading.specs.Said.{value_status, lack_status}
-use Rattle.project_reading.specs.Project.{read_config, read_recipes}
-use Rattle.run_targets.specs.Targets.{is_elsewhere, target_name}
+use Rattle.run_model.specs.Texts.{env_text, recipe_line, versions_text, parsed_text}
+use Rattle.answer_model.specs.declared.asked.ReadMode.{ReadMode}
+use Rattle.answer_model.specs.declared.asked.ReadMode.TheVariants.{Parse, Versions, Environment}
+use Rattle.answer_model.specs.Said.{value_status, lack_status}
+use Rattle.answer_model.specs.Project.{read_config, read_recipes}
+use Rattle.answer_model.specs.Targets.{is_elsewhere, target_name}
 
 -- the number of the recipe that provides a name
 abbrev pub provider_number : FactSet → List ℕ → Result ℕ Status

@@ -1,15 +1,14 @@
 -- The request that the program's words make.
-use Rattle.std.specs.Prelude.{ℕ, Bool, true, false, not, List, [], Option, Some, None, find, bytes_eq, codes}
-use Rattle.std.specs.Prelude.{option_map, option_and_then, unwrap_or, if◌then◌else◌}
+use Rattle.std.specs.Prelude.{ℕ, Bool, true, false, not, List, [], Option, Some, None, find, bytes_eq, codes, option_map, option_and_then, unwrap_or, if◌then◌else◌}
 use Rattle.std.specs.Str.Parse.{digits_value, without_leading_plus}
 use Rattle.clap.specs.Walk.{Row, Text, all_of, first_of, is_empty}
 use Rattle.clap.specs.Simple.{matches_of}
 use Rattle.clap.specs.Faults.{fault_of}
 use Rattle.clap.specs.declared.parser.matches.ValueSource.{ValueSource}
 use Rattle.clap.specs.declared.parser.matches.ValueSource.TheVariants.{CommandLine}
-use Rattle.command_words.specs.declared.request.Request.{Request}
-use Rattle.command_words.specs.Command.{command}
-use Rattle.command_words.specs.Modes.{lacks_target}
+use Rattle.answer_model.specs.declared.request.Request.{Request}
+use Rattle.answer_model.specs.Command.{command}
+use Rattle.answer_model.specs.RequestModes.{lacks_target}
 
 -- the words themselves say so, and no default
 abbrev pub is_from_words : Option ValueSource → Bool

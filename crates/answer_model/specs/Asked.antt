@@ -3,17 +3,17 @@ use Rattle.std.specs.Prelude.{◌≡◌, ℕ, List, Result, Ok, Err}
 use Rattle.std.specs.Option.{option_map_or}
 use Rattle.meta_model.specs.declared.event.Status.{Status}
 use Rattle.meta_model.specs.declared.event.Status.TheVariants as status
-use Rattle.command_words.specs.declared.request.Mode.{Mode}
-use Rattle.command_words.specs.declared.request.Mode.TheVariants as mode
-use Rattle.command_words.specs.declared.request.Request.{Request}
-use Rattle.command_words.specs.Modes.{mode_of}
-use Rattle.command_words.specs.Reading.{request_of}
-use Rattle.read_modes.specs.declared.modes.ReadMode.{ReadMode}
-use Rattle.read_modes.specs.declared.modes.ReadMode.TheVariants as read
-use Rattle.bitbake_top.specs.declared.asked.Asked.{Asked}
-use Rattle.bitbake_top.specs.declared.asked.Asked.TheVariants.{Runs, Reads, Plans, Sample}
-use Rattle.bitbake_top.specs.declared.asked.DryRequest.{DryRequest}
-use Rattle.bitbake_top.specs.declared.asked.RunRequest.{RunRequest}
+use Rattle.answer_model.specs.declared.request.Mode.{Mode}
+use Rattle.answer_model.specs.declared.request.Mode.TheVariants as mode
+use Rattle.answer_model.specs.declared.request.Request.{Request}
+use Rattle.answer_model.specs.RequestModes.{mode_of}
+use Rattle.answer_model.specs.Reading.{request_of}
+use Rattle.answer_model.specs.declared.asked.ReadMode.{ReadMode}
+use Rattle.answer_model.specs.declared.asked.ReadMode.TheVariants as read
+use Rattle.answer_model.specs.declared.asked.Asked.{Asked}
+use Rattle.answer_model.specs.declared.asked.Asked.TheVariants.{Runs, Reads, Plans, Sample}
+use Rattle.answer_model.specs.declared.asked.DryRequest.{DryRequest}
+use Rattle.answer_model.specs.declared.asked.RunRequest.{RunRequest}
 
 -- What a run is asked for: its targets, and how it goes on.
 abbrev pub run_of : Request → RunRequest

@@ -6,15 +6,15 @@ use Rattle.meta_model.specs.declared.event.Status.{Status}
 use Rattle.meta_model.specs.declared.event.Status.TheVariants as status
 use Rattle.meta_model.specs.declared.plan.Options.{Options}
 use Rattle.meta_model.specs.declared.plan.Plan.{Plan}
-use Rattle.bb_report.specs.Runs.{report}
-use Rattle.bb_report.specs.Texts.{fault_text, plan_text}
-use Rattle.bb_report.specs.Written.{WritesFront}
-use Rattle.project_reading.specs.Answered.{is_refusal}
-use Rattle.run_plan.specs.Plans.{HasPlan, IsPlanRefused}
-use Rattle.run_workers.specs.Runs.{Runs}
-use Rattle.build_resume.specs.Build.{AllClean, MayEndSo, RanPrinted}
-use Rattle.build_resume.specs.Outcome.{EndsAs}
-use Rattle.bitbake_top.specs.declared.asked.RunRequest.{RunRequest}
+use Rattle.run_model.specs.Report.{report}
+use Rattle.run_model.specs.Texts.{fault_text, plan_text}
+use Rattle.run_model.specs.Written.{WritesFront}
+use Rattle.run_model.specs.Runs.{Runs}
+use Rattle.run_model.specs.Build.{AllClean, MayEndSo, RanPrinted}
+use Rattle.run_model.specs.Outcome.{EndsAs}
+use Rattle.answer_model.specs.Answers.{is_refusal}
+use Rattle.answer_model.specs.Plans.{HasPlan, IsPlanRefused}
+use Rattle.answer_model.specs.declared.asked.RunRequest.{RunRequest}
 
 -- what each path of the project holds
 abbrev pub Files : Type 0

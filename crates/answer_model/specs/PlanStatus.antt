@@ -2,8 +2,8 @@
 use Rattle.std.specs.Prelude.{ℕ, List, [], ◌∷◌, codes}
 use Rattle.meta_model.specs.declared.event.Status.{Status}
 use Rattle.meta_model.specs.declared.event.Status.TheVariants.{Metadata, Limit}
-use Rattle.project_reading.specs.Said.{value_status}
 use Rattle.plan_model.specs.PlanRefusal.{PlanRefusal, bad_flag, no_value, missing_file, input_bytes, plan_bytes}
+use Rattle.answer_model.specs.Said.{value_status}
 
 -- a word of a flag that can't be used, with the flag
 abbrev pub flag_status : List ℕ → List ℕ → List ℕ → Status

@@ -1,9 +1,9 @@
 -- What is promised of a run whose devices tell what they hold.
-use Rattle.std.specs.Prelude.{true, ◌≡◌, ◌⊎◌, ℕ, false, List, [], ◌∷◌, ◌++◌, Contains, All, Ok}
+use Rattle.std.specs.Prelude.{None, true, ◌≡◌, ◌⊎◌, ℕ, false, List, [], ◌∷◌, ◌++◌, Contains, All, Ok}
 use Rattle.std.specs.List.{AllByRecursion}
 use Rattle.tree_model.specs.Tree.{IsTree}
-use Rattle.outside_traits.specs.Passes.{EachNow}
 use Rattle.outside_traits.specs.Store.{Store}
+use Rattle.outside_traits.specs.Passes.{EachNow}
 use Rattle.outside_traits.specs.Story.{IsImageSince, Story}
 use Rattle.meta_model.specs.declared.event.Logged.{Logged}
 use Rattle.meta_model.specs.declared.event.Status.{Status}
@@ -14,13 +14,16 @@ use Rattle.meta_model.specs.CleanBuild.{Entries, Gives}
 use Rattle.store_model.specs.Origins.{Book, Reading}
 use Rattle.store_model.specs.Reuse.{MayReuse}
 use Rattle.store_model.specs.Valid.{IsValid}
-use Rattle.build_store.specs.Sound.{IsReadable}
-use Rattle.run_queue.specs.Opening.{HasFolders}
-use Rattle.run_workers.specs.Runs.{Runs}
+use Rattle.store_model.specs.Readable.{IsReadable}
 use Rattle.plan_model.specs.Sound.{AreWanted}
-use Rattle.build_resume.specs.Benches.{AtSeats}
-use Rattle.build_resume.specs.Build.{FailsClean, HasRun, HasTargets, IsCrash, IsEachFailureTold, LeavesOthers, RanStarted, failed_in, is_unsteady}
-use Rattle.build_resume.specs.Laws.{nothing}
+use Rattle.run_model.specs.Opening.{HasFolders}
+use Rattle.run_model.specs.Runs.{Runs}
+use Rattle.run_model.specs.Benches.{AtSeats}
+use Rattle.run_model.specs.Build.{FailsClean, HasRun, HasTargets, IsCrash, IsEachFailureTold, LeavesOthers, RanStarted, failed_in, is_unsteady}
+
+-- a disk that holds nothing
+abbrev pub nothing : Store
+nothing path = None
 
 -- what scripts give are trees
 abbrev pub GivesTrees : Gives → Type 0

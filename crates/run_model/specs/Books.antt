@@ -12,7 +12,7 @@ use Rattle.store_model.specs.Recording.{recorded}
 use Rattle.store_model.specs.Rows.{row_at}
 use Rattle.store_model.specs.Signatures.{Signed, signatures}
 use Rattle.store_model.specs.Spelling.{name_of}
-use Rattle.run_queue.specs.Opening.{Opening}
+use Rattle.run_model.specs.Opening.{Opening}
 
 -- the line that a task with this signature puts behind these rows, if its name has none
 abbrev pub line_if_new : List EquivRow → Signed → Entries → Option EquivRow → List Line

@@ -1,9 +1,9 @@
 -- What a request asks for (own rule).
 use Rattle.std.specs.Prelude.{Bool, true, false, ◌&&◌, ◌==◌, length, if◌then◌else◌}
 use Rattle.std.specs.Option.{option_map_or}
-use Rattle.command_words.specs.declared.request.Mode.{Mode}
-use Rattle.command_words.specs.declared.request.Mode.TheVariants.{Sample, Parse, Versions, Environment, Dry, Run}
-use Rattle.command_words.specs.declared.request.Request.{Request}
+use Rattle.answer_model.specs.declared.request.Mode.{Mode}
+use Rattle.answer_model.specs.declared.request.Mode.TheVariants.{Sample, Parse, Versions, Environment, Dry, Run}
+use Rattle.answer_model.specs.declared.request.Request.{Request}
 
 -- the first of the modes that were asked for, in this order; where none was, a run
 abbrev pub mode_of : Request → Mode

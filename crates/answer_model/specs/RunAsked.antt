@@ -10,10 +10,9 @@ use Rattle.load_model.specs.Loading.{Sources}
 use Rattle.load_model.specs.Layers.{Config}
 use Rattle.load_model.specs.Recipes.{text_of}
 use Rattle.load_model.specs.Facts.{RecipeSet}
-use Rattle.project_reading.specs.Said.{value_status}
-use Rattle.project_reading.specs.Project.{read_config, read_recipes}
-use Rattle.run_targets.specs.Targets.{target_of, is_elsewhere}
-use Rattle.project_reading.specs.Said.{lack_status}
+use Rattle.answer_model.specs.Said.{value_status, lack_status}
+use Rattle.answer_model.specs.Project.{read_config, read_recipes}
+use Rattle.answer_model.specs.Targets.{target_of, is_elsewhere}
 
 -- All recipes, the entries of the configuration once its names are moved, its appends, and the targets.
 pub record Asked : Type 0 where

@@ -1,11 +1,11 @@
 -- What is proved of plans of words.
 use Rattle.std.specs.Prelude.{◌≡◌, ℕ, Bool, List, [], Option}
+use Rattle.outside_traits.specs.Store.{IsListing}
 use Rattle.meta_model.specs.declared.event.Status.{Status}
 use Rattle.meta_model.specs.declared.plan.Plan.{Plan}
-use Rattle.outside_traits.specs.Store.{IsListing}
 use Rattle.plan_model.specs.Inputs.{Files}
 use Rattle.plan_model.specs.Sound.{AreClean, AreWanted, IsSound}
-use Rattle.run_plan.specs.Plans.{HasPlan, IsPlanRefused}
+use Rattle.answer_model.specs.Plans.{HasPlan, IsPlanRefused}
 
 -- Words that have a plan aren't refused.
 abbrev pub PlansAreNotRefused : Type 0

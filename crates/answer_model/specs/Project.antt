@@ -6,7 +6,7 @@ use Rattle.load_model.specs.LoadRefusal.{refused_as}
 use Rattle.load_model.specs.Loading.{Sources}
 use Rattle.load_model.specs.Layers.{Config, config}
 use Rattle.load_model.specs.Facts.{RecipeSet, recipe_set}
-use Rattle.project_reading.specs.Said.{layer_status, set_status}
+use Rattle.answer_model.specs.Said.{layer_status, set_status}
 
 -- what a tool answers to that it hasn't built: none of the calls does
 abbrev pub not_built : Status

@@ -1,0 +1,21 @@
+-- What a run begins with, where its disk tells.
+use Rattle.std.specs.Prelude.{◌≡◌, ℕ, List, None, codes}
+use Rattle.tree_model.specs.Path.{inside}
+use Rattle.outside_traits.specs.Store.{Store}
+use Rattle.outside_traits.specs.Story.{Story}
+use Rattle.meta_model.specs.CleanBuild.{Gives}
+use Rattle.store_model.specs.Origins.{Book, Reading}
+use Rattle.store_model.specs.Paths.{slashes}
+
+-- What scripts give, what the lines of a key say, the disk as the store was opened on it, and the book of its rows.
+pub record Opening : Type 0 where
+  pub gives : Gives
+  pub reading : Reading
+  pub story : Story
+  pub book : Book
+
+-- Nothing is held at `work` and `obj`, nor right below `work`: there folders stand (own rule).
+pub record HasFolders (held : Store) : Type 0 where
+  pub work : held (codes "work") ≡ None
+  pub objects : held (codes "obj") ≡ None
+  pub parts : (part : List ℕ) → slashes part ≡ 0 → held (inside (codes "work") part) ≡ None

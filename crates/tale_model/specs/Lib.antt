@@ -1,0 +1,4 @@
+pub mod Fates
+pub mod Need
+pub mod Choice
+pub mod History
