@@ -1,18 +1,18 @@
 #!/usr/bin/env python3
-"""Keeps the tables of docs/READING.md true: which files they name, in which order, with their lines, and which definitions count.
+"""Counts the lines of docs/READING.md, and compares its tables with what the promises stand on.
 
 Usage: bench/reading_lines.py [--check]
-With --check nothing is written, and the status is 1 where a number or a list of names isn't up to date.
-
-A reader has to believe what the contracts of ROOTS say: so each definition of `specs/` that they name, each that such a definition names,
+The promises stand on what the contracts of ROOTS say: so each definition of `specs/` that they name, each that such a definition names,
 and so on, and the fields of each type on the way. A name counts wherever it stands in a clause or in a definition, so this finds rather
-too much than too little. The lines are written, and where less than half of a file's definitions count their names, behind `; of it`.
-The status is 1, and nothing can be written for it, where a file on the way is in no table, where a table names one that isn't on it,
-and where a file stands before one that it takes something from.
+too much than too little. Lines are those of the definitions that count, without comments and empty lines; where less than half of a file's
+definitions count, their names are written behind `; of it`. With --check nothing is written. The status is 1, and nothing is written, where
+a file on the way is in no table, where a table names one that isn't on it, where a file stands before one that it takes something from, and
+where one stands neither in a crate of the page's list nor among the exceptions, each of which has its reason there.
 """
 import glob
 import os
 import re
+import shutil
 import sys
 
 os.chdir(os.path.dirname(os.path.dirname(os.path.realpath(__file__))))
@@ -25,10 +25,28 @@ ROOTS = [
     "crates/bitbake_top/src/laws.rt",
     "crates/run_plan/src/laws.rt",
 ]
+# the heart: what each of its tables follows
+HEART = {
+    "exact outputs": [("outside_traits.specs.Passes", "EachNow"), ("run_model.specs.Build", "HasTargets")],
+    "where a run may begin, and every crash": [("run_model.specs.Headline", "MayBegin"), ("run_model.specs.Build", "IsCrash")],
+}
+KIT = ("clap", "sha2")
+UNPROVED = ("outside_os", "bitbake_cli")
 ROW = re.compile(r"^\| `(crates/[^`]*)` \| (\d+) \| (.*?)(; of it [^|]*)? \|$", re.M)
+CRATE = re.compile(r"^\| `(\w+)` \| (\d+) \| (.*?) \|$", re.M)
 WORD = re.compile(r"◌?[^\s(){}\[\];,.λ]+(?:\.[^\s(){}\[\];,.λ]+)*")
 KEYWORDS = {"abbrev", "unfoldable", "opaque", "pub", "data", "record"}
 OTHERS = {"use", "mod", "module", "infix", "infixl", "infixr"}
+
+
+def read(file):
+    with open(file, encoding="utf-8") as it:
+        return it.read()
+
+
+def full(text):
+    """How many lines of a text aren't empty."""
+    return sum(1 for line in text.split("\n") if line.strip())
 
 
 def imports(text, start):
@@ -49,8 +67,7 @@ class Definitions:
 
     def __init__(self, file):
         self.file = file
-        with open(file, encoding="utf-8") as it:
-            text = re.sub(r"--.*", "", it.read())
+        text = re.sub(r"--.*", "", read(file))
         self.imports = imports(text, r"(?:pub\s+)?use")
         self.texts = {}
         name = None
@@ -69,31 +86,49 @@ class Definitions:
         return next((it for it, text in self.texts.items() if inside.search(text)), None)
 
 
-class Closure:
-    """What the roots name, what that names, and so on: `names` has the definitions of each file, `before` the files of each file's own."""
+def modules():
+    """All files of definitions by their modules, with those of the kit that are followed."""
+    found = {}
+    for file in glob.glob("crates/*/specs/**/*.antt", recursive=True):
+        _, crate, _, rest = file.split("/", 3)
+        found[f"Rattle.{crate}.specs.{rest[:-5].replace('/', '.')}"] = Definitions(file)
+    kit = os.path.dirname(os.path.dirname(os.path.realpath(shutil.which("rt") or "/")))
+    for crate in KIT:
+        top = f"{kit}/rattle/{crate}/specs/"
+        for file in glob.glob(f"{top}**/*.antt", recursive=True):
+            found[f"Rattle.{crate}.specs.{file[len(top) : -5].replace('/', '.')}"] = Definitions(file)
+    return found
 
-    def __init__(self):
-        self.modules = {}
-        for file in glob.glob("crates/*/specs/**/*.antt", recursive=True):
-            _, crate, _, rest = file.split("/", 3)
-            self.modules[f"Rattle.{crate}.specs.{rest[:-5].replace('/', '.')}"] = Definitions(file)
+
+def clauses(text):
+    """The clauses of a file of code."""
+    for begin in re.finditer(r"\b(?:ensures|requires)\b\s*\w*\s*\{|\bghost\s+\w+[^=;{]*(?:=|:)\s*\{", text):
+        end, depth = begin.end(), 1
+        while depth and end < len(text):
+            depth += {"{": 1, "}": -1}.get(text[end], 0)
+            end += 1
+        yield text[begin.start() : end], text[begin.end() : end - 1]
+
+
+class Closure:
+    """What some names stand on: `names` has the definitions or types of each file, `before` the files of each file's own."""
+
+    def __init__(self, known):
+        self.modules = known
         self.names, self.before, self.open = {}, {}, []
-        for file in ROOTS:
-            self.root(file)
+
+    def whole(self):
+        """Follows all that was found."""
         while self.open:
             its, name = self.open.pop()
             self.follow(its.texts[name], its.imports, its.file, its)
+        return self
 
     def root(self, file):
         """Follows the clauses of a file of code."""
-        with open(file, encoding="utf-8") as it:
-            text = re.sub(r"//.*", "", it.read())
-        for begin in re.finditer(r"\b(?:ensures|requires)\b\s*\w*\s*\{|\bghost\s+\w+[^=;{]*(?:=|:)\s*\{", text):
-            end, depth = begin.end(), 1
-            while depth and end < len(text):
-                depth += {"{": 1, "}": -1}.get(text[end], 0)
-                end += 1
-            self.follow(text[begin.end() : end - 1], imports(text, r"ghost\s+use"), file)
+        text = re.sub(r"//.*", "", read(file))
+        for _, inside in clauses(text):
+            self.follow(inside, imports(text, r"ghost\s+use"), file)
 
     def follow(self, text, known, file, own=None):
         """Follows what a text of a file names, by what the file brings in and what it has itself."""
@@ -108,12 +143,12 @@ class Closure:
                 self.add(module, its, file)
 
     def add(self, module, name, file):
-        """Adds what a module has under a name, or the file of a type."""
-        declared = re.match(r"Rattle\.(\w+)\.specs\.declared\.((?:[a-z_0-9]+\.)*[a-z_0-9]+)(?:\.|$)", module)
+        """Adds what a module has under a name, or a type."""
+        declared = re.match(r"Rattle\.(\w+)\.specs\.declared\.((?:[a-z_0-9]+\.)*[a-z_0-9]+)(?:\.(\w+)|$)", module)
         if declared:
             types = f"crates/{declared[1]}/src/{declared[2].replace('.', '/')}.rt"
             if os.path.exists(types):
-                self.names.setdefault(types, set())
+                self.names.setdefault(types, set()).add(declared[3] or name)
                 self.before.setdefault(file, set()).add(types)
             return
         its = self.modules.get(module)
@@ -130,38 +165,134 @@ class Closure:
             self.names[its.file].add(name)
             self.open.append((its, name))
 
+    def ours(self):
+        """The files of the repository."""
+        return {it for it in self.names if it.startswith("crates/")}
+
+    def texts(self, file):
+        return next((it.texts for it in self.modules.values() if it.file == file), {})
+
+    def lines(self, file, but=()):
+        """How many lines count in a file: of its definitions, or of its types and what contracts see of them, and of its clauses where it is a root."""
+        names = self.names.get(file, set()) - set(but)
+        if file.endswith(".antt"):
+            return sum(full(self.texts(file)[it]) for it in names)
+        text = re.sub(r"//.*", "", read(file))
+        found = 0
+        for it in names:
+            for block in re.finditer(rf"(?ms)^(?:pub(?:\(\w+\))? )?(?:struct|enum) {it}\b.*?(?:^\}}|;)$|^impl[^\n]* Model for {it}\b.*?^\}}", text):
+                found += full(block[0])
+        if file in ROOTS:
+            found += sum(full(whole) for whole, _ in clauses(text))
+        return found
+
+    def in_order(self):
+        """The files, each behind those that it takes something from."""
+        done = []
+
+        def visit(file):
+            if file not in done:
+                for other in sorted(self.before.get(file, ())):
+                    if other != file and other in self.names:
+                        visit(other)
+                done.append(file)
+
+        for file in sorted(self.ours()):
+            visit(file)
+        return [it for it in done if it.startswith("crates/")]
+
     def of_it(self, file):
         """What a table says of the definitions that count, where they are less than half of the file's."""
-        has, names = next((it.texts for it in self.modules.values() if it.file == file), {}), self.names.get(file, ())
+        has, names = self.texts(file), self.names.get(file, ())
         return f"; of it {', '.join(f'`{it}`' for it in has if it in names)}" if names and 2 * len(names) < len(has) else ""
 
 
-def main():
-    closure = Closure()
-    with open(PAGE, encoding="utf-8") as it:
-        page = it.read()
-    places, wrong = {}, []
-    for place, row in enumerate(ROW.finditer(page)):
-        places.setdefault(row[1], place)
+def heart(known):
+    """The tables of the heart: for each file the definitions that one part of it comes to, without those of the parts before."""
+    tables, seen = {}, {}
+    for title, names in HEART.items():
+        closure = Closure(known)
+        for module, name in names:
+            its = known[f"Rattle.{module}"]
+            closure.take(its, its.home(name), PAGE)
+        closure.whole()
+        rows, total = [], 0
+        for file in closure.in_order():
+            names = closure.names[file] - seen.get(file, set())
+            if names:
+                count = closure.lines(file, seen.get(file, ()))
+                total += count
+                has = list(closure.texts(file)) or sorted(names)
+                rows.append(f"| `{file[7:]}` | {count} | {', '.join(f'`{it}`' for it in has if it in names)} |")
+                seen.setdefault(file, set()).update(names)
+        tables[title] = "\n".join([f"{total} lines:", "", "| File | Lines | Definitions and types |", "|---|---|---|", *rows])
+    return tables
+
+
+def kit(closure):
+    """The table of what the promises take from crates of the kit."""
+    rows = []
+    for crate in KIT:
+        files = {it: names for it, names in closure.names.items() if f"/{crate}/specs/" in it and not it.startswith("crates/")}
+        named = [f"`{os.path.basename(it)[:-5]}`" for it in sorted(files)]
+        rows.append(f"| `{crate}` | {sum(closure.lines(it) for it in files)} | {', '.join(named)} |")
+    return "\n".join(["| Crate of the kit | Lines | Files of its `specs/` |", "|---|---|---|", *rows])
+
+
+def code_lines(crate):
+    """How many lines of code a crate has, without comments and empty lines."""
+    return sum(full(re.sub(r"//.*", "", read(it))) for it in glob.glob(f"crates/{crate}/src/**/*.rt", recursive=True))
+
+
+def between(page, name, text):
+    """The page with a text between the marks of this name."""
+    begin, end = f"<!-- {name}, made by bench/reading_lines.py -->\n", "\n<!-- until here -->"
+    front, _, rest = page.partition(begin)
+    return f"{front}{begin}{text}{end}{rest.partition(end)[2]}" if rest else page
+
+
+def faults(closure, page, crates, places):
+    """What is wrong with the page's tables."""
+    exceptions = {it[1] for it in ROW.finditer(page.partition("\n## Exceptions\n")[2].partition("\n## ")[0])}
     for file in places:
         if not os.path.exists(file):
-            wrong.append(f"{PAGE} names {file}, which isn't there")
+            yield f"{PAGE} names {file}, which isn't there"
         elif file not in closure.names and file not in ROOTS:
-            wrong.append(f"{PAGE} names {file}, which nothing that is to be believed stands on")
+            yield f"{PAGE} names {file}, which nothing that is to be believed stands on"
         for other in closure.before.get(file, ()):
             # (contracts may stand in one file with types that they don't name)
-            if file not in ROOTS and other not in ROOTS and other in places and places[other] > places[file]:
-                wrong.append(f"{PAGE} names {other} behind {file}, which takes something from it")
-    wrong += [f"{PAGE} doesn't name {file}, which has to be believed" for file in sorted({*closure.names, *ROOTS} - {*places})]
+            if file not in ROOTS and other not in ROOTS and other not in exceptions and other in places and places[other] > places[file]:
+                yield f"{PAGE} names {other} behind {file}, which takes something from it"
+    for file in sorted({*closure.ours(), *ROOTS} - {*places}):
+        yield f"{PAGE} doesn't name {file}, which has to be believed"
+    for file in sorted(closure.ours() - {*ROOTS} - exceptions):
+        if file.split("/")[1] not in crates:
+            yield f"{file} has to be believed, and stands in a crate of code: it belongs into one of {', '.join(crates)}, or among the exceptions with its reason"
+
+
+def main():
+    known = modules()
+    closure = Closure(known)
+    for file in ROOTS:
+        closure.root(file)
+    closure.whole()
+    page = read(PAGE)
+    crates = [it[1] for it in CRATE.finditer(page.partition("\n## These crates")[2].partition("\n### ")[0])]
+    places = {}
+    for place, row in enumerate(ROW.finditer(page)):
+        places.setdefault(row[1], place)
+    wrong = list(faults(closure, page, crates, places))
     print(*wrong, sep="\n", end="\n" if wrong else "")
     if wrong:
         return 1
-
-    def made(row):
-        with open(row[1], "rb") as it:
-            return f"| `{row[1]}` | {it.read().count(10)} | {row[3]}{closure.of_it(row[1])} |"
-
-    text = ROW.sub(made, page)
+    text = ROW.sub(lambda row: f"| `{row[1]}` | {closure.lines(row[1])} | {row[3]}{closure.of_it(row[1])} |", page)
+    sums = {it: sum(closure.lines(file) for file in closure.ours() | set(ROOTS) if file.split("/")[1] == it) for it in crates}
+    sums |= {it: code_lines(it) for it in UNPROVED}
+    text = CRATE.sub(lambda row: f"| `{row[1]}` | {sums.get(row[1], row[2])} | {row[3]} |", text)
+    for title, table in heart(known).items():
+        text = between(text, title, table)
+    if any(not it.startswith("crates/") for it in closure.names):
+        text = between(text, "of the kit", kit(closure))
     if "--check" in sys.argv:
         if text != page:
             print(f"{PAGE} isn't up to date: run bench/reading_lines.py")

@@ -4,7 +4,8 @@
 Usage: tests/pages.py [--check]
 Each number of NUMBERS stands once in its page, where its text says, and is written there; with --check nothing is written. The status is 1 where
 a number isn't right, a crate or an edit is in no page, a page names a file that isn't there, a table has the crates in another
-order than crates.txt, a crate doesn't name a library that is listed for it, or the line that an edit changes doesn't stand once in its file.
+order than crates.txt, a crate doesn't name a library that is listed for it, a crate of code has a file of definitions that has to be believed, or the line that
+an edit changes doesn't stand once in its file.
 """
 import glob
 import os
@@ -104,6 +105,20 @@ def files():
                     wrong.append(f"{page} names {path}, which isn't there")
 
 
+def believed():
+    """No crate of code has a file of definitions that has to be believed, but for the exceptions of docs/READING.md."""
+    page = read("docs/READING.md")
+    crates = re.findall(r"(?m)^\| `(\w+)` \|", page.partition("\n## These crates")[2].partition("\n### ")[0])
+    exceptions = page.partition("\n## Exceptions\n")[2].partition("\n## ")[0]
+    for file in re.findall(r"(?m)^\| `(crates/\w+/specs/[^`]*)` \|", page):
+        if file.split("/")[1] not in crates and f"`{file}`" not in exceptions:
+            wrong.append(f"docs/READING.md: {file} has to be believed, stands in a crate of code, and is no exception")
+    wrong.extend(f"docs/READING.md: {it} is no crate of crates.txt" for it in crates if it not in CRATES)
+    ordered = [it for it in CRATES if it in crates]
+    if ordered != crates:
+        wrong.append("docs/READING.md has the crates of definitions in another order than crates.txt")
+
+
 def edits():
     """Each edit has lines that stand once in their file, and is named in docs/PROOFS.md."""
     page = read("docs/PROOFS.md")
@@ -127,6 +142,7 @@ def edits():
 numbers()
 crates()
 files()
+believed()
 edits()
 print(*wrong, sep="\n", end="\n" if wrong else "")
 sys.exit(1 if wrong else 0)
