@@ -25,16 +25,15 @@ use Rattle.build_resume.specs.Build.{IsEntry, Leaves}
 use Rattle.run_model.specs.Headline.{BeginsAgain, BeginsFirst, Keeps, MayBegin}
 
 pub begins_first : BeginsFirst
-begins_first gives reading plan trees may = record {
+begins_first gives reading plan may = record {
   valid = empty_is_valid gives reading;
   readable = tt;
   folders = record { work = refl; objects = refl; parts = λ part one. refl };
   may = may;
-  trees = trees;
 }
 
 pub begins_again : BeginsAgain
-begins_again gives reading book image crash plan trees may = record { valid = crash.valid; readable = crash.readable; folders = crash.folders; may = may; trees = trees }
+begins_again gives reading book image crash plan may = record { valid = crash.valid; readable = crash.readable; folders = crash.folders; may = may }
 
 -- a sound plan whose signatures fit a program enters a run where it may begin
 pub as_entry : (gives : Gives) (reading : Reading) (book : Book) (held : Store) (plan : Plan) → IsSound plan → HasSpellings plan → MayBegin gives reading book held plan → IsEntry gives reading book held plan
@@ -44,7 +43,6 @@ as_entry gives reading book held plan sound spellings may = record {
   readable = may.readable;
   folders = may.folders;
   may = may.may;
-  trees = may.trees;
   spellings = spellings;
 }
 

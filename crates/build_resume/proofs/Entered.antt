@@ -10,7 +10,6 @@ first_entry gives reading plan planned may = record {
   readable = tt;
   folders = record { work = refl; objects = refl; parts = λ part one. refl };
   may = may;
-  trees = planned.trees;
   spellings = planned.spellings;
 }
 
@@ -21,6 +20,5 @@ next_entry gives reading book image crash plan planned may = record {
   readable = crash.readable;
   folders = crash.folders;
   may = may;
-  trees = planned.trees;
   spellings = planned.spellings;
 }

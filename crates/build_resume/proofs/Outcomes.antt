@@ -244,5 +244,4 @@ opened_may_run gives reading book plan before story rows again entry opened dura
   folders = left_folders before story.held (λ q none. opened.left q (inr (inr (inr none)))) entry.folders;
   readable = again.readable;
   spellings = entry.spellings;
-  trees = entry.trees;
 }

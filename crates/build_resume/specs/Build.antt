@@ -1,7 +1,6 @@
 -- What is asked of a run, and all that it leaves and writes.
 use Rattle.std.specs.Prelude.{◌≡◌, ◌≢◌, ◌⊎◌, ℕ, Bool, true, false, List, [], ◌∷◌, ◌++◌, Ok}
 use Rattle.std.specs.List.{AllByRecursion}
-use Rattle.tree_model.specs.Tree.{IsTree}
 use Rattle.outside_traits.specs.Store.{Store}
 use Rattle.outside_traits.specs.Story.{Story}
 use Rattle.meta_model.specs.declared.event.Logged.{Logged}
@@ -9,7 +8,7 @@ use Rattle.meta_model.specs.declared.event.Status.{Status}
 use Rattle.meta_model.specs.declared.event.Status.TheVariants as status
 use Rattle.meta_model.specs.declared.plan.Options.{Options}
 use Rattle.meta_model.specs.declared.plan.Plan.{Plan}
-use Rattle.meta_model.specs.CleanBuild.{Entries, Gives}
+use Rattle.meta_model.specs.CleanBuild.{Gives}
 use Rattle.store_model.specs.Origins.{Book, Reading}
 use Rattle.store_model.specs.Reuse.{MayReuse}
 use Rattle.store_model.specs.Valid.{IsValid}
@@ -24,15 +23,14 @@ use Rattle.run_model.specs.Headline.{Keeps}
 use Rattle.run_model.specs.Build.{AllClean}
 
 -- What is asked of a run: the plan is sound; what the disk holds is valid with a book of lines that can be read again, and has folders
--- where the store keeps them; the plan may reuse of the book what it wants; what scripts give are trees; and a program can hold the
--- signatures of the plan's tasks.
+-- where the store keeps them; the plan may reuse of the book what it wants; and a program can hold the signatures of the plan's
+-- tasks.
 pub record IsEntry (gives : Gives) (reading : Reading) (book : Book) (held : Store) (plan : Plan) : Type 0 where
   pub sound : IsSound plan
   pub valid : IsValid gives reading held book
   pub readable : AllByRecursion IsReadable book
   pub folders : HasFolders held
   pub may : MayReuse gives reading held book plan.tasks
-  pub trees : (script : List ℕ) (tree out : Entries) → gives script tree ≡ Ok out → IsTree out
   pub spellings : HasSpellings plan
 
 -- ---- kinds of statuses

@@ -1,7 +1,6 @@
 -- What is promised of a run whose devices tell what they hold.
-use Rattle.std.specs.Prelude.{None, true, ◌≡◌, ◌⊎◌, ℕ, false, List, [], ◌∷◌, ◌++◌, Contains, All, Ok}
+use Rattle.std.specs.Prelude.{None, true, ◌≡◌, ◌⊎◌, ℕ, false, List, [], ◌∷◌, ◌++◌, Contains, All}
 use Rattle.std.specs.List.{AllByRecursion}
-use Rattle.tree_model.specs.Tree.{IsTree}
 use Rattle.outside_traits.specs.Store.{Store}
 use Rattle.outside_traits.specs.Passes.{EachNow}
 use Rattle.outside_traits.specs.Story.{IsImageSince, Story}
@@ -10,7 +9,7 @@ use Rattle.meta_model.specs.declared.event.Status.{Status}
 use Rattle.meta_model.specs.declared.event.Status.TheVariants as status
 use Rattle.meta_model.specs.declared.plan.Options.{Options}
 use Rattle.meta_model.specs.declared.plan.Plan.{Plan}
-use Rattle.meta_model.specs.CleanBuild.{Entries, Gives}
+use Rattle.meta_model.specs.CleanBuild.{Gives}
 use Rattle.store_model.specs.Origins.{Book, Reading}
 use Rattle.store_model.specs.Reuse.{MayReuse}
 use Rattle.store_model.specs.Valid.{IsValid}
@@ -25,18 +24,13 @@ use Rattle.run_model.specs.Build.{FailsClean, HasRun, HasTargets, IsCrash, IsEac
 abbrev pub nothing : Store
 nothing path = None
 
--- what scripts give are trees
-abbrev pub GivesTrees : Gives → Type 0
-GivesTrees gives = (script : List ℕ) (tree out : Entries) → gives script tree ≡ Ok out → IsTree out
-
 -- What is asked of a run beside its devices: what the disk holds is valid with a book of lines that can be read again, and has folders
--- where the store keeps them; the plan may reuse of the book what it wants; and what scripts give are trees.
+-- where the store keeps them; and the plan may reuse of the book what it wants.
 pub record MayBegin (gives : Gives) (reading : Reading) (book : Book) (held : Store) (plan : Plan) : Type 0 where
   pub valid : IsValid gives reading held book
   pub readable : AllByRecursion IsReadable book
   pub folders : HasFolders held
   pub may : MayReuse gives reading held book plan.tasks
-  pub trees : GivesTrees gives
 
 -- Each bench ran what its seat started in the tale, each over the clean outputs of what it needs; without a tale none ran anything.
 abbrev pub RanTales : Gives → Plan → List (List Logged) → List Runs → List Runs → Type 0
@@ -67,8 +61,8 @@ pub record Keeps (gives : Gives) (reading : Reading) (book : Book) (held : Store
 
 -- A run may begin on an empty disk.
 abbrev pub BeginsFirst : Type 0
-BeginsFirst = (gives : Gives) (reading : Reading) (plan : Plan) → GivesTrees gives → MayReuse gives reading nothing [] plan.tasks → MayBegin gives reading [] nothing plan
+BeginsFirst = (gives : Gives) (reading : Reading) (plan : Plan) → MayReuse gives reading nothing [] plan.tasks → MayBegin gives reading [] nothing plan
 
 -- A run of any plan may begin on what a crash of any run left, where the plan may reuse the book that the crash left.
 abbrev pub BeginsAgain : Type 0
-BeginsAgain = (gives : Gives) (reading : Reading) (book : Book) (image : Store) (crash : IsCrash gives reading book image) (plan : Plan) → GivesTrees gives → MayReuse gives reading image (crash.again ++ crash.lines) plan.tasks → MayBegin gives reading (crash.again ++ crash.lines) image plan
+BeginsAgain = (gives : Gives) (reading : Reading) (book : Book) (image : Store) (crash : IsCrash gives reading book image) (plan : Plan) → MayReuse gives reading image (crash.again ++ crash.lines) plan.tasks → MayBegin gives reading (crash.again ++ crash.lines) image plan

@@ -1,10 +1,8 @@
 -- What is asked of a run where it begins.
-use Rattle.std.specs.Prelude.{◌≡◌, ℕ, List, Ok}
+use Rattle.std.specs.Prelude.{◌≡◌}
 use Rattle.std.specs.List.{AllByRecursion}
-use Rattle.tree_model.specs.Tree.{IsTree}
 use Rattle.outside_traits.specs.Passes.{EachNow}
 use Rattle.meta_model.specs.declared.plan.Plan.{Plan}
-use Rattle.meta_model.specs.CleanBuild.{Entries}
 use Rattle.store_model.specs.Readable.{IsReadable}
 use Rattle.store_model.specs.Reuse.{MayReuse}
 use Rattle.store_model.specs.Valid.{IsValid}
@@ -13,8 +11,8 @@ use Rattle.plan_model.specs.Spellings.{HasSpellings}
 use Rattle.run_model.specs.Opening.{Opening, HasFolders}
 
 -- The premises of a run over an opening: what was held is valid with the book, durable, and has folders where they are wanted; the plan
--- may reuse the book, so it is blind, no contents clash, and no line has the name of one of its tasks and another signature; what
--- scripts give are trees; the book's lines can be read again; and a program can hold the signatures of the plan's tasks.
+-- may reuse the book, so it is blind, no contents clash, and no line has the name of one of its tasks and another signature; the
+-- book's lines can be read again; and a program can hold the signatures of the plan's tasks.
 pub record MayRun (o : Opening) (plan : Plan) : Type 0 where
   pub sound : IsSound plan
   pub valid : IsValid o.gives o.reading o.story.held o.book
@@ -23,4 +21,3 @@ pub record MayRun (o : Opening) (plan : Plan) : Type 0 where
   pub folders : HasFolders o.story.held
   pub readable : AllByRecursion IsReadable o.book
   pub spellings : HasSpellings plan
-  pub trees : (script : List ℕ) (tree out : Entries) → o.gives script tree ≡ Ok out → IsTree out

@@ -1,23 +1,19 @@
-use Rattle.std.proofs.Common.{◌≡◌, subst, ℕ, false, arith, List, [], Some, None, Result, Ok, inl, inr}
+use Rattle.std.proofs.Common.{◌≡◌, ℕ, false, arith, List, [], Some, None, inl, inr}
 use Rattle.std.specs.Prelude.{codes}
 use Rattle.std.proofs.lemmas.List.Elements.{All-nil}
 use Rattle.std.proofs.lemmas.Option.{none-some}
 use Rattle.tree_model.specs.declared.entry.Entry.TheVariants.{File}
-use Rattle.tree_model.specs.Tree.{IsTree}
 use Rattle.meta_model.specs.CleanBuild.{Entries}
 use Rattle.run_workers.specs.Nothing.{nothing_given}
 use Rattle.store_model.specs.Hello.{hello_reading}
 use Rattle.store_model.specs.Premises.{HasOneSignature, IsBlind, IsContent, IsTreeOf}
 use Rattle.store_model.specs.Premises as of
-use Rattle.store_model.proofs.Hello.{empty_tree, nothing_stands}
+use Rattle.store_model.proofs.Hello.{nothing_stands}
 use Rattle.store_model.proofs.Lasting.{empty_is_valid}
 use Rattle.run_model.specs.Headline.{nothing}
 use Rattle.bitbake_top.proofs.Kept.{begins_first}
 use Rattle.bitbake_top.specs.Worked.{no_plan}
 use Rattle.bitbake_top.proofs.examples.example_of_beginning.Goals as goal
-
-trees : (script : List ℕ) (tree out : Entries) → nothing_given script tree ≡ Ok out → IsTree out
-trees script tree out is = subst IsTree (let e : ◌≡◌ {A = Result Entries ℕ} (Ok []) (Ok out) = is in let same : [] ≡ out = cc in same) empty_tree
 
 -- without lines and without tasks there is no tree
 no_tree : (tree : Entries) → IsTreeOf nothing_given hello_reading [] [] tree → ⊥
@@ -31,7 +27,7 @@ no_content bytes (inr held) = none-some held.1 held.2
 no_content bytes (inl given) = no_tree given.0 given.1
 
 pub returns-clause-empty : goal.returns-clause-empty
-returns-clause-empty c = begins_first nothing_given hello_reading no_plan trees (record {
+returns-clause-empty c = begins_first nothing_given hello_reading no_plan (record {
   valid = (empty_is_valid nothing_given hello_reading).lines;
   sound = tt;
   blind = All-nil (IsBlind nothing_given hello_reading);
