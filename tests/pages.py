@@ -1,11 +1,12 @@
 #!/usr/bin/env python3
-"""Compares the pages with the tree: numbers that were counted, crates and their order, files that they name, and edits.
+"""Compares the pages with the tree: numbers that were counted, crates and their order, files that they name, and edits; and looks at
+the cells of docs/PROOFS.md.
 
 Usage: tests/pages.py [--check]
 Each number of NUMBERS stands once in its page, where its text says, and is written there; with --check nothing is written. The status is 1 where
-a number isn't right, a crate or an edit is in no page, a page names a file that isn't there, a table has the crates in another
-order than crates.txt, a crate doesn't name a library that is listed for it, a crate of code has a file of definitions that has to be believed, or the line that
-an edit changes doesn't stand once in its file.
+a number isn't right, a crate or a folder of edits is in no page, a page names a file that isn't there, a table has the crates in another
+order than crates.txt, a crate doesn't name a library that is listed for it, a crate of code has a file of definitions that has to be
+believed, the line that an edit changes doesn't stand once in its file, or a cell of a table of docs/PROOFS.md has more than 60 words.
 """
 import glob
 import os
@@ -120,10 +121,11 @@ def believed():
 
 
 def edits():
-    """Each edit has lines that stand once in their file, and is named in docs/PROOFS.md."""
+    """Each edit has lines that stand once in their file, and docs/PROOFS.md names its folder."""
     page = read("docs/PROOFS.md")
+    wrong.extend(f"docs/PROOFS.md doesn't name {it}" for it in sorted({os.path.dirname(edit) for edit in IN_GATE + APART}) if f"`{it}`" not in page)
     for edit in IN_GATE + APART:
-        crate, name = edit.split("/")[-3 if edit.startswith("crates/") else -2], os.path.basename(edit)[:-5]
+        crate = edit.split("/")[-3 if edit.startswith("crates/") else -2]
         text, file = "", ""
         for word, rest in re.findall(r"(?m)^(file|old|new): (.*)$", read(edit)):
             if word == "file":
@@ -135,8 +137,14 @@ def edits():
                     wrong.append(f"{edit}: its line stands {text.count(old)} times in {file}")
             else:
                 text = text.replace(old, rest)
-        if f"`{name}`" not in page:
-            wrong.append(f"docs/PROOFS.md doesn't name {edit}")
+
+
+def cells():
+    """No cell of a table of docs/PROOFS.md has more than 60 words."""
+    for number, line in enumerate(read("docs/PROOFS.md").splitlines(), 1):
+        if line.startswith("|"):
+            long = [it for it in line.strip("|").split(" | ") if len(it.split()) > 60]
+            wrong.extend(f"docs/PROOFS.md:{number}: a cell of {len(it.split())} words: {it.strip()[:40]}.." for it in long)
 
 
 numbers()
@@ -144,5 +152,6 @@ crates()
 files()
 believed()
 edits()
+cells()
 print(*wrong, sep="\n", end="\n" if wrong else "")
 sys.exit(1 if wrong else 0)
