@@ -7,7 +7,9 @@
 #   by a `sh` of its own, and a sync of what it gave; and against `ninja -j 1` over the same scripts, where ninja is installed.
 #   At most 1.5 times `sh`;
 # - a second run, which finds its targets, against `-n`. At most 1.2 times;
-# - after an edit of one leaf recipe that changes its output: the run starts just the tasks above it.
+# - after an edit of one leaf recipe that changes its output: the run starts just the tasks above it;
+# - what sandboxes cost, in processor time: once for a bench that is used, at most 100 ms, and for a task more, which is not to show: at most
+#   1.1 times what the same task costs where the system makes no sandbox.
 # Usage: bench/run.sh [RECIPES] (1,000 if left out)
 . "$(dirname -- "$0")/head.sh"
 built bitbake_cli
@@ -115,7 +117,38 @@ above=$(awk -v n="$count" 'BEGIN { while (n >= 1) { above += 2; n = int(n / 2) }
 echo "after an edit of r$count: $edited ms, $started tasks started, $above stand above it"
 printf '%s\n' "$text" | tail -n 1
 
+# What a sandbox costs: of one task and of 201 behind one another, with and without.
+mkdir -p "$scratch/chain/conf" "$scratch/chain/recipes"
+echo 'BB_NUMBER_THREADS = "1"' >"$scratch/chain/conf/bitbake.conf"
+awk -v folder="$scratch/chain/recipes" 'BEGIN {
+    for (n = 0; n <= 200; n++) {
+        file = folder "/c" n ".bb"
+        printf "do_build() {\n    echo %d > out\n}\naddtask build\n", n > file
+        if (n > 0) printf "DEPENDS = \"c%d\"\ndo_build[deptask] = \"do_build\"\n", n - 1 > file
+        close(file)
+    }
+}'
+cat >"$scratch/plain" <<END
+#!/bin/sh
+exec unshare --user --map-root-user sh -c 'echo 0 >/proc/sys/user/max_mnt_namespaces && exec "\$@"' sh "$program" "\$@"
+END
+chmod +x "$scratch/plain"
+tasks() {
+    rm -rf "$scratch/chain/build"
+    spent "$scratch/chain" "$@"
+}
+least_of_tasks() { for _ in 1 2 3; do tasks "$@"; done | sort -n | head -n 1; }
+one=$(least_of_tasks "$program" c0)
+many=$(least_of_tasks "$program" c200)
+one_plain=$(least_of_tasks "$scratch/plain" c0)
+many_plain=$(least_of_tasks "$scratch/plain" c200)
+awk -v a="$one" -v b="$many" -v c="$one_plain" -v d="$many_plain" 'BEGIN {
+    printf "a sandbox: %d ms of the processor for the first task, %.2f ms for each behind it; without: %d ms, %.2f ms\n", a, (b - a) / 200, c, (d - c) / 200
+}'
+
 aim "a first run of $count recipes" 'v1 <= 1.5 * v2' "$first" "$plain"
 aim 'a second run' 'v1 <= 1.2 * v2' "$second" "$dry"
 aim 'started after an edit' 'v1 == v2' "$started" "$above"
+aim 'a sandbox' 'v1 <= 100' "$one"
+aim 'a task in a sandbox' 'v1 - v2 <= 1.1 * (v3 - v4)' "$many" "$one" "$many_plain" "$one_plain"
 finish

@@ -532,7 +532,8 @@ project talks
 recipe hello 'echo out; echo err >&2; cat; echo "$FOREIGN" > foreign'
 runs env FOREIGN=seen "$bitbake" hello
 wants "a body that talks" 0 "$done_text"
-holds "its output is in the log" test "$(cat build/bench/*/log)" = 'out
+# (without a sandbox the place goes when its output was taken)
+grep -q '^bitbake: sandbox: ' "$room/said" || holds "its output is in the log" test "$(cat build/bench/*/log)" = 'out
 err'
 holds "no variable of the environment" test "$(cat build/work/hello/do_build/foreign)" = ''
 
@@ -549,7 +550,7 @@ recipe hello 'echo >started; sleep 3; echo hello > hello.txt'
 "$program" hello >"$room/first" 2>&1 </dev/null &
 first=$!
 for _ in 1 2 3 4 5 6 7 8 9 10; do
-    test -e "$(echo build/bench/*/work/started)" && break
+    test -n "$(find build/bench -name started 2>/dev/null)" && break
     sleep 0.2
 done
 runs "$program" hello
@@ -561,42 +562,6 @@ holds "the other ends well" test $? -eq 0 -a "$(cat build/work/hello/do_build/he
 runs "$program" hello
 wants "a run behind it" 0 "$found_text"
 holds "without a fault nothing is said" test ! -s "$room/said"
-
-# A script that outlives a killed run keeps its bench. The task is done on another one then; what is answered is that a bench failed.
-project orphan
-one_worker
-recipe hello 'echo >started; i=0; while test ! -e ../../../../go -a $i -lt 100; do i=$((i + 1)); sleep 0.1; done; rm started; echo hello > hello.txt'
-"$program" hello >"$room/first" 2>&1 </dev/null &
-first=$!
-for _ in 1 2 3 4 5 6 7 8 9 10; do
-    test -e build/bench/0/work/started && break
-    sleep 0.2
-done
-kill -9 "$first" && wait "$first" 2>/dev/null
-recipe hello 'echo other > hello.txt'
-runs "$program" hello
-wants "a run beside the script of a killed one" 5 "plan 1 tasks, 1 threads
-started hello:do_build
-broke hello:do_build bench
-started hello:do_build
-ended hello:do_build
-fault 5 bench"
-holds "it says that the script is at work" grep -qx 'bitbake: bench: clearing of build/bench/0: a script of an earlier run is still at work there' "$room/said"
-holds "the script's folder stays" test -e build/bench/0/work/started
-holds "the run's own output" test "$(cat build/work/hello/do_build/hello.txt)" = other
-touch go
-for _ in 1 2 3 4 5 6 7 8 9 10; do
-    test -e build/bench/0/work/hello.txt && break
-    sleep 0.2
-done
-sleep 0.2
-recipe hello 'echo again > hello.txt'
-runs "$program" hello
-wants "a run behind the script" 0 "plan 1 tasks, 1 threads
-started hello:do_build
-ended hello:do_build
-ok 0 found, 0 restored, 1 started"
-holds "its own output" test "$(cat build/work/hello/do_build/hello.txt)" = again -a ! -e build/work/hello/do_build/started
 
 project full
 recipe hello 'head -c 200000 /dev/zero > hello.txt'
@@ -690,24 +655,6 @@ read'
     holds "links, $turn" test "$(cd build/work/hello/do_build && readlink link dangling folder | tr '\n' ' ')" = 'deep/text nowhere deep '
     holds "no empty folders, $turn" test ! -e build/work/hello/do_build/empty
 done
-
-project bytes
-recipe hello 'touch "$(printf '"'x\\377'"')"'
-one_worker
-runs "$bitbake" hello
-wants "an output whose name is no text" 5 "plan 1 tasks, 1 threads
-started hello:do_build
-broke hello:do_build bench
-started hello:do_build
-broke hello:do_build bench
-fault 5 bench"
-rm -r conf
-recipe hello 'echo hello > hello.txt'
-runs "$bitbake" hello
-wants "the bench after it" 0 "$done_text"
-touch "$(printf 'x\377')"
-runs "$bitbake" hello
-wants "a file whose name is no text" 6 "fault 6 read"
 
 # What the recipe's file has.
 project statements
@@ -985,6 +932,45 @@ else
     echo "skipped the distribution in C: there is no cc, ar, make or tar"
 fi
 
+# Software that holds the path of its place: built over several tasks, the same on each bench, and found in a moved copy of the project.
+if command -v cc >/dev/null 2>&1 && command -v make >/dev/null 2>&1; then
+    cp -R "$top/examples/configured" "$room/configured" && cd "$room/configured" && rm -rf build || exit 1
+    targets=greet
+    if command -v cmake >/dev/null 2>&1; then
+        targets='greet answer'
+    else
+        rm -r recipes/answer
+        echo "skipped software that CMake builds: there is no cmake"
+    fi
+    # (targets are split on purpose)
+    runs "$bitbake" $targets
+    holds "configured software" test "$status" -eq 0 -a "$(tail -n 1 "$room/text")" = "ok 0 found, 0 restored, $(($(echo $targets | wc -w) * 5)) started"
+    if grep -q '^bitbake: sandbox: ' "$room/said"; then
+        echo "skipped moved copies of configured software: no sandbox can be made here"
+    else
+        holds "it knows its place" test "$(build/work/greet/do_install/image/usr/bin/greet)" = 'hello from /bitbake/work/build'
+        mkdir "$room/elsewhere" && cp -R "$room/configured" "$room/elsewhere/moved" && cd "$room/elsewhere/moved" || exit 1
+        runs "$bitbake" $targets
+        holds "it is found in a moved copy" grep -qx "ok $(echo $targets | wc -w) found, 0 restored, 0 started" "$room/text"
+        printf '/* more */\n' >>recipes/greet/greet.c
+        runs "$bitbake" greet
+        holds "and built on there" test "$status" -eq 0 -a "$(build/work/greet/do_install/image/usr/bin/greet)" = 'hello from /bitbake/work/build'
+    fi
+    for number in 1 2 3 4 5 6 7 8 9 10 11 12 13 14 15 16; do
+        sed "s|\${THISDIR}|recipes/greet|g" recipes/greet/greet_1.0.bb >"recipes/greet/greet$number.bb"
+    done
+    all=$(seq -f 'greet%.0f' 16)
+    for task in configure compile install; do
+        runs "$bitbake" $all -c $task
+        for _ in 1 2 3 4 5 6 7 8 9 10; do
+            runs "$bitbake" -f $all -c $task
+            holds "sixteen that are forced give the same, $task" test "$status" -eq 0
+        done
+    done
+else
+    echo "skipped configured software: there is no cc or make"
+fi
+
 # An installation: what is put, and that just this is taken away.
 prefix="$room/it's installed"
 mkdir -p "$prefix/share/man" || exit 1
@@ -1092,6 +1078,17 @@ holds "the README is typed" test -n "$more"
 passed=$((passed + ${more% *}))
 failed=$((failed + ${more#* }))
 holds "the cases of the chapter are what it shows" python3 "$top/tests/chapter.py" --check
+
+# What scripts leave behind and where they stand, with sandboxes and without; real files of all kinds; a damaged folder build.
+for words in "scripts.sh $program" "scripts.sh $program --plain"; do
+    # (words are split on purpose)
+    sh $top/tests/$words >"$room/apart"
+    sed '$d' "$room/apart"
+    more=$(sed -n '$s/^\([0-9]*\) passed, \([0-9]*\) failed$/\1 \2/p' "$room/apart")
+    holds "tests/${words%% *} is run" test -n "$more"
+    passed=$((passed + ${more% *}))
+    failed=$((failed + ${more#* }))
+done
 
 # Several workers over real folders: random projects, examples, and what waiting costs.
 python3 "$top/tests/workers.py" --program "$program" >"$room/workers"

@@ -94,7 +94,7 @@ fn call<R: Threads + Wait + Sync>(
     benches.push(ShBench::new(rt.clone()?, LAST_BENCH, &sandboxes)?)?;
     let layers = FolderLayers::new(rt.clone()?);
     let sink = StdSink::new(rt.clone()?);
-    let finish = bitbake(
+    let mut finish = bitbake(
         threads,
         rt.alloc(),
         ahead,
@@ -104,6 +104,9 @@ fn call<R: Threads + Wait + Sync>(
         benches,
         sink,
     );
+    for bench in &mut finish.benches {
+        bench.close();
+    }
     // While the disk is there no other run can touch the logs.
     if tell_failures(rt, &finish.plans, &finish.tales, &finish.benches).is_err() {
         tell(rt, "log", Some("out of memory"));

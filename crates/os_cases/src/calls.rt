@@ -141,6 +141,9 @@ fn numbered_answer<'a>(
     };
     let number = u32::try_from(number(k)?).map_err(|_| no_call())?;
     if !matches!(last, Some((before, _)) if *before == number) {
+        if let Some((_, before)) = last {
+            before.close();
+        }
         *last = Some((number, ShBench::new(rt.clone()?, number, sandboxes)?));
     }
     match last {

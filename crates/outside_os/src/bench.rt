@@ -78,6 +78,13 @@ impl<'a, R: Processes + AllocGlobal> ShBench<'a, R> {
         self.first.as_str()
     }
 
+    /// Ends the sandbox, and waits until that has ended, so that the next run finds its folder free.
+    pub fn close(&mut self) {
+        if let Some(sandbox) = self.site.sandbox.take() {
+            sandbox.end();
+        }
+    }
+
     /// The runs of scripts that ended with another status than 0, in their order.
     pub fn failed_runs(&self) -> &[FailedRun] {
         self.runs.failed()
@@ -281,7 +288,11 @@ impl<'a, R: Files<File = File> + Env + Processes + Clock + AllocGlobal + Clone +
 /// Runs the script of a place without a sandbox.
 fn run_in_group<R: Env + Processes + AllocGlobal>(rt: &R, place: &Place) -> io::Result<u32> {
     match Supervisor::start(rt, Way::Groups, place.folder(), place.lock().handle()?)? {
-        Ok(mut shell) => shell.run(rt.alloc()),
+        Ok(mut shell) => {
+            let status = shell.run(rt.alloc());
+            shell.end();
+            status
+        }
         Err(reason) => Err(io::Error::new(ErrorKind::Other, reason.as_str())),
     }
 }

@@ -1,5 +1,5 @@
 // Where a task's work stands.
-use crate::lock::{BENCHES_FOLDER, ScriptLock};
+use crate::lock::{BENCHES_FOLDER, ScriptLock, lock_at};
 use crate::own::{Identity, clear_own, make_own, remove_place};
 use std::fs::File;
 use std::io::ErrorKind;
@@ -27,8 +27,8 @@ pub struct Place {
     lock_path: String,
     lock: ScriptLock,
 
-    /// The folder and the part `work`, as they were when they were last cleared.
-    laid: Option<(Identity, Identity)>,
+    /// The folder, as it was when it was cleared.
+    laid: Option<Identity>,
 }
 
 impl Place {
@@ -96,40 +96,47 @@ impl Place {
         rt: &R,
     ) -> io::Result<()> {
         if self.laid.is_some() {
-            self.check(rt)?;
+            self.check_folder(rt)?;
         }
         lay_parts(rt, self.folder.as_str())?;
-        let now = self.now(rt)?;
-        self.laid = Some(now);
+        let now = Identity::of_folder(rt, self.folder.as_str())?;
+        self.laid = now;
         Ok(())
     }
 
-    /// The folder and its part `work`, as they are.
-    fn now<R: Files + AllocGlobal>(&self, rt: &R) -> io::Result<(Identity, Identity)> {
-        let folder = self.folder.as_str();
-        let work = format!(in rt.alloc(); "{folder}/{WORK}")?;
-        match (
-            Identity::of_folder(rt, folder)?,
-            Identity::of_folder(rt, work.as_str())?,
-        ) {
-            (Some(folder), Some(work)) => Ok((folder, work)),
-            _ => Err(is_another()),
+    /// An error where the folder isn't the one that was cleared.
+    fn check_folder<R: Files>(&self, rt: &R) -> io::Result<()> {
+        let now = Identity::of_folder(rt, self.folder.as_str())?;
+        if now.is_none() || now != self.laid {
+            return Err(is_another());
         }
+        Ok(())
     }
 
-    /// An error where the folder isn't the one that was cleared last.
+    /// The same, and where its part `work` is no folder any more.
     pub fn check<R: Files + AllocGlobal>(&self, rt: &R) -> io::Result<()> {
-        match &self.laid {
-            Some(laid) if self.now(rt)? == *laid => Ok(()),
-            _ => Err(is_another()),
+        self.check_folder(rt)?;
+        let work = format!(in rt.alloc(); "{}/{WORK}", self.folder.as_str())?;
+        match Identity::of_folder(rt, work.as_str())? {
+            Some(_) => Ok(()),
+            None => Err(is_another()),
         }
     }
 
-    /// Takes the folder away, with the file of its lock.
-    pub fn remove<R: Files + Processes + AllocGlobal + Clone + Drop>(self, rt: &R) {
+    /// Takes the folder away, with the file of its lock, unless a process that a script started still has that.
+    pub fn remove<R: Files<File = File> + Processes + AllocGlobal + Clone + Drop>(self, rt: &R) {
+        let Place {
+            folder,
+            lock_path,
+            lock,
+            laid: _,
+        } = self;
+        drop(lock);
         // What stays is cleared when the task runs again.
-        if remove_place(rt, self.folder.as_str()).is_ok() {
-            let _ = fs::remove_file(rt, self.lock_path.as_str());
+        if let Ok(_held) = lock_at(rt, lock_path.as_str(), "") {
+            if remove_place(rt, folder.as_str()).is_ok() {
+                let _ = fs::remove_file(rt, lock_path.as_str());
+            }
         }
     }
 }

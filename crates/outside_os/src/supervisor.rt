@@ -79,6 +79,13 @@ impl<P: OpenProcess + Drop> Supervisor<P> {
     }
 }
 
+impl<P: OpenProcess + Drop> Supervisor<P> {
+    /// Takes no more jobs, and waits until the shell and all that it started have ended.
+    pub fn end(mut self) {
+        let _ = self.child.wait();
+    }
+}
+
 fn has_ended() -> io::Error {
     io::Error::new(
         ErrorKind::UnexpectedEof,

@@ -1,0 +1,3 @@
+# A program that CMake builds.
+inherit cmake
+SOURCES = "${THISDIR}/CMakeLists.txt ${THISDIR}/answer.c"
