@@ -1,8 +1,12 @@
 // What is wrong where a run ends with a fault of the metadata, a limit, or a task that gave something else than before, as standard
 // error tells it.
+use crate::places::reason_at;
+use crate::records::tell_records;
 use crate::sentences::{SENTENCES, Sentence};
 use meta_model::Status;
+use outside_os::FolderLayers;
 use std::alloc::{AllocError, Global};
+use std::io;
 use tree_model::{ManifestLine, Text};
 
 /// A fault without its sentence: the file or an empty text, the number of the line or 0, the kind, and its texts.
@@ -48,6 +52,79 @@ pub fn tell_fault(rt: &HostRuntime, status: &Status) {
     };
     if let Ok(Some(sentence)) = sentence {
         let _ = eprintln!(rt; "{}", sentence.as_str());
+    }
+    tell_more(rt, status);
+}
+
+/// Says what the layers passed over: names that aren't UTF-8 and links in the place of folders that were to be listed, and where
+/// nothing provides a name also the links to folders that a listing met.
+pub fn tell_passed(rt: &HostRuntime, status: &Status, layers: &FolderLayers<HostRuntime>) {
+    for remark in layers.remarks() {
+        let _ = eprintln!(rt; "bitbake: layers: {}", remark.as_str());
+    }
+    let Status::Metadata { kind, .. } = status else {
+        return;
+    };
+    if kind.as_str() == "NothingProvides" {
+        for link in layers.links() {
+            let _ = eprintln!(rt; "bitbake: layers: {}", link.as_str());
+        }
+    }
+}
+
+/// Says what the real files tell besides: why a file counts as missing, and which record tells what a task gave before.
+fn tell_more(rt: &HostRuntime, status: &Status) {
+    match status {
+        Status::Metadata {
+            file,
+            line: _,
+            kind,
+            detail,
+        } => {
+            if let Some(text) = detail.as_slice().first()
+                && let Ok(Some(reason)) = reason_for(
+                    rt,
+                    file.as_str(),
+                    kind.as_str(),
+                    text.as_str(),
+                )
+            {
+                let _ = eprintln!(rt; "bitbake: layers: {}", reason.as_str());
+            }
+        }
+        Status::Unsteady {
+            pn,
+            task,
+            held,
+            given: _,
+        } => tell_records(rt, pn.as_str(), task.as_str(), held),
+        _ => {}
+    }
+}
+
+/// Why what a fault of this kind names counts as missing, as far as the real files tell.
+fn reason_for(rt: &HostRuntime, file: &str, kind: &str, text: &str) -> io::Result<Option<String>> {
+    match kind {
+        "NoSuchLayer" => reason_at(
+            rt,
+            format!(in rt.alloc(); "{text}/conf/layer.conf")?.as_str(),
+        ),
+        "MissingClass" => reason_at(
+            rt,
+            format!(in rt.alloc(); "classes/{text}.bbclass")?.as_str(),
+        ),
+        "MissingFile" => reason_at(rt, text),
+        "MissingRequired" => match reason_at(rt, text)? {
+            Some(reason) => Ok(Some(reason)),
+            None => match file.rsplit_once('/') {
+                Some((folder, _)) => reason_at(
+                    rt,
+                    format!(in rt.alloc(); "{folder}/{text}")?.as_str(),
+                ),
+                None => Ok(None),
+            },
+        },
+        _ => Ok(None),
     }
 }
 

@@ -13,6 +13,8 @@ mod ahead;
 mod failures;
 mod faults;
 mod logs;
+mod places;
+mod records;
 mod sentences;
 mod streams;
 
@@ -20,7 +22,7 @@ use ahead::{is_run, read_ahead};
 use bitbake_top::bitbake;
 use build_store::Ahead;
 use failures::tell_failures;
-use faults::tell_fault;
+use faults::{tell_fault, tell_passed};
 use outside_os::{FolderDisk, FolderLayers, ReadAhead, Sandboxes, ShBench, StdSink, is_memory};
 use std::process::ExitCode;
 use std::sync::Wait;
@@ -113,9 +115,7 @@ fn call<R: Threads + Wait + Sync>(
     }
     tell_fault(rt, &finish.status);
     tell_sandboxes(rt, &sandboxes);
-    for remark in finish.layers.remarks() {
-        tell(rt, "layers", Some(remark.as_str()));
-    }
+    tell_passed(rt, &finish.status, &finish.layers);
     tell(rt, "layers", finish.layers.first_fault());
     tell(rt, "disk", finish.disk.first_fault());
     for bench in &finish.benches {

@@ -117,7 +117,7 @@ pub const SENTENCES: &[Sentence] = &[
     },
     Sentence {
         kind: "NoSuchLayer",
-        wrong: "BBLAYERS names the layer <1>, and there is no file <1>/conf/layer.conf",
+        wrong: "BBLAYERS names the layer <1>, and the project's folder has no file <1>/conf/layer.conf",
         mend: "correct BBLAYERS in conf/bblayers.conf",
     },
     Sentence {
@@ -142,7 +142,7 @@ pub const SENTENCES: &[Sentence] = &[
     },
     Sentence {
         kind: "SeveralProvide",
-        wrong: "several recipes provide <1>: <2..>",
+        wrong: "several recipes provide <1>, and no preference that counts names one of them: <2..>",
         mend: "set PREFERRED_PROVIDER_<1> to one of them in the configuration (at run time no preference counts: let one of them alone provide it)",
     },
     Sentence {
@@ -167,7 +167,7 @@ pub const SENTENCES: &[Sentence] = &[
     },
     Sentence {
         kind: "MissingFile",
-        wrong: "a task of the recipe has <1> in its file-checksums, and there is no such file",
+        wrong: "a task of the recipe has <1> in its file-checksums, and the project's folder has no such file",
         mend: "write its path from the project folder, or end the word with :False",
     },
     Sentence {
@@ -198,6 +198,6 @@ pub const SENTENCES: &[Sentence] = &[
     Sentence {
         kind: "unsteady",
         wrong: "<1> gave another <2> than when it ran with the same signature before",
-        mend: "let it depend on its metadata, its input files and what it needs alone (no clock, no random names), or where a tool on the search path has changed, remove the folder build",
+        mend: "let it depend on its metadata, its input files and what it needs alone (no clock, no random names), or where a tool on the search path has changed, remove the task's record, which standard error names (or the folder build)",
     },
 ];

@@ -1,18 +1,14 @@
 -- Which paths patterns name.
-use Rattle.std.proofs.Common.{◌≡◌, refl, sym, ◌∙◌, ap, ℕ, ◌+◌, ◌<◌, List, [], ◌∷◌, ◌++◌, length, take, get_or, filter, filter_map, Bool, false, ◌&&◌, ◌||◌, Option, Some, None, append-nil}
+use Rattle.std.proofs.Common.{◌≡◌, refl, sym, ◌∙◌, ap, subst, ℕ, ◌+◌, ◌<◌, List, [], ◌∷◌, ◌++◌, length, take, get_or, filter, filter_map, Bool, true, false, ◌&&◌, ◌||◌, Option, Some, None, bytes_eq, append-nil}
 use Rattle.std.specs.Option.{option_to_list, option_map_or}
-use Rattle.std.specs.List.{list_any, cons_option}
-use Rattle.std.specs.List.Sorted.{IsStrictlySortedBy}
-use Rattle.std.specs.Ordering.{nat_cmp}
-use Rattle.std.specs.Cmp.Lexicographic.{slice_cmp}
-use Rattle.std.specs.List.{AllByRecursion}
-use Rattle.std.specs.declared.cmp.Ordering.TheVariants.{Less}
+use Rattle.std.specs.List.{fold, list_any, cons_option}
 use Rattle.std.proofs.lemmas.List.{take_more}
-use Rattle.std.proofs.lemmas.List.Elements.{filter_map-append}
-use Rattle.std.proofs.lemmas.Map.Keys.{sorted_head, sorted_tail}
-use Rattle.meta_model.specs.Text.{in_byte_order}
-use Rattle.meta_model.specs.Ascending.{Above, Ascending}
-use Rattle.meta_model.proofs.Ordered.{ascending_same, filter_ascending, ordered_ascending, ordered_in}
+use Rattle.std.proofs.lemmas.List.Elements.{filter-append, filter_map-append}
+use Rattle.std.proofs.lemmas.List.Sums.{fold-append}
+use Rattle.meta_model.proofs.Bools.{same_text}
+use Rattle.meta_model.specs.Text.{is_in, into_order, in_byte_order}
+use Rattle.meta_model.specs.Ascending.{Ascending}
+use Rattle.meta_model.proofs.Ordered.{ascending_same, into_ascending, into_in, ordered_ascending, ordered_in}
 use Rattle.load_model.specs.Paths.{path_named, has_ending}
 use Rattle.load_model.specs.Patterns.{matches, names_path}
 use Rattle.load_model.specs.Layers.{named_files}
@@ -46,20 +42,33 @@ filter_same : (p q : List ℕ → Bool) (xs : List (List ℕ)) → ((x : List �
 filter_same p q [] h = refl
 filter_same p q (x ∷ xs) h = rw (h x, filter_same p q xs h) refl
 
-above_all : (x : List ℕ) (xs : List (List ℕ)) → AllByRecursion (λ y. slice_cmp nat_cmp x y ≡ Less) xs → Above x xs
-above_all x [] h = tt
-above_all x (y ∷ xs) h = (h.0, above_all x xs h.1)
-
-pub sorted_ascends : (xs : List (List ℕ)) → IsStrictlySortedBy (slice_cmp nat_cmp) xs → Ascending xs
-sorted_ascends [] s = tt
-sorted_ascends (x ∷ xs) s = (above_all x xs (sorted_head (slice_cmp nat_cmp) x xs s), sorted_ascends xs (sorted_tail (slice_cmp nat_cmp) x xs s))
-
--- an ascending list is in byte order
-pub in_order : (xs : List (List ℕ)) → Ascending xs → xs ≡ in_byte_order xs
-in_order xs a = ascending_same xs (in_byte_order xs) a (ordered_ascending xs) (λ t. sym (ordered_in xs t))
-
-pub named_are : (globs words paths : List (List ℕ)) (ending : List ℕ) → IsStrictlySortedBy (slice_cmp nat_cmp) paths → globs ≡ filter_map path_named words → filter (is_wanted globs ending) paths ≡ named_files words ending paths
-named_are globs words paths ending s e =
-    in_order (filter (is_wanted globs ending) paths) (filter_ascending (is_wanted globs ending) paths (sorted_ascends paths s))
-    ∙ ap in_byte_order (filter_same (is_wanted globs ending) (λ path. has_ending ending path && list_any (λ word. names_path word path) words) paths
+-- the wanted ones in byte order are those that the words name
+pub named_are : (globs words paths : List (List ℕ)) (ending : List ℕ) → globs ≡ filter_map path_named words → in_byte_order (filter (is_wanted globs ending) paths) ≡ named_files words ending paths
+named_are globs words paths ending e =
+    ap in_byte_order (filter_same (is_wanted globs ending) (λ path. has_ending ending path && list_any (λ word. names_path word path) words) paths
     (λ path. ap (λ g. has_ending ending path && matches_any g path) e ∙ ap (λ b. has_ending ending path && b) (any_named words path)))
+
+-- one more path
+pub wanted_next : (test : List ℕ → Bool) (paths : List (List ℕ)) (i : ℕ) (path : List ℕ) (old new : List (List ℕ)) → path ≡ get_or paths i path → i < length paths → old ≡ in_byte_order (filter test (take i paths)) → new ≡ fold into_order old (filter test (path ∷ [])) → new ≡ in_byte_order (filter test (take (i + 1) paths))
+wanted_next test paths i path old new is lt h e =
+    e ∙ ap (λ l. fold into_order l (filter test (path ∷ []))) h
+    ∙ sym (fold-append into_order [] (filter test (take i paths)) (filter test (path ∷ [])))
+    ∙ ap in_byte_order (sym (ap (filter test) (take_more paths i path lt ∙ ap (λ y. take i paths ++ y ∷ []) (sym is)) ∙ filter-append test (take i paths) (path ∷ [])))
+
+-- paths in byte order stay so in byte order
+
+ordered_twice : (xs : List (List ℕ)) → in_byte_order (in_byte_order xs) ≡ in_byte_order xs
+ordered_twice xs = ascending_same (in_byte_order (in_byte_order xs)) (in_byte_order xs) (ordered_ascending (in_byte_order xs)) (ordered_ascending xs) (λ t. ordered_in (in_byte_order xs) t)
+
+pub stays_ordered : (xs ys : List (List ℕ)) → xs ≡ in_byte_order ys → in_byte_order xs ≡ xs
+stays_ordered xs ys e = ap in_byte_order e ∙ ordered_twice ys ∙ sym e
+
+-- a path that is there already
+pub into_there : (path : List ℕ) (paths : List (List ℕ)) → in_byte_order paths ≡ paths → is_in path paths ≡ true → paths ≡ into_order paths path
+into_there path paths ordered there =
+    let ascends : Ascending paths = subst Ascending ordered (ordered_ascending paths) in
+    ascending_same paths (into_order paths path) ascends (into_ascending paths path ascends) (λ t. one t (bytes_eq t path) refl ∙ sym (into_in paths path t))
+  where
+    one : (t : List ℕ) (b : Bool) → bytes_eq t path ≡ b → is_in t paths ≡ (bytes_eq t path || is_in t paths)
+    one t true e = ap (λ n. is_in n paths) (same_text t path e) ∙ there ∙ sym (ap (λ b. b || is_in t paths) e)
+    one t false e = sym (ap (λ b. b || is_in t paths) e)

@@ -1,5 +1,6 @@
 pub mod Globs
 pub mod Globbing
+pub mod Begun
 pub mod Placing
 pub mod Layering
-pub mod Listing
+pub mod Listed

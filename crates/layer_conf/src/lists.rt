@@ -1,24 +1,22 @@
 // The configuration with its lists.
-ghost use Rattle.std.specs.Prelude.{◌≡◌, [], List, ℕ, Ok, None, IfOk, IfErr, codes, filter_map, false};
-ghost use Rattle.std.specs.List.Sorted.{IsStrictlySortedBy};
-ghost use Rattle.std.specs.Ordering.{nat_cmp};
-ghost use Rattle.std.specs.Cmp.Lexicographic.{slice_cmp};
+ghost use Rattle.std.specs.Prelude.{◌≡◌, [], List, ℕ, Ok, IfOk, IfErr, codes, filter_map, false};
 ghost use Rattle.outside_traits.specs.Fault.{Counts};
 ghost use Rattle.outside_traits.specs.Store.{IsListing, SameFiles};
 ghost use Rattle.load_model.specs.Paths.{path_named};
 ghost use Rattle.load_model.specs.Loading.{sources_of};
 ghost use Rattle.load_model.specs.Layers as meant;
-ghost use Rattle.layer_conf.specs.Faults.{layer_refusal, IsLayerFault, layers_failed};
+ghost use Rattle.layer_conf.specs.Faults.{IsLayerFault, layers_failed};
 ghost use Rattle.layer_conf.specs.Config.{config_meant, configured_meant, listed_meant, AreGlobs};
 ghost use Rattle.load_model.specs.Layers.{patterns_over, with_lists};
 
 use crate::fault::{LayerFault, data_told};
 use crate::files::named_files;
+use crate::listing::listed;
 use crate::order::in_layer_order;
 use crate::patterns::{bad_pattern, globs_of};
 use crate::reads::{Config, Configured, read_configured};
 use datastore::Datastore;
-use outside_traits::{Layers, ReadFault};
+use outside_traits::Layers;
 use recipe_facts::words_of;
 use std::alloc::Global;
 use tree_model::{Mem, Text, Texts};
@@ -51,41 +49,24 @@ fn globs_over(alloc: Global, store: &Datastore) -> Result<Vec<Text>, LayerFault>
     }
 }
 
-/// The paths of all files.
-fn listed<L: Layers>(alloc: Global, layers: &mut L) -> Result<Texts, LayerFault>
-    ensures paths { IfOk result (λ paths. L.tells → IsListing [] (L.files layers.old) paths) }
-    ensures free { IfErr result (λ fault. layer_refusal fault ≡ None) }
-    ensures same { SameFiles L.files layers.old layers.new }
-    ensures cause { Counts (L.faults layers.old) (L.faults layers.new) (layers_failed result) }
-{
-    match layers.list(alloc, "") {
-        Ok(paths) => Ok(paths),
-        Err(ReadFault::Failed) => Err(LayerFault::List),
-        Err(ReadFault::TooLong) | Err(ReadFault::Memory) => Err(LayerFault::Memory),
-    }
-}
-
-/// The appends among the paths of all files, in the order of these layers.
+/// The appends among some paths, in the order of these layers.
 fn appends_of(alloc: Global, layers: &[Text], globs: &[Text], paths: &[Text]) -> Result<Texts, Mem>
-    ensures { IfOk result (λ appends. IsStrictlySortedBy (slice_cmp nat_cmp) paths.now → (words : List (List ℕ))
-        → globs.now ≡ filter_map path_named words → appends
+    ensures { IfOk result (λ appends. (words : List (List ℕ)) → globs.now ≡ filter_map path_named words → appends
         ≡ meant.in_layer_order layers.now (meant.named_files words (codes ".bbappend") paths.now)) }
 {
     let appends = named_files(alloc, globs, ".bbappend", paths)?;
     in_layer_order(alloc, layers, appends.as_slice())
 }
 
-/// The lists over the paths of all files: the recipes and the appends.
+/// The lists over some paths: the recipes and the appends.
 fn lists_of(
     alloc: Global,
     layers: &[Text],
     globs: &[Text],
     paths: &[Text],
 ) -> Result<(Texts, Texts), Mem>
-    ensures recipes { IfOk result (λ lists. IsStrictlySortedBy (slice_cmp nat_cmp) paths.now → (words : List (List ℕ))
-        → globs.now ≡ filter_map path_named words → lists.0 ≡ meant.named_files words (codes ".bb") paths.now) }
-    ensures appends { IfOk result (λ lists. IsStrictlySortedBy (slice_cmp nat_cmp) paths.now → (words : List (List ℕ))
-        → globs.now ≡ filter_map path_named words → lists.1
+    ensures recipes { IfOk result (λ lists. (words : List (List ℕ)) → globs.now ≡ filter_map path_named words → lists.0 ≡ meant.named_files words (codes ".bb") paths.now) }
+    ensures appends { IfOk result (λ lists. (words : List (List ℕ)) → globs.now ≡ filter_map path_named words → lists.1
         ≡ meant.in_layer_order layers.now (meant.named_files words (codes ".bbappend") paths.now)) }
 {
     let recipes = named_files(alloc, globs, ".bb", paths)?;
@@ -93,7 +74,7 @@ fn lists_of(
     Ok((recipes, appends))
 }
 
-/// The lists that a configuration has over its files, which are listed.
+/// The lists that a configuration has over its files, of which those are listed that they may hold.
 fn lists_over<L: Layers>(
     alloc: Global,
     layers: &mut L,
@@ -110,7 +91,7 @@ fn lists_over<L: Layers>(
         Ok(globs) => globs,
         Err(fault) => return Err(fault),
     };
-    let paths = match listed(alloc, layers) {
+    let paths = match listed(alloc, layers, globs.as_slice()) {
         Ok(paths) => paths,
         Err(fault) => return Err(fault),
     };
@@ -151,7 +132,7 @@ fn with_lists<L: Layers>(
 
 /// Reads the configuration of a project: with layers `conf/bblayers.conf`, then `conf/layer.conf` of each word of BBLAYERS, then
 /// `conf/bitbake.conf`, which has to be there; without `conf/bblayers.conf` that last file, which may be missing ("Parsing the
-/// Base Configuration Metadata"; the rest is own). Then the files are listed, and taken as BBFILES says. The store isn't frozen.
+/// Base Configuration Metadata"; the rest is own). Then files are listed and taken as BBFILES says; what no pattern can lead to isn't looked at. The store isn't frozen.
 ///
 /// The definition is meant for the paths of all files, each once and in byte order: there is one such list.
 ///

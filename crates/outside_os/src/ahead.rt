@@ -1,6 +1,7 @@
 // What is read of a disk before its first call.
 use crate::disk::{ROOT, part_of};
 use crate::folder::put_joined;
+use crate::limits::{RECORDS, STAMPS, is_beyond};
 use crate::listed::Listing;
 use crate::walk::list_items;
 use std::alloc::Global;
@@ -9,16 +10,10 @@ use std::rt::Files;
 use std::sync::OnceLock;
 use tree_model::{Entry, Text};
 
-/// Where the records stand, of which opening a store reads each.
-const RECORDS: &str = "rec/";
-
-/// Where the stamps stand, of which it reads each too.
-const STAMPS: &str = "stamp/";
-
 /// The most bytes that are read ahead of a part.
 const MOST: u64 = 268_435_456;
 
-/// What stands under `rec/` and `stamp/`, read in a thread of its own while the metadata is read. A disk that had its lock
+/// What stands under `rec/` and `stamp/`, of which opening a store reads each, read in a thread of its own while the metadata is read. A disk that had its lock
 /// before (`FolderDisk::hold_early`) answers from it, until it changes anything: with the lock held nothing else does.
 ///
 /// Nothing is waited for. What isn't there when it is asked for the disk reads by itself, and what can't be read ahead is
@@ -84,12 +79,18 @@ impl ReadAhead {
             .into_iter()
             .flatten()
         {
+            let path = item.path.as_str();
+            if is_beyond(path, &item.facts) {
+                // (its bytes stand for none, as the disk itself reads it)
+                listing.put(path, item.facts)?;
+                continue;
+            }
             let size = listing.size().saturating_add(item.facts.length);
             if size > MOST || self.stopped.get().is_some() {
                 return Ok(None);
             }
-            put_joined(&mut whole, ROOT, item.path.as_str())?;
-            listing.put_read(rt, whole.as_str(), item.path.as_str(), item.facts)?;
+            put_joined(&mut whole, ROOT, path)?;
+            listing.put_read(rt, whole.as_str(), path, item.facts)?;
         }
         Ok(Some(listing))
     }

@@ -4,9 +4,10 @@ ghost use Rattle.std.specs.Prelude.{[], None};
 use crate::ahead::ReadAhead;
 use crate::faults::{FirstFault, is_memory, one_more};
 use crate::folder::{
-    FileFacts, entry_of, is_empty, is_entry, join, lay_entry, look, look_through, move_entry,
-    put_joined, read_unchanged,
+    FileFacts, entry_of, is_denied, is_empty, is_entry, join, lay_entry, look, look_through,
+    move_entry, open_above, open_up, put_joined, read_unchanged,
 };
+use crate::limits::{is_beyond, no_entry_of_the_store};
 use crate::listed::{Listed, Listing, Seen};
 use crate::lock::{BENCHES_FOLDER, LOCK, Locking};
 use crate::own::make_own;
@@ -210,27 +211,42 @@ impl<R: Files + Locking + AllocGlobal + Clone + Drop> Disk for FolderDisk<'_, R>
     ghost sound = { λ _ told. absurd told };
 
     fn read(&mut self, _alloc: Global, path: &str) -> Result<Option<Entry>, DiskFault> {
-        let found = self.folder.read(path);
+        let mut found = self.folder.read(path);
+        if self.folder.opened_for(&found, path) {
+            found = self.folder.read(path);
+        }
         self.count("read", path, found)
     }
 
     fn write(&mut self, path: &str, entry: &Entry) -> Result<(), DiskFault> {
-        let done = self.folder.write(path, entry);
+        let mut done = self.folder.write(path, entry);
+        if self.folder.opened_for(&done, path) {
+            done = self.folder.write(path, entry);
+        }
         self.count("write", path, done)
     }
 
     fn rename(&mut self, from: &str, to: &str) -> Result<(), DiskFault> {
-        let done = self.folder.rename(from, to);
+        let mut done = self.folder.rename(from, to);
+        if self.folder.opened_for(&done, from) | self.folder.opened_for(&done, to) {
+            done = self.folder.rename(from, to);
+        }
         self.count("rename", from, done)
     }
 
     fn remove(&mut self, path: &str) -> Result<(), DiskFault> {
-        let done = self.folder.remove(path);
+        let mut done = self.folder.remove(path);
+        if self.folder.opened_for(&done, path) {
+            done = self.folder.remove(path);
+        }
         self.count("removal", path, done)
     }
 
     fn list(&mut self, alloc: Global, prefix: &str) -> Result<Texts, DiskFault> {
-        let paths = self.folder.list(alloc, prefix);
+        let mut paths = self.folder.list(alloc, prefix);
+        if self.folder.opened_for_walk(&paths, prefix) {
+            paths = self.folder.list(alloc, prefix);
+        }
         self.count_listing(prefix, paths)
     }
 
@@ -252,6 +268,29 @@ impl<'a, R: Files + Locking + AllocGlobal + Clone + Drop> BuildFolder<'a, R> {
             self.lock = Some(self.rt.take_lock(LOCK)?);
         }
         Ok(())
+    }
+
+    /// Where a call at a path was refused since this user may not make it, opens up the folders above the path, and says whether
+    /// the call is to be made again.
+    fn opened_for<T>(&self, done: &io::Result<T>, path: &str) -> bool {
+        match done {
+            Err(error) => is_denied(error) && self.opens_above(path),
+            Ok(_) => false,
+        }
+    }
+
+    /// The same of a listing.
+    fn opened_for_walk<T>(&self, done: &Result<T, WalkFault>, prefix: &str) -> bool {
+        match done {
+            Err(fault) => is_denied(&fault.error) && self.opens_above(prefix),
+            Ok(_) => false,
+        }
+    }
+
+    /// Opens up the folders above a path, and those above the lock.
+    fn opens_above(&self, path: &str) -> bool {
+        let lock = open_above(&self.rt, ROOT, "bench/lock").is_ok();
+        open_above(&self.rt, ROOT, path).is_ok() && lock
     }
 
     /// The place, from the current folder, of a path at which an entry can stand: a clean one, outside the benches, that
@@ -276,7 +315,7 @@ impl<'a, R: Files + Locking + AllocGlobal + Clone + Drop> BuildFolder<'a, R> {
         };
         match look(&self.rt, whole.as_str())? {
             Some(metadata) if is_entry(&metadata) => {
-                read_unchanged(&self.rt, whole.as_str(), &FileFacts::of(&metadata))
+                read_at(&self.rt, path, whole.as_str(), &FileFacts::of(&metadata))
             }
             _ => Ok(None),
         }
@@ -290,7 +329,7 @@ impl<'a, R: Files + Locking + AllocGlobal + Clone + Drop> BuildFolder<'a, R> {
             }
             _ => {
                 put_joined(&mut self.whole, ROOT, path)?;
-                read_unchanged(&self.rt, self.whole.as_str(), &seen.facts)
+                read_at(&self.rt, path, self.whole.as_str(), &seen.facts)
             }
         }
     }
@@ -392,12 +431,23 @@ impl<'a, R: Files + Locking + AllocGlobal + Clone + Drop> BuildFolder<'a, R> {
                 break;
             }
             self.note_above(folder)?;
-            fs::remove_dir(&self.rt, folder)?;
+            self.remove_empty(folder)?;
             self.settled.remove(folder);
             self.seen.forget_empty(folder);
             folder = above(folder);
         }
         Ok(())
+    }
+
+    /// Removes an empty folder. The folders above it are opened up first, where need be.
+    fn remove_empty(&self, folder: &str) -> io::Result<()> {
+        match fs::remove_dir(&self.rt, folder) {
+            Err(error) if is_denied(&error) => {
+                open_above(&self.rt, ROOT, inside_root(folder))?;
+                fs::remove_dir(&self.rt, folder)
+            }
+            done => done,
+        }
     }
 
     /// Notes the folder above a path as changed. The folders above that one are noted as far as they are not known to
@@ -415,6 +465,25 @@ impl<'a, R: Files + Locking + AllocGlobal + Clone + Drop> BuildFolder<'a, R> {
     }
 }
 
+/// The entry at a path of the disk, which was looked at. A file that is too long for what stands at that path isn't read, a file
+/// that this user may not read, or a link whose text isn't UTF-8, can't be: something counts in its place that is nothing of the store's.
+fn read_at<R: Files + AllocGlobal>(
+    rt: &R,
+    path: &str,
+    whole: &str,
+    facts: &FileFacts,
+) -> io::Result<Option<Entry>> {
+    if is_beyond(path, facts) {
+        return Ok(Some(no_entry_of_the_store(rt.alloc(), path)?));
+    }
+    match read_unchanged(rt, whole, facts) {
+        Err(error) if is_denied(&error) || error.kind() == ErrorKind::InvalidFilename => {
+            Ok(Some(no_entry_of_the_store(rt.alloc(), path)?))
+        }
+        found => found,
+    }
+}
+
 /// The part of the disk whose paths begin so.
 pub fn part_of(prefix: &str) -> Part<'_> {
     Part {
@@ -422,7 +491,16 @@ pub fn part_of(prefix: &str) -> Part<'_> {
         prefix,
         hidden: BENCHES,
         opens: false,
+        mends: true,
         notes: false,
+    }
+}
+
+/// The path inside the root of a place below it.
+fn inside_root(place: &str) -> &str {
+    match place.strip_prefix(ROOT) {
+        Some(path) => path.strip_prefix('/').unwrap_or(path),
+        None => place,
     }
 }
 
@@ -453,6 +531,7 @@ fn sync_place<R: Files>(rt: &R, path: &str) -> io::Result<bool> {
     };
     match found {
         Some(metadata) if metadata.is_file() || metadata.is_dir() => {
+            open_up(rt, path, &FileFacts::of(&metadata))?;
             fs::open(rt, path)?.sync_all()?;
             Ok(metadata.is_dir())
         }

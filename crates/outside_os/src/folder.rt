@@ -28,6 +28,11 @@ pub fn is_absent(error: &io::Error) -> bool {
     matches!(error.kind(), ErrorKind::NotFound | ErrorKind::NotADirectory) || is_too_long(error)
 }
 
+/// Whether an error says that this user may not do something.
+pub fn is_denied(error: &io::Error) -> bool {
+    error.kind() == ErrorKind::PermissionDenied
+}
+
 /// Whether an error says that the system can't name so long a path. A name that isn't UTF-8 has an error of the
 /// same kind and no number of the system's.
 pub fn is_too_long(error: &io::Error) -> bool {
@@ -119,14 +124,6 @@ pub fn look_through<R: Files>(rt: &R, path: &str) -> io::Result<Option<Metadata>
         Ok(metadata) => Ok(Some(metadata)),
         Err(error) if is_absent(&error) || error.kind() == ErrorKind::FilesystemLoop => Ok(None),
         Err(error) => Err(error),
-    }
-}
-
-/// Whether a file stands at a path, or a link that leads to one.
-pub fn leads_to_file<R: Files>(rt: &R, path: &str) -> io::Result<bool> {
-    match look_through(rt, path)? {
-        Some(metadata) => Ok(metadata.is_file()),
-        None => Ok(false),
     }
 }
 
@@ -275,6 +272,27 @@ pub fn open_up<R: Files>(rt: &R, path: &str, facts: &FileFacts) -> io::Result<()
     fs::set_permissions(rt, path, Permissions::from_mode(mode | wanted))
 }
 
+/// Opens up the folders that a path has above it inside a root, the root among them, which may be a link to a folder. Follows no
+/// other link, and says whether all of them are folders.
+pub fn open_above<R: Files + AllocGlobal>(rt: &R, root: &str, path: &str) -> io::Result<bool> {
+    match look_through(rt, root)? {
+        Some(metadata) if metadata.is_dir() => open_up(rt, root, &FileFacts::of(&metadata))?,
+        _ => return Ok(false),
+    }
+    let Some((above, _)) = path.rsplit_once('/') else {
+        return Ok(true);
+    };
+    let mut whole = String::from_str(rt.alloc(), root)?;
+    for part in above.split('/') {
+        whole.push('/')?;
+        whole.push_str(part)?;
+        if !open_folder(rt, whole.as_str())? {
+            return Ok(false);
+        }
+    }
+    Ok(true)
+}
+
 /// Opens a folder up, and says whether it is one.
 pub fn open_folder<R: Files>(rt: &R, path: &str) -> io::Result<bool> {
     match look(rt, path)? {
@@ -325,9 +343,19 @@ pub fn move_entry<R: Files + AllocGlobal + Clone + Drop>(
 ) -> io::Result<()> {
     match look(rt, to)? {
         Some(metadata) if metadata.is_dir() => clear_place(rt, to)?,
+        Some(metadata) if metadata.nlink() > 1 => return move_over_names(rt, from, to),
         _ => {}
     }
     fs::rename(rt, from, to)
+}
+
+/// Moves a file in place of one that has several names. Where the two are one file the system does nothing, and its name goes.
+fn move_over_names<R: Files>(rt: &R, from: &str, to: &str) -> io::Result<()> {
+    fs::rename(rt, from, to)?;
+    match look(rt, from)? {
+        Some(_) => fs::remove_file(rt, from),
+        None => Ok(()),
+    }
 }
 
 /// Makes the root and the folders above a path inside it.
@@ -371,10 +399,21 @@ fn clear_place<R: Files + AllocGlobal + Clone + Drop>(rt: &R, path: &str) -> io:
             if list_items(rt, &Part::whole(path), 0)?.is_none() {
                 return Err(io::Error::from(ErrorKind::DirectoryNotEmpty));
             }
-            fs::remove_dir_all(rt, path)
+            remove_opened(rt, path)
         }
         Some(_) => fs::remove_file(rt, path),
         None => Ok(()),
+    }
+}
+
+/// Removes a folder with all that it holds. Folders in it that the owner may not change are opened up first, where need be.
+fn remove_opened<R: Files + AllocGlobal + Clone + Drop>(rt: &R, folder: &str) -> io::Result<()> {
+    match fs::remove_dir_all(rt, folder) {
+        Err(error) if is_denied(&error) => {
+            list_items(rt, &Part::opened(folder), u64::MAX)?;
+            fs::remove_dir_all(rt, folder)
+        }
+        done => done,
     }
 }
 

@@ -2,7 +2,7 @@
 ghost use Rattle.std.specs.Prelude.{None};
 
 use crate::faults::{FirstFault, is_memory, one_more};
-use crate::folder::{leads_to_file, look_through, read_bytes};
+use crate::folder::{look, look_through, read_bytes};
 use crate::seen::SeenFolders;
 use crate::walk::{Part, WalkFault, walk_noting};
 use outside_traits::{Layers, ReadFault};
@@ -17,7 +17,7 @@ const HERE: &str = ".";
 /// Where what is built is kept: no part of the layers.
 const BUILT: &str = "build";
 
-/// The most remarks that are kept.
+/// The most sentences that are kept of one kind.
 const MOST_REMARKS: usize = 20;
 
 /// The files of the current folder, without those in its folder `build`.
@@ -31,6 +31,7 @@ pub struct FolderLayers<R> {
     faults: u64,
     first: FirstFault,
     remarks: Vec<String>,
+    links: Vec<String>,
     seen: SeenFolders,
 }
 
@@ -41,12 +42,14 @@ impl<R: AllocGlobal> FolderLayers<R> {
     /// The current folder, without a fault so far.
     pub fn new(rt: R) -> Self {
         let remarks = Vec::new(rt.alloc());
+        let links = Vec::new(rt.alloc());
         let seen = SeenFolders::none(rt.alloc());
         FolderLayers {
             rt,
             faults: 0,
             first: FirstFault::none(),
             remarks,
+            links,
             seen,
         }
     }
@@ -56,23 +59,15 @@ impl<R: AllocGlobal> FolderLayers<R> {
         self.first.as_str()
     }
 
-    /// What is said of the names that were passed over, at most twenty of them.
+    /// What is said of what was passed over: names that aren't UTF-8, and links in the place of folders that were to be listed. At
+    /// most twenty of them.
     pub fn remarks(&self) -> &[String] {
         self.remarks.as_slice()
     }
 
-    /// Says of a path, escaped, that it was passed over, unless that was said.
-    fn remark(&mut self, path: &str) -> Result<(), AllocError>
-        ensures { self.new.faults ≡ self.old.faults }
-    {
-        let said = format!(in self.rt.alloc();
-            "{path}: its name isn't UTF-8, so no pattern names it"
-        )?;
-        let is_new = !self.remarks.iter().any(|old| old.as_str() == said.as_str());
-        if is_new && self.remarks.len() < MOST_REMARKS {
-            self.remarks.push(said)?;
-        }
-        Ok(())
+    /// What is said of links to folders that a listing came by, at most twenty of them.
+    pub fn links(&self) -> &[String] {
+        self.links.as_slice()
     }
 
     /// Counts the fault where a listing failed.
@@ -142,27 +137,84 @@ impl<R: Files + AllocGlobal + Clone + Drop> FolderLayers<R> {
             prefix,
             hidden: BUILT,
             opens: false,
+            mends: false,
             notes: true,
         };
         let (items, odd) = walk_noting(&self.rt, &part)?;
         for path in &odd {
-            self.remark(path.as_str())?;
+            let said = format!(in self.rt.alloc();
+                "{}: its name isn't UTF-8, so no pattern names it",
+                path.as_str()
+            )?;
+            keep_once(&mut self.remarks, said)?;
+        }
+        if items.is_empty() {
+            self.look_for_link(prefix)?;
         }
         let mut paths = Texts::new(alloc);
         for item in items {
-            if item.facts.is_file() || self.leads_to_file(item.path.as_str())? {
+            if item.facts.is_file() || self.is_linked_file(item.path.as_str())? {
                 paths.push(item.path)?;
             }
         }
         Ok(paths)
     }
 
-    fn leads_to_file(&self, path: &str) -> Result<bool, WalkFault> {
-        match leads_to_file(&self.rt, path) {
-            Ok(leads) => Ok(leads),
+    /// Whether a link leads to a file. One that leads to a folder is noted.
+    fn is_linked_file(&mut self, path: &str) -> Result<bool, WalkFault>
+        ensures { self.new.faults ≡ self.old.faults }
+    {
+        match look_through(&self.rt, path) {
+            Ok(Some(metadata)) if metadata.is_dir() => {
+                let said = linked(self.rt.alloc(), path)?;
+                keep_once(&mut self.links, said)?;
+                Ok(false)
+            }
+            Ok(Some(metadata)) => Ok(metadata.is_file()),
+            Ok(None) => Ok(false),
             Err(error) => Err(WalkFault::at(self.rt.alloc(), path, error)),
         }
     }
+
+    /// Notes the first link that stands in the place of a folder above all paths with this prefix.
+    fn look_for_link(&mut self, prefix: &str) -> Result<(), WalkFault>
+        ensures { self.new.faults ≡ self.old.faults }
+    {
+        let Some((folders, _)) = prefix.rsplit_once('/') else {
+            return Ok(());
+        };
+        let mut whole = String::new(self.rt.alloc());
+        for part in folders.split('/') {
+            if !whole.is_empty() {
+                whole.push('/')?;
+            }
+            whole.push_str(part)?;
+            match look(&self.rt, whole.as_str()) {
+                Ok(Some(metadata)) if metadata.is_dir() => {}
+                Ok(Some(metadata)) if metadata.is_symlink() => {
+                    let said = linked(self.rt.alloc(), whole.as_str())?;
+                    keep_once(&mut self.remarks, said)?;
+                    return Ok(());
+                }
+                _ => return Ok(()),
+            }
+        }
+        Ok(())
+    }
+}
+
+/// What is said of a link in the place of a folder.
+fn linked(alloc: Global, path: &str) -> Result<String, AllocError> {
+    format!(in alloc; "{path} is a link, and no folder is entered through one")
+}
+
+/// Keeps a sentence at the end of a list, once, where there is room.
+fn keep_once(list: &mut Vec<String>, said: String) -> Result<(), AllocError> {
+    let is_new = !list.iter().any(|old| old.as_str() == said.as_str());
+    if is_new && list.len() < MOST_REMARKS {
+        list.push(said)?;
+    }
+    Ok(())
 }
 
 impl<R: Files + AllocGlobal + Clone + Drop> Layers for FolderLayers<R> {

@@ -13,6 +13,7 @@ mod disk;
 mod faults;
 mod folder;
 mod layers;
+mod limits;
 mod listed;
 mod lock;
 mod output;

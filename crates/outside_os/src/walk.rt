@@ -1,8 +1,8 @@
 // The files and links under a folder.
 use crate::faults::{escaped, put_escaped};
 use crate::folder::{
-    FileFacts, is_absent, is_entry, is_folder, is_too_long, join, no_memory, open_folder,
-    put_joined,
+    FileFacts, is_absent, is_denied, is_entry, is_folder, is_too_long, join, no_memory,
+    open_folder, put_joined,
 };
 use std::alloc::{AllocError, AllocFailed, Global};
 use std::fs::Metadata;
@@ -19,13 +19,15 @@ const IN_A_ROW: u32 = 8;
 
 /// A part of a real folder: what stands at the paths inside `root` that begin with `prefix`. The folder `hidden` of
 /// the root isn't entered. Where `opens` is set, folders that the owner may not read are opened up, and a root that is
-/// a link has nothing. A name that isn't UTF-8 is an error, or passed over and noted where `notes` is set.
+/// a link has nothing. Where `mends` is set, the same is done for folders that turn out to be closed, and no root is refused. A
+/// name that isn't UTF-8 is an error, or passed over and noted where `notes` is set.
 #[derive(Clone, Copy)]
 pub struct Part<'a> {
     pub root: &'a str,
     pub prefix: &'a str,
     pub hidden: &'a str,
     pub opens: bool,
+    pub mends: bool,
     pub notes: bool,
 }
 
@@ -37,6 +39,7 @@ impl<'a> Part<'a> {
             prefix: "",
             hidden: "",
             opens: false,
+            mends: true,
             notes: false,
         }
     }
@@ -48,6 +51,7 @@ impl<'a> Part<'a> {
             prefix: "",
             hidden: "",
             opens: true,
+            mends: false,
             notes: false,
         }
     }
@@ -330,7 +334,7 @@ fn enter_at<R: Files + AllocGlobal>(
         walk.folders
             .push(String::from_str(rt.alloc(), place.path.as_str())?)?;
     }
-    match open_names(rt, whole, place.is_seen) {
+    match open_mended(rt, part, whole, place.is_seen) {
         Ok(names) => Ok(Some(names)),
         Err(_) if !place.is_seen => {
             let path = String::from_str(rt.alloc(), place.path.as_str())?;
@@ -339,6 +343,22 @@ fn enter_at<R: Files + AllocGlobal>(
         }
         Err(error) if is_absent(&error) && !is_too_long(&error) => Ok(None),
         Err(error) => Err(error),
+    }
+}
+
+/// Opens a folder; one that is closed is opened up first, where the part says so.
+fn open_mended<R: Files + AllocGlobal>(
+    rt: &R,
+    part: &Part<'_>,
+    whole: &str,
+    is_seen: bool,
+) -> io::Result<R::Dir> {
+    match open_names(rt, whole, is_seen) {
+        Err(error) if part.mends && is_denied(&error) => match open_folder(rt, whole) {
+            Ok(true) => open_names(rt, whole, is_seen),
+            _ => Err(error),
+        },
+        done => done,
     }
 }
 
@@ -483,10 +503,26 @@ fn add_name<R: Files + AllocGlobal>(
         })?;
         return Ok(());
     }
-    let metadata = fs::symlink_metadata(rt, walk.whole.as_str());
+    let metadata = look_mended(rt, part, folder, walk.whole.as_str());
     match add_there(path, metadata, part, walk) {
         Ok(()) => Ok(()),
         Err(error) => Err(WalkFault::at(rt.alloc(), walk.whole.as_str(), error)),
+    }
+}
+
+/// The metadata of what stands in a folder; one that can't be entered is opened up first, where the part says so.
+fn look_mended<R: Files>(
+    rt: &R,
+    part: &Part<'_>,
+    folder: &str,
+    whole: &str,
+) -> io::Result<Metadata> {
+    match fs::symlink_metadata(rt, whole) {
+        Err(error) if part.mends && is_denied(&error) => match open_folder(rt, folder) {
+            Ok(true) => fs::symlink_metadata(rt, whole),
+            _ => Err(error),
+        },
+        done => done,
     }
 }
 
