@@ -21,8 +21,7 @@ use Rattle.answer_model.specs.Project.{not_built, read_config, read_recipes}
 use Rattle.answer_model.specs.Targets.{target_of}
 use Rattle.answer_model.specs.GraphStatus.{IsGraphStatus, lacking, cycle, many}
 use Rattle.answer_model.specs.RunAsked.{Asked, asked, asked_under, asked_over, asked_with, config_text, default_task, moved, target_in, targets_in, targets_of, threads_text}
-use Rattle.answer_model.specs.Runs.{IsRunRefused, asking, graph as no_graph}
-use Rattle.run_targets.specs.Runs.{value as no_text, threads as no_threads}
+use Rattle.answer_model.specs.Runs.{IsRunRefused, asking, graph as no_graph, value as no_text, threads as no_threads}
 use Rattle.plan_model.specs.Inputs.{Files}
 use Rattle.plan_model.specs.PlanRefusal.{PlanRefusal, bad_flag, no_value as plan_no_value, missing_file, input_bytes, plan_bytes}
 use Rattle.answer_model.specs.Plans.{IsPlanRefused}

@@ -16,17 +16,17 @@ use Rattle.layer_conf.specs.Globs.{matches_any, is_wanted, begun_by, IsFound, Is
 use Rattle.layer_conf.proofs.Globbing.{named_are}
 use Rattle.layer_conf.proofs.Begun.{begins, either_head}
 
-in_contains : (t : List ℕ) (xs : List (List ℕ)) → is_in t xs ≡ true → Contains xs t
+pub in_contains : (t : List ℕ) (xs : List (List ℕ)) → is_in t xs ≡ true → Contains xs t
 in_contains t [] h = absurd cc
 in_contains t (x ∷ xs) h = elim (either_way (bytes_eq t x)) [
   | inl e ↦ (0, omega arith, sym (same_text t x e))
   | inr e ↦ let c = in_contains t xs (from_or (bytes_eq t x) (is_in t xs) h e) in (suc c.0, (let k = c.1 in omega (arith, k)), c.2)
 ]
 
-contains_in : (t : List ℕ) (xs : List (List ℕ)) → Contains xs t → is_in t xs ≡ true
+pub contains_in : (t : List ℕ) (xs : List (List ℕ)) → Contains xs t → is_in t xs ≡ true
 contains_in t xs c = list_any-from_Contains nat_list_eq_equiv t xs c
 
-both_ways : (a b : Bool) → (a ≡ true → b ≡ true) → (b ≡ true → a ≡ true) → a ≡ b
+pub both_ways : (a b : Bool) → (a ≡ true → b ≡ true) → (b ≡ true → a ≡ true) → a ≡ b
 both_ways true b f g = sym (f refl)
 both_ways false true f g = g refl
 both_ways false false f g = refl

@@ -1,3 +1,4 @@
+pub mod Listings
 pub mod AnyGraph
 pub mod Told
 pub mod OneRun

@@ -1,15 +1,14 @@
 -- Of one project and the same words there is one run, and no refusal beside it.
 use Rattle.std.proofs.Common.{◌≡◌, ◌∙◌, sym, ap, subst, ℕ, List, [], Option, Result, Ok, Err}
 use Rattle.outside_traits.specs.Store.{IsListing}
-use Rattle.layer_conf.proofs.Listing.{listing_once}
+use Rattle.run_targets.proofs.Listings.{listing_once}
 use Rattle.meta_model.specs.declared.event.Status.{Status}
 use Rattle.meta_model.specs.declared.facts.Graph.{Graph}
 use Rattle.meta_model.specs.Threads.{AreThreads}
 use Rattle.load_model.specs.Loading.{sources_of}
 use Rattle.answer_model.specs.GraphStatus.{IsGraphStatus}
 use Rattle.answer_model.specs.RunAsked.{Asked, asked, threads_text}
-use Rattle.answer_model.specs.Runs.{IsRun, IsRunRefused, asking, graph as no_graph}
-use Rattle.run_targets.specs.Runs.{value as no_value, threads as no_threads}
+use Rattle.answer_model.specs.Runs.{IsRun, IsRunRefused, asking, graph as no_graph, value as no_value, threads as no_threads}
 use Rattle.run_targets.proofs.AnyGraph.{graph_stands}
 
 -- an answer is one

@@ -15,8 +15,8 @@ use Rattle.task_graph.specs.declared.fault.GraphFault.{GraphFault}
 use Rattle.task_graph.specs.declared.fault.GraphFault.TheVariants.{NoSuchTask, TaskCycle, NothingProvides, SeveralProvide, Tasks, BadThreads, Memory}
 use Rattle.answer_model.specs.GraphStatus.{IsGraphStatus, lacking, cycle, many}
 use Rattle.answer_model.specs.RunAsked.{Asked, asked, threads_text}
-use Rattle.answer_model.specs.Runs.{HasGraph, IsRunRefused}
-use Rattle.run_targets.specs.Runs.{IsDeviceStatus, HasNoThreads, value, threads, value as no_value_of, threads as no_threads_of}
+use Rattle.answer_model.specs.Runs.{HasGraph, IsRunRefused, value as no_value_of, threads as no_threads_of}
+use Rattle.run_targets.specs.Runs.{IsDeviceStatus, HasNoThreads, value, threads}
 
 -- the status of a fault of the graph
 pub graph_told : (facts : FactSet) (targets : List Target) (fault : GraphFault) (status : Status) → IsGraphFault facts targets fault → IsAnswered status (fault_status fault) → (status ≡ OutOfMemory) ⊎ IsGraphStatus facts targets status
