@@ -131,10 +131,10 @@ wants "the launcher builds" 9 "two words
 $(pwd)"
 holds "the launcher says so" grep -q 'proving and building' "$room/said"
 
-# What the words alone decide, in a folder that can't be read.
+# What the words alone decide, in a folder with a file that can't be read.
 usage='usage: bitbake [-c TASK] [-f] [-k] [-n] [-e] [-s] [-p] [--no-setscene] [--sample N] [TARGET..]'
 project words
-touch "$(printf 'x\377')"
+mkdir conf && ln -s /proc/self/mem conf/bitbake.conf
 for words in '' '--' '--nope' '--nope hello' '-x' '-h hello' '--help' '--version' '-n' '-k' '-c build' 'hello -c' '-f hello -f' '--force=yes hello' '--sample' '--sample 0' '--sample 1001' '--sample many'; do
     # (words are split on purpose)
     runs "$bitbake" $words
@@ -1121,6 +1121,15 @@ holds "kinds of faults in cases" test "$(comm -12 "$room/kinds-shown" "$room/kin
 cut -f1 "$top/docs/faults.tsv" | LC_ALL=C sort >"$room/told"
 cut -f1 "$top/tests/sentences.tsv" | LC_ALL=C sort >"$room/shown"
 holds "a case for each sentence" test "$(LC_ALL=C comm -3 "$room/told" "$room/shown" | tr '\n' ' ')" = 'Recipes Tasks '
+
+# Real files that aren't as they should be, and a `build/` that is damaged at random, beside canaries.
+for more in "sh $top/tests/files.sh $program" "python3 $top/tests/fuzz_build.py --program $program"; do
+    # (words are split on purpose)
+    $more >"$room/text" 2>&1
+    status=$?
+    grep -v ' passed, ' "$room/text"
+    holds "${more#* "$top/"}" test "$status" -eq 0
+done
 
 # The pages say what is there: the files that have to be believed, with their lines; numbers, crates, files and edits. And the library and
 # application of the cases and of worked rows is the one of the examples.

@@ -129,6 +129,8 @@ fn length_of<R: Files + AllocGlobal>(
 }
 
 impl<R: Files + AllocGlobal + Clone + Drop> FolderLayers<R> {
+    ghost use Rattle.std.specs.Prelude.{◌≡◌};
+
     fn try_list(&mut self, alloc: Global, prefix: &str) -> Result<Texts, WalkFault>
         ensures { self.new.faults ≡ self.old.faults }
     {
