@@ -30,9 +30,18 @@ pub struct FolderLayers<R> {
     rt: R,
     faults: u64,
     first: FirstFault,
-    remarks: Vec<String>,
-    links: Vec<String>,
+    passed: Passed,
     seen: SeenFolders,
+}
+
+/// What is said of what listings passed over.
+#[derive(Drop)]
+struct Passed {
+    /// Of names that aren't UTF-8, and of links in the place of folders that were to be listed.
+    remarks: Vec<String>,
+
+    /// Of links to folders that a listing came by.
+    links: Vec<String>,
 }
 
 impl<R: AllocGlobal> FolderLayers<R> {
@@ -41,15 +50,16 @@ impl<R: AllocGlobal> FolderLayers<R> {
 
     /// The current folder, without a fault so far.
     pub fn new(rt: R) -> Self {
-        let remarks = Vec::new(rt.alloc());
-        let links = Vec::new(rt.alloc());
+        let passed = Passed {
+            remarks: Vec::new(rt.alloc()),
+            links: Vec::new(rt.alloc()),
+        };
         let seen = SeenFolders::none(rt.alloc());
         FolderLayers {
             rt,
             faults: 0,
             first: FirstFault::none(),
-            remarks,
-            links,
+            passed,
             seen,
         }
     }
@@ -62,12 +72,12 @@ impl<R: AllocGlobal> FolderLayers<R> {
     /// What is said of what was passed over: names that aren't UTF-8, and links in the place of folders that were to be listed. At
     /// most twenty of them.
     pub fn remarks(&self) -> &[String] {
-        self.remarks.as_slice()
+        self.passed.remarks.as_slice()
     }
 
     /// What is said of links to folders that a listing came by, at most twenty of them.
     pub fn links(&self) -> &[String] {
-        self.links.as_slice()
+        self.passed.links.as_slice()
     }
 
     /// Counts the fault where a listing failed.
@@ -77,16 +87,17 @@ impl<R: AllocGlobal> FolderLayers<R> {
         done: Result<T, WalkFault>,
     ) -> Result<T, ReadFault>
         ensures cause { Counts self.old.faults self.new.faults (read_failed result) }
+        ensures not_long { IsErrOf result ReadFault.TooLong → ⊥ }
     {
         match done {
             Ok(value) => Ok(value),
-            Err(fault) => match fault.place {
-                Some(place) => {
-                    let shown = place.as_str().strip_prefix("./").unwrap_or(place.as_str());
-                    self.count("listing", shown, Err(fault.error))
+            Err(fault) => {
+                let WalkFault { place, error } = fault;
+                match &place {
+                    Some(place) => self.count("listing", shown(place.as_str()), Err(error)),
+                    None => self.count("listing", prefix, Err(error)),
                 }
-                None => self.count("listing", prefix, Err(fault.error)),
-            },
+            }
         }
     }
 
@@ -113,6 +124,11 @@ impl<R: AllocGlobal> FolderLayers<R> {
     }
 }
 
+/// A path from the current folder, as metadata has it.
+fn shown(place: &str) -> &str {
+    place.strip_prefix("./").unwrap_or(place)
+}
+
 /// The length of the file at a path, or of that to which a link there leads, or `None` where that is nothing.
 fn length_of<R: Files + AllocGlobal>(
     rt: &R,
@@ -128,81 +144,92 @@ fn length_of<R: Files + AllocGlobal>(
     }
 }
 
-impl<R: Files + AllocGlobal + Clone + Drop> FolderLayers<R> {
-    ghost use Rattle.std.specs.Prelude.{◌≡◌};
-
-    fn try_list(&mut self, alloc: Global, prefix: &str) -> Result<Texts, WalkFault>
-        ensures { self.new.faults ≡ self.old.faults }
-    {
-        let part = Part {
-            root: HERE,
-            prefix,
-            hidden: BUILT,
-            opens: false,
-            mends: false,
-            notes: true,
-        };
-        let (items, odd) = walk_noting(&self.rt, &part)?;
-        for path in &odd {
-            let said = format!(in self.rt.alloc();
-                "{}: its name isn't UTF-8, so no pattern names it",
-                path.as_str()
-            )?;
-            keep_once(&mut self.remarks, said)?;
-        }
-        if items.is_empty() {
-            self.look_for_link(prefix)?;
-        }
-        let mut paths = Texts::new(alloc);
-        for item in items {
-            if item.facts.is_file() || self.is_linked_file(item.path.as_str())? {
-                paths.push(item.path)?;
-            }
-        }
-        Ok(paths)
-    }
-
-    /// Whether a link leads to a file. One that leads to a folder is noted.
-    fn is_linked_file(&mut self, path: &str) -> Result<bool, WalkFault>
-        ensures { self.new.faults ≡ self.old.faults }
-    {
-        match look_through(&self.rt, path) {
-            Ok(Some(metadata)) if metadata.is_dir() => {
-                let said = linked(self.rt.alloc(), path)?;
-                keep_once(&mut self.links, said)?;
-                Ok(false)
-            }
-            Ok(Some(metadata)) => Ok(metadata.is_file()),
-            Ok(None) => Ok(false),
-            Err(error) => Err(WalkFault::at(self.rt.alloc(), path, error)),
+/// The paths of the files of the current folder that begin with the prefix.
+fn try_list<R: Files + AllocGlobal + Clone + Drop>(
+    rt: &R,
+    alloc: Global,
+    prefix: &str,
+    passed: &mut Passed,
+) -> Result<Texts, WalkFault> {
+    let part = Part {
+        root: HERE,
+        prefix,
+        hidden: BUILT,
+        opens: false,
+        mends: false,
+        notes: true,
+    };
+    let (items, odd) = walk_noting(rt, &part)?;
+    let link = if items.is_empty() {
+        link_above(rt, prefix)?
+    } else {
+        None
+    };
+    note_passed(rt.alloc(), &mut passed.remarks, &odd, link)?;
+    let mut paths = Texts::new(alloc);
+    for item in items {
+        if item.facts.is_file() || is_linked_file(rt, item.path.as_str(), &mut passed.links)? {
+            paths.push(item.path)?;
         }
     }
+    Ok(paths)
+}
 
-    /// Notes the first link that stands in the place of a folder above all paths with this prefix.
-    fn look_for_link(&mut self, prefix: &str) -> Result<(), WalkFault>
-        ensures { self.new.faults ≡ self.old.faults }
-    {
-        let Some((folders, _)) = prefix.rsplit_once('/') else {
-            return Ok(());
-        };
-        let mut whole = String::new(self.rt.alloc());
-        for part in folders.split('/') {
-            if !whole.is_empty() {
-                whole.push('/')?;
-            }
-            whole.push_str(part)?;
-            match look(&self.rt, whole.as_str()) {
-                Ok(Some(metadata)) if metadata.is_dir() => {}
-                Ok(Some(metadata)) if metadata.is_symlink() => {
-                    let said = linked(self.rt.alloc(), whole.as_str())?;
-                    keep_once(&mut self.remarks, said)?;
-                    return Ok(());
-                }
-                _ => return Ok(()),
-            }
+/// Whether a link leads to a file. One that leads to a folder is noted.
+fn is_linked_file<R: Files + AllocGlobal>(
+    rt: &R,
+    path: &str,
+    links: &mut Vec<String>,
+) -> Result<bool, WalkFault> {
+    match look_through(rt, path) {
+        Ok(Some(metadata)) if metadata.is_dir() => {
+            keep_once(links, linked(rt.alloc(), path)?)?;
+            Ok(false)
         }
-        Ok(())
+        Ok(Some(metadata)) => Ok(metadata.is_file()),
+        Ok(None) => Ok(false),
+        Err(error) => Err(WalkFault::at(rt.alloc(), path, error)),
     }
+}
+
+/// The first link that stands in the place of a folder above all paths with this prefix, if there is one.
+fn link_above<R: Files + AllocGlobal>(rt: &R, prefix: &str) -> Result<Option<String>, WalkFault> {
+    let Some((folders, _)) = prefix.rsplit_once('/') else {
+        return Ok(None);
+    };
+    let mut whole = String::new(rt.alloc());
+    for part in folders.split('/') {
+        if !whole.is_empty() {
+            whole.push('/')?;
+        }
+        whole.push_str(part)?;
+        match look(rt, whole.as_str()) {
+            Ok(Some(metadata)) if metadata.is_dir() => {}
+            Ok(Some(metadata)) if metadata.is_symlink() => return Ok(Some(whole)),
+            _ => return Ok(None),
+        }
+    }
+    Ok(None)
+}
+
+/// Keeps what is said of names that aren't UTF-8, and of a link in the place of a folder, where there is one.
+fn note_passed(
+    alloc: Global,
+    remarks: &mut Vec<String>,
+    odd: &[String],
+    link: Option<String>,
+) -> Result<(), AllocError> {
+    for path in odd {
+        let said = format!(in alloc;
+            "{}: its name isn't UTF-8, so no pattern names it",
+            path.as_str()
+        )?;
+        keep_once(remarks, said)?;
+    }
+    if let Some(link) = link {
+        keep_once(remarks, linked(alloc, link.as_str())?)?;
+    }
+    Ok(())
 }
 
 /// What is said of a link in the place of a folder.
@@ -241,7 +268,7 @@ impl<R: Files + AllocGlobal + Clone + Drop> Layers for FolderLayers<R> {
     }
 
     fn list(&mut self, alloc: Global, prefix: &str) -> Result<Texts, ReadFault> {
-        let paths = self.try_list(alloc, prefix);
+        let paths = try_list(&self.rt, alloc, prefix, &mut self.passed);
         self.count_listing(prefix, paths)
     }
 }
