@@ -240,8 +240,8 @@ def kit(closure):
 
 
 def code_lines(crate):
-    """How many lines of code a crate has, without comments and empty lines."""
-    return sum(full(re.sub(r"//.*", "", read(it))) for it in glob.glob(f"crates/{crate}/src/**/*.rt", recursive=True))
+    """How many hundreds of lines of code a crate has, without comments and empty lines."""
+    return 100 * round(sum(full(re.sub(r"//.*", "", read(it))) for it in glob.glob(f"crates/{crate}/src/**/*.rt", recursive=True)) / 100)
 
 
 def between(page, name, text):
