@@ -1077,7 +1077,7 @@ more=$(sed -n '$s/^\([0-9]*\) passed, \([0-9]*\) failed$/\1 \2/p' "$room/readme"
 holds "the README is typed" test -n "$more"
 passed=$((passed + ${more% *}))
 failed=$((failed + ${more#* }))
-holds "the cases of the chapter are what it shows" python3 "$top/tests/chapter.py" --check
+holds "the cases of the chapter are what it shows" python3 "$top/tools/chapter.py" --check
 
 # What scripts leave behind and where they stand, with sandboxes and without; real files of all kinds; a damaged folder build.
 for words in "scripts.sh $program" "scripts.sh $program --plain"; do
@@ -1113,7 +1113,7 @@ done
 
 # The table of faults is the one in the documents and in the program, and has each kind that a case shows. A case shows each of its
 # sentences, but those of two limits, which are shown above.
-holds "the tables of faults and statuses" python3 "$top/bench/fault_tables.py" --check
+holds "the tables of faults and statuses" python3 "$top/tools/fault_tables.py" --check
 grep -rhoE '^\|fault (3|10) ([^ ]*:[0-9]+: |[^ ]+: )?[A-Z][A-Za-z0-9]*' "$top/crates/cases/data" | sed 's/.* //' | sort -u >"$room/kinds-shown"
 cut -f1 "$top/docs/faults.tsv" | sed 's/, .*//' | sort -u >"$room/kinds-told"
 holds "each kind of fault in the table" test -z "$(comm -23 "$room/kinds-shown" "$room/kinds-told")"
@@ -1133,8 +1133,8 @@ done
 
 # The pages say what is there: the files that have to be believed, with their lines; numbers, crates, files and edits. And the library and
 # application of the cases and of worked rows is the one of the examples.
-holds "the files that have to be believed" python3 "$top/bench/reading_lines.py" --check
-holds "the pages and the tree" python3 "$top/tests/pages.py" --check
+holds "the files that have to be believed" python3 "$top/tools/reading_lines.py" --check
+holds "the pages and the tree" python3 "$top/tools/pages.py" --check
 holds "one library and application" python3 "$top/tests/copies.py"
 
 echo "$passed passed, $failed failed"

@@ -1,4 +1,4 @@
-// What is said of each kind of fault. Made by bench/fault_tables.py from docs/faults.tsv: change that, and run this.
+// What is said of each kind of fault. Made by tools/fault_tables.py from docs/faults.tsv: change that, and run this.
 
 /// What is said of faults of one kind.
 pub struct Sentence {

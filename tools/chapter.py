@@ -66,7 +66,7 @@ def cases():
             else:
                 sofar += f"\nfile {path}\n{content(found['block'])}"
             made[title] = sofar
-    heads = "{} of a layer of one's own, as docs/METADATA.md shows it.\n# Made by tests/chapter.py.\n"
+    heads = "{} of a layer of one's own, as docs/METADATA.md shows it.\n# Made by tools/chapter.py.\n"
     return {title.lower().replace(" ", "_"): heads.format(title) + text for title, text in made.items()}
 
 
@@ -86,7 +86,7 @@ def main():
     more = sorted(set(os.listdir(DATA)) - {f"{name}.case" for name in made})
     if "--check" in sys.argv:
         for file in [file for file, _ in old] + more:
-            print(f"{file} isn't what docs/METADATA.md shows: run tests/chapter.py")
+            print(f"{file} isn't what docs/METADATA.md shows: run tools/chapter.py")
         return 1 if old or more else 0
     for file, text in old:
         with open(file, "w", encoding="utf-8") as out:

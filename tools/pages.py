@@ -2,7 +2,7 @@
 """Compares the pages with the tree: numbers that were counted, crates and their order, files that they name, and edits; and looks at
 the cells of docs/PROOFS.md.
 
-Usage: tests/pages.py [--check]
+Usage: tools/pages.py [--check]
 Each number of NUMBERS stands once in its page, where its text says, and is written there; with --check nothing is written. The status is 1 where
 a number isn't right, a crate or a folder of edits is in no page, a page names a file that isn't there, a table has the crates in another
 order than crates.txt, a crate doesn't name a library that is listed for it, a crate of code has a file of definitions that has to be
@@ -61,7 +61,7 @@ def numbers():
         if len(found) != 1:
             wrong.append(f"{file}: {len(found)} places fit {place}")
         elif found[0][1] != str(number) and "--check" in sys.argv:
-            wrong.append(f"{file}: {found[0][0]!r}, and it is {number}: run tests/pages.py")
+            wrong.append(f"{file}: {found[0][0]!r}, and it is {number}: run tools/pages.py")
         elif found[0][1] != str(number):
             with open(file, "w", encoding="utf-8") as out:
                 out.write(text[: found[0].start(1)] + str(number) + text[found[0].end(1) :])
@@ -97,7 +97,7 @@ def files():
     for page in PAGES:
         for path in re.findall(r"`((?:\.\./)*\.?[A-Za-z_]+/[\w./*-]*)`", read(page)):
             head = path.split("/")[0]
-            top = "" if head in ("crates", "docs", "tests", "bench", "bin", "examples", ".ci") else "crates/" if head in CRATES else None
+            top = "" if head in ("crates", "docs", "tests", "bench", "bin", "examples", "tools", ".ci") else "crates/" if head in CRATES else None
             if top is not None and "NAME" not in path and not glob.glob(top + path):
                 # (what a build makes, folders of a project, and edits by their crate)
                 edit = f"{path[len(head) + 1:]}.edit"

@@ -16,12 +16,12 @@ import re
 import sys
 
 os.chdir(os.path.dirname(os.path.dirname(os.path.realpath(__file__))))
-FROM, TO = "made by bench/fault_tables.py", "until here"
-STATUSES = "statuses, made by bench/fault_tables.py"
+FROM, TO = "made by tools/fault_tables.py", "until here"
+STATUSES = "statuses, made by tools/fault_tables.py"
 MARK = re.compile(r"<([^<>]+)>")
 
 PROGRAM_HEAD = """\
-// What is said of each kind of fault. Made by bench/fault_tables.py from docs/faults.tsv: change that, and run this.
+// What is said of each kind of fault. Made by tools/fault_tables.py from docs/faults.tsv: change that, and run this.
 
 /// What is said of faults of one kind.
 pub struct Sentence {
@@ -169,7 +169,7 @@ def main():
     old = [file for file, text in made.items() if text != held(file)]
     if "--check" in sys.argv:
         for file in old:
-            print(f"{file} isn't what docs/faults.tsv and docs/statuses.tsv say: run bench/fault_tables.py")
+            print(f"{file} isn't what docs/faults.tsv and docs/statuses.tsv say: run tools/fault_tables.py")
         return 1 if old else 0
     for file in old:
         with open(file, "w", encoding="utf-8") as out:

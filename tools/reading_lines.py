@@ -1,7 +1,7 @@
 #!/usr/bin/env python3
 """Counts the lines of docs/READING.md, and compares its tables with what the promises stand on.
 
-Usage: bench/reading_lines.py [--check]
+Usage: tools/reading_lines.py [--check]
 The promises stand on what the contracts of ROOTS say: so each definition of `specs/` that they name, each that such a definition names,
 and so on, and the fields of each type on the way. A name counts wherever it stands in a clause or in a definition, so this finds rather
 too much than too little. Lines are those of the definitions that count, without comments and empty lines; where less than half of a file's
@@ -246,7 +246,7 @@ def code_lines(crate):
 
 def between(page, name, text):
     """The page with a text between the marks of this name."""
-    begin, end = f"<!-- {name}, made by bench/reading_lines.py -->\n", "\n<!-- until here -->"
+    begin, end = f"<!-- {name}, made by tools/reading_lines.py -->\n", "\n<!-- until here -->"
     front, _, rest = page.partition(begin)
     return f"{front}{begin}{text}{end}{rest.partition(end)[2]}" if rest else page
 
@@ -295,7 +295,7 @@ def main():
         text = between(text, "of the kit", kit(closure))
     if "--check" in sys.argv:
         if text != page:
-            print(f"{PAGE} isn't up to date: run bench/reading_lines.py")
+            print(f"{PAGE} isn't up to date: run tools/reading_lines.py")
         return 1 if text != page else 0
     if text != page:
         with open(PAGE, "w", encoding="utf-8") as out:
