@@ -1,0 +1,100 @@
+# Tasks that fail, and their logs. A part of tests/program.sh, which has the functions.
+
+project fails
+recipe hello 'exit 3'
+runs "$bitbake" hello
+wants "a body that fails" 1 "$plan
+failed hello:do_build status 3
+fault 1 failed: hello:do_build"
+says "its log is empty" <<'END'
+bitbake: hello:do_build failed with status 3; its log is build/bench/log/hello/do_build, which is empty
+END
+holds "its log is kept" test -f build/bench/log/hello/do_build -a ! -s build/bench/log/hello/do_build
+
+# Of a long log the last 20 lines are shown, byte for byte, and all of it is kept.
+recipe hello 'seq 1 200000; printf "the \\377 end" >&2; exit 4'
+runs "$bitbake" hello
+wants "a body that talks and fails" 1 "$plan
+failed hello:do_build status 4
+fault 1 failed: hello:do_build"
+{
+    echo 'bitbake: hello:do_build failed with status 4; its log is build/bench/log/hello/do_build, which ends with'
+    seq 199982 200000 | sed 's/^/| /'
+    printf '| the \377 end\n'
+} >"$room/end"
+says "the end of its log" <"$room/end"
+holds "all of its log" test "$(wc -l <build/bench/log/hello/do_build)" -eq 200000
+
+# Where something stands in a log's place, the log stays where the bench keeps it, and the run's status stays.
+rm -r build/bench/log && echo file >build/bench/log
+recipe hello 'echo first; exit 5'
+runs "$bitbake" hello
+wants "a log that has no place" 1 "$plan
+failed hello:do_build status 5
+fault 1 failed: hello:do_build"
+kept=$(echo build/bench/failed/*/0)
+says "the log where it is" <<END
+bitbake: hello:do_build failed with status 5; its log is $kept, which ends with
+| first
+END
+holds "it says that the log has no place" grep -q "^bitbake: log: move of $kept: " "$room/said"
+rm build/bench/log
+recipe hello 'rm ../log; exit 6'
+runs "$bitbake" hello
+wants "a body that takes its log away" 1 "$plan
+failed hello:do_build status 6
+fault 1 failed: hello:do_build"
+holds "it says that no log is kept" grep -q "^bitbake: hello:do_build failed with status 6; its log can't be kept: " "$room/said"
+
+# A log goes where its task is started again, and stays where it isn't.
+recipe hello 'echo kept; exit 7'
+recipe other 'echo other > other.txt'
+runs "$bitbake" hello
+wants "a body that fails again" 1 "$plan
+failed hello:do_build status 7
+fault 1 failed: hello:do_build"
+runs "$bitbake" other
+wants "a body of another recipe" 0 "plan 1 tasks, 4 threads
+started other:do_build
+ended other:do_build
+ok 0 found, 0 restored, 1 started"
+holds "the log stays" test "$(cat build/bench/log/hello/do_build)" = kept
+holds "nothing is said of it" test ! -s "$room/said"
+recipe hello 'echo hello > hello.txt'
+runs "$bitbake" hello
+wants "a body that is mended" 0 "$done_text"
+holds "the log is gone" test ! -e build/bench/log/hello
+
+# Behind a failed task other tasks run with -k. One log doesn't overwrite another.
+recipe hello 'echo one; exit 3'
+recipe other 'echo two >&2; exit 4'
+printf 'do_build() {\n    echo more > more.txt\n}\naddtask build\n' >recipes/more.bb
+one_worker
+runs "$bitbake" -k hello more other
+wants "two tasks that fail" 1 "plan 3 tasks, 1 threads
+started hello:do_build
+failed hello:do_build status 3
+started more:do_build
+ended more:do_build
+started other:do_build
+failed other:do_build status 4
+fault 1 failed: hello:do_build, other:do_build"
+says "the ends of both logs" <<'END'
+bitbake: hello:do_build failed with status 3; its log is build/bench/log/hello/do_build, which ends with
+| one
+bitbake: other:do_build failed with status 4; its log is build/bench/log/other/do_build, which ends with
+| two
+END
+holds "the log of the one" test "$(cat build/bench/log/hello/do_build)" = one
+holds "the log of the other" test "$(cat build/bench/log/other/do_build)" = two
+holds "no other log" test "$(find build/bench/log build/bench/failed -type f | wc -l)" -eq 2
+
+project kills
+recipe hello 'kill -9 $$'
+runs "$bitbake" hello
+wants "a body that kills itself" 1 "$plan
+failed hello:do_build status 137
+fault 1 failed: hello:do_build"
+says "its status" <<'END'
+bitbake: hello:do_build failed with status 137; its log is build/bench/log/hello/do_build, which is empty
+END
