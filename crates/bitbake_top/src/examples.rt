@@ -5,9 +5,11 @@ ghost use Rattle.answer_model.specs.declared.asked.ReadMode.TheVariants.{Parse, 
 ghost use Rattle.answer_model.specs.declared.asked.Asked.TheVariants.{Runs, Reads, Plans, Sample};
 ghost use Rattle.answer_model.specs.Asked.{asked_of};
 ghost use Rattle.run_model.specs.Headline.{MayBegin, nothing};
-ghost use Rattle.bitbake_top.specs.Worked.{no_plan, stray};
+ghost use Rattle.build_resume.specs.Worked.{hello_book, hello_plan};
+ghost use Rattle.bitbake_top.specs.Worked.{chain_plan, hello_left, no_plan, stray};
 ghost use Rattle.run_workers.specs.Nothing.{nothing_given};
-ghost use Rattle.store_model.specs.Hello.{hello_reading};
+ghost use Rattle.meta_model.specs.Worked.{shell};
+ghost use Rattle.store_model.specs.Hello.{chain_reading, hello_reading};
 
 /// Runs, and what a mode prints.
 #[tactic(auto, unfolding(answer_model::specs::Asked::asked_of, answer_model::specs::Command::command, clap::proofs::OnLiterals::clap_on_literals))]
@@ -116,9 +118,15 @@ pub fn example_of_misread_words()
     ensures task_without_a_value { asked_of (codes "hello" ∷ codes "-c" ∷ []) ≡ Err Usage }
 {}
 
-/// Where a run of a plan without tasks may begin.
+/// Where a run may begin: of a plan without tasks, of a plan of one task, and of two tasks of which one needs the other.
 pub fn example_of_beginning()
     ensures empty { MayBegin nothing_given hello_reading [] nothing no_plan }
     // a file stands among the records that is none
     ensures stray { MayBegin nothing_given hello_reading [] stray no_plan → ⊥ }
+    // one task on an empty disk
+    ensures hello { MayBegin shell hello_reading [] nothing hello_plan }
+    // the same plan on what that run left, with the book of its one line
+    ensures again { MayBegin shell hello_reading hello_book hello_left hello_plan }
+    // two tasks on an empty disk
+    ensures chain { MayBegin shell chain_reading [] nothing chain_plan }
 {}

@@ -11,6 +11,7 @@ use Rattle.store_model.specs.Premises as of
 use Rattle.store_model.proofs.Hello.{nothing_stands}
 use Rattle.store_model.proofs.Lasting.{empty_is_valid}
 use Rattle.run_model.specs.Headline.{nothing}
+use Rattle.bitbake_top.proofs.Beginning.{chain_begins, hello_begins, hello_begins_again}
 use Rattle.bitbake_top.proofs.Kept.{begins_first}
 use Rattle.bitbake_top.specs.Worked.{no_plan}
 use Rattle.bitbake_top.proofs.examples.example_of_beginning.Goals as goal
@@ -37,3 +38,12 @@ returns-clause-empty c = begins_first nothing_given hello_reading no_plan (recor
 
 pub returns-clause-stray : goal.returns-clause-stray
 returns-clause-stray c may = let n : Some (File false []) ≡ None = may.valid.records (codes "x") in cc
+
+pub returns-clause-hello : goal.returns-clause-hello
+returns-clause-hello c = hello_begins
+
+pub returns-clause-again : goal.returns-clause-again
+returns-clause-again c = hello_begins_again
+
+pub returns-clause-chain : goal.returns-clause-chain
+returns-clause-chain c = chain_begins
