@@ -1,5 +1,5 @@
 -- Which plan a run has, why others aren't begun, and what a run writes.
-use Rattle.std.specs.Prelude.{◌≡◌, ◌⊎◌, ℕ, true, List, [], ◌∷◌, ◌++◌, Option, Contains}
+use Rattle.std.specs.Prelude.{◌≡◌, ◌⊎◌, ℕ, Bool, true, false, List, [], ◌∷◌, ◌++◌, Option, Contains}
 use Rattle.outside_traits.specs.Bench.{Gives}
 use Rattle.meta_model.specs.declared.event.Logged.{Logged}
 use Rattle.meta_model.specs.declared.event.Status.{Status}
@@ -47,6 +47,14 @@ pub record IsBegun (options : Options) (plans : List Plan) (tales : List (List L
 -- memory, or the plan's text failed; or one was begun.
 abbrev pub Concludes : Options → List Plan → List (List Logged) → Status → Type 0
 Concludes options plans tales s = ((tales ≡ []) × ((is_refusal s ≡ true) ⊎ (s ≡ status.WriteFault))) ⊎ IsBegun options plans tales s
+
+-- whether the status is one of a run that was begun: not that words or metadata are refused, that a limit was passed, or that the layers failed
+abbrev pub is_run_status : Status → Bool
+is_run_status status.Usage = false
+is_run_status (status.Metadata file line kind detail) = false
+is_run_status (status.Limit kind) = false
+is_run_status status.ReadFault = false
+is_run_status _ = true
 
 -- The status isn't one that may come although no device failed and the clean build succeeds: want of memory, or two signatures with one
 -- digest.

@@ -18,7 +18,7 @@ use Rattle.build_resume.specs.Build.{is_collision}
 use Rattle.answer_model.specs.Devices.{IsUnchanged}
 use Rattle.answer_model.specs.declared.asked.RunRequest.{RunRequest}
 use Rattle.bitbake_top.specs.Answers.{is_words_refusal}
-use Rattle.answer_model.specs.Run.{Files, HasBuild, HasCause, IsCertain, IsRunPlan, IsUnrun}
+use Rattle.answer_model.specs.Run.{Files, HasBuild, HasCause, IsCertain, IsRunPlan, IsUnrun, is_run_status}
 use Rattle.bitbake_top.proofs.Devices.{unchanged_rose}
 use Rattle.bitbake_top.proofs.Refusals.{plan_refused_is_built}
 
@@ -162,6 +162,14 @@ run_is_built disk bench sink s cause e = subst (λ (x : Status). MayEndSo disk b
 
 pub run_is_read : (disk : ℕ) (bench sink : Type 0) (s : Status) → MayEndSo disk bench sink s → s ≡ status.Usage → ⊥
 run_is_read disk bench sink s cause e = subst (λ (x : Status). MayEndSo disk bench sink x) e cause
+
+-- a run that was begun isn't refused any more
+pub run_goes_on : (disk : ℕ) (bench sink : Type 0) (s : Status) → MayEndSo disk bench sink s → is_run_status s ≡ true
+run_goes_on disk bench sink status.Usage cause = absurd cause
+run_goes_on disk bench sink (status.Metadata file line kind detail) cause = absurd cause
+run_goes_on disk bench sink status.ReadFault cause = absurd cause
+run_goes_on disk bench sink (status.Limit kind) cause = absurd cause
+run_goes_on disk bench sink s cause = refl
 
 -- of none all have it
 pub all_of_none : (P : Plan → Type 0) (plans : List Plan) → plans ≡ [] → All P plans

@@ -15,7 +15,7 @@ ghost use Rattle.run_model.specs.Benches.{AtSeats, BreaksByFault, SomeRose};
 ghost use Rattle.run_model.specs.Build.{TellsDifference};
 ghost use Rattle.answer_model.specs.Devices.{AreUnchanged, IsUnchanged};
 ghost use Rattle.run_model.specs.Headline.{Keeps, MayBegin};
-ghost use Rattle.answer_model.specs.Run.{Concludes, HasBuild, HasCause, IsCertain, IsRunPlan, IsUnrun, RanPrintedCall, WritesCall};
+ghost use Rattle.answer_model.specs.Run.{Concludes, HasBuild, HasCause, IsCertain, IsRunPlan, IsUnrun, RanPrintedCall, WritesCall, is_run_status};
 
 use crate::answer::refuse;
 use crate::finish::Finish;
@@ -89,6 +89,7 @@ where
         → All (IsRunPlan (L.files layers) paths request.now) result.plans.items }
     ensures found { is_refusal result.status ≡ false → (plan : Whole) × (result.plans.items ≡ plan ∷ []) }
     ensures concludes { Concludes request.now.options result.plans.items result.tales.items result.status }
+    ensures begun { result.tales.items ≢ [] → is_run_status result.status ≡ true }
     ensures text { W.tells → WritesCall (Rose (W.faults sink) (W.faults result.sink)) (W.written sink)
         (W.written result.sink) result.plans.items result.tales.items result.status }
     ensures printed { W.tells → B.tells → RanPrintedCall result.plans.items result.tales.items

@@ -22,7 +22,7 @@ ghost use Rattle.answer_model.specs.declared.asked.DryRequest.{DryRequest};
 ghost use Rattle.answer_model.specs.declared.asked.RunRequest.{RunRequest as Request};
 ghost use Rattle.answer_model.specs.Asked.{AskDry, AskNoRun, AskReading, AskRun, AskSample, asked_of as asked_by};
 ghost use Rattle.answer_model.specs.Sample.{SaysSample};
-ghost use Rattle.answer_model.specs.Run.{Concludes, HasBuild, HasCause, IsCertain, IsRunPlan, IsUnrun, RanPrintedCall, WritesCall};
+ghost use Rattle.answer_model.specs.Run.{Concludes, HasBuild, HasCause, IsCertain, IsRunPlan, IsUnrun, RanPrintedCall, WritesCall, is_run_status};
 
 use crate::answer::{read, refuse};
 use crate::asked::asked_of;
@@ -105,6 +105,11 @@ where
         → (plan : Plan) × (result.plans.items ≡ plan ∷ []) }
     ensures concludes { (request : Request) → AskRun words.now request
         → Concludes request.options result.plans.items result.tales.items result.status }
+
+    // A run that was begun isn't refused any more: where there is a tale, the status isn't that words or metadata are refused, that a limit was
+    // passed, or that the layers failed.
+    ensures begun { (request : Request) → AskRun words.now request
+        → result.tales.items ≢ [] → is_run_status result.status ≡ true }
 
     // What a run wrote is the text of the plan, the tale and the status, or where the sink failed a front of such a text.
     ensures text { (request : Request) → AskRun words.now request → W.tells

@@ -3,7 +3,7 @@ use Rattle.meta_model.specs.declared.plan.Plan.{Plan}
 use Rattle.run_model.specs.Build.{AllClean, TellsDifference}
 use Rattle.run_plan.proofs.OnePlan.{plan_of_words_is_wanted}
 use Rattle.answer_model.specs.Run.{IsRunPlan}
-use Rattle.bitbake_top.proofs.Begun.{all_of_none, all_of_one, found_one, one_plan, refused_cause, refused_found, refused_not_ok, refused_steady, run_cause, run_is_built, run_is_read, unrun_fails, unrun_is_built, unrun_of_run, unrun_told}
+use Rattle.bitbake_top.proofs.Begun.{all_of_none, all_of_one, found_one, one_plan, refused_cause, refused_found, refused_not_ok, refused_steady, run_cause, run_goes_on, run_is_built, run_is_read, unrun_fails, unrun_is_built, unrun_of_run, unrun_told}
 use Rattle.bitbake_top.proofs.Devices.{unchanged_rose}
 use Rattle.bitbake_top.proofs.Kept.{at_plan, unbegun_broke, unbegun_keeps}
 use Rattle.bitbake_top.proofs.Written.{unbegun_text}
@@ -39,6 +39,12 @@ returns-in-Ok-clause-unrun g c none write l paths lists = unrun_of_run (g.L.Laye
 
 pub returns-in-Ok-clause-built : goal.returns-in-Ok-clause-built
 returns-in-Ok-clause-built g c e l paths lists = run_is_built _ _ _ c.run_whole-status.result.status c.run_whole-status.ensures.causes e
+
+pub returns-in-Ok-clause-begun : goal.returns-in-Ok-clause-begun
+returns-in-Ok-clause-begun g c tale = run_goes_on _ _ _ c.run_whole-status.result.status c.run_whole-status.ensures.causes
+
+pub returns-in-Err-clause-begun : goal.returns-in-Err-clause-begun
+returns-in-Err-clause-begun g c tale = absurd (tale c.new-in-Err.ensures.items)
 
 pub returns-in-Ok-clause-no_usage : goal.returns-in-Ok-clause-no_usage
 returns-in-Ok-clause-no_usage g c e = run_is_read _ _ _ c.run_whole-status.result.status c.run_whole-status.ensures.causes e
