@@ -186,6 +186,10 @@ where
     ensures sample_alone { (size : ℕ) → AskSample words.now size
         → (result.disk ≡ disk) × (result.benches.items ≡ benches.items) × (result.layers ≡ layers) }
 
+    // No device of the sample's own fails: of the faults of devices it answers only that of the sink which was handed in, where that failed.
+    ensures sample_cause { (size : ℕ) → AskSample words.now size
+        → HasCause ⊥ 0 ⊥ (Rose (W.faults sink) (W.faults result.sink)) result.status }
+
     // Words that are refused: the status is the refusal's, or says that memory was wanting. `Usage` has no other cause.
     ensures refused { IsErr (asked_by words.now) → IsRefusal (asked_by words.now) result.status }
     ensures usage { result.status ≡ Status.Usage → asked_by words.now ≡ Err Status.Usage }
