@@ -6,6 +6,7 @@ use Rattle.meta_model.specs.declared.event.Status.{Status}
 use Rattle.meta_model.specs.declared.event.Status.TheVariants as status
 use Rattle.meta_model.specs.declared.plan.Options.{Options}
 use Rattle.meta_model.specs.declared.plan.Plan.{Plan}
+use Rattle.run_model.specs.Ends.{is_plain}
 use Rattle.run_model.specs.Report.{report}
 use Rattle.run_model.specs.Texts.{fault_text, plan_text}
 use Rattle.run_model.specs.Written.{WritesFront}
@@ -71,12 +72,12 @@ HasCause layers disk bench sink (status.Metadata file line kind detail) = Unit {
 HasCause layers disk bench sink (status.Limit kind) = Unit {0}
 HasCause layers disk bench sink s = MayEndSo disk bench sink s
 
--- The text of a call was written behind the base: that of its plan, its tale and its status; or where the sink failed, a front of such a
--- text, of some status. Without a tale it is the text of the refusal, or where the sink failed a front of that or of the plan's text.
+-- The text of a call was written behind the base: that of its plan, its tale and its status, whole; or where the sink failed and the status is
+-- neither Ok nor TaskFailed, a front of such a text, of some status. Without a tale it is the text of the refusal, or where the sink failed a front of that or of the plan's text.
 abbrev pub WritesCall : Type 0 → List ℕ → List ℕ → List Plan → List (List Logged) → Status → Type 0
 WritesCall failed base now plans [] s = (now ≡ base ++ fault_text s) ⊎ (failed × (WritesFront base now (fault_text s) ⊎ ((plan : Plan) × Contains plans plan × WritesFront base now (plan_text plan))))
 WritesCall failed base now [] (tale ∷ more) s = ⊥
-WritesCall failed base now (plan ∷ plans) (tale ∷ more) s = (now ≡ base ++ report plan tale s) ⊎ (failed × ((met : Status) × WritesFront base now (report plan tale met)))
+WritesCall failed base now (plan ∷ plans) (tale ∷ more) s = (now ≡ base ++ report plan tale s) ⊎ (failed × (is_plain s ≡ false) × ((met : Status) × WritesFront base now (report plan tale met)))
 
 -- What ran had been printed: without a tale no bench ran anything; else each ran the scripts of just those tasks that its seat starts in a
 -- front of the tale, whose lines stand whole behind the text of the plan.

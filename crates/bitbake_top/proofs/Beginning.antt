@@ -165,13 +165,16 @@ name_is_hash = digest_is_hash (signature_bytes hello_signed.sig)
 n_clean : IsClean (codes "n")
 n_clean = record {
   short = omega arith;
-  parts = all_of IsPart (parts_of (codes "n")) (record {
-    not_empty = omega arith;
-    short = omega arith;
-    not_here = λ e. let same : ◌≡◌ {A = ℕ} 110 46 = ap (λ l. slice_index l 0) e in absurd (omega (arith, same));
-    not_above = λ e. let same : ◌≡◌ {A = ℕ} 110 46 = ap (λ l. slice_index l 0) e in absurd (omega (arith, same));
-    no_zero = λ among. let not : ◌≡◌ {A = ℕ} 110 0 = only_byte among in absurd (omega (arith, not));
-  }, tt);
+  parts = all_of IsPart (parts_of (codes "n")) (
+    record {
+      not_empty = omega arith;
+      short = omega arith;
+      not_here = λ e. let same : ◌≡◌ {A = ℕ} 110 46 = ap (λ l. slice_index l 0) e in absurd (omega (arith, same));
+      not_above = λ e. let same : ◌≡◌ {A = ℕ} 110 46 = ap (λ l. slice_index l 0) e in absurd (omega (arith, same));
+      no_zero = λ among. let not : ◌≡◌ {A = ℕ} 110 0 = only_byte among in absurd (omega (arith, not));
+    },
+    tt,
+  );
 }
   where
     only_byte : Contains (codes "n") 0 → ◌≡◌ {A = ℕ} 110 0
@@ -190,14 +193,20 @@ line_readable = record {
       sig = record {
         pn = text_is (codes "hello") (lit< tt) refl;
         task = text_is (codes "do_build") (lit< tt) refl;
-        lines = (lit< tt, (record {
-          name = text_is (codes "do_build") (lit< tt) refl;
-          value = record {
-            text = text_is (codes "    echo hello > hello.txt" ++ (10 ∷ [])) (lit< tt) refl;
-            removes = (lit< tt, tt);
-            flags = (lit< tt, ((text_is (codes "func") (lit< tt) refl, text_is (codes "1") (lit< tt) refl), tt));
-          };
-        }, tt));
+        lines = (
+          lit< tt,
+          (
+            record {
+              name = text_is (codes "do_build") (lit< tt) refl;
+              value = record {
+                text = text_is (codes "    echo hello > hello.txt" ++ (10 ∷ [])) (lit< tt) refl;
+                removes = (lit< tt, tt);
+                flags = (lit< tt, ((text_is (codes "func") (lit< tt) refl, text_is (codes "1") (lit< tt) refl), tt));
+              };
+            },
+            tt,
+          ),
+        );
         files = (lit< tt, tt);
         deps = (lit< tt, tt);
         spelled = record { lines = (tt, tt); files = tt; deps = tt; excluded = refl };

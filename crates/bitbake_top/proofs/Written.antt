@@ -4,6 +4,7 @@ use Rattle.outside_traits.specs.Fault.{Rose}
 use Rattle.meta_model.specs.declared.event.Logged.{Logged}
 use Rattle.meta_model.specs.declared.event.Status.{Status}
 use Rattle.meta_model.specs.declared.plan.Plan.{Plan}
+use Rattle.run_model.specs.Ends.{is_plain}
 use Rattle.run_model.specs.Report.{report, run_text}
 use Rattle.run_model.specs.Texts.{fault_text, plan_text}
 use Rattle.run_model.specs.Written.{WritesFront}
@@ -24,10 +25,10 @@ front_behind old mid new first second whole w = record {
 }
 
 report_behind : (base mid now : List ℕ) (before from after : ℕ) (plan : Plan) (tale : List Logged) (s : Status) → before ≤ from → mid ≡ base ++ plan_text plan
-    → WritesReport (Rose from after) mid now plan tale s → (now ≡ base ++ report plan tale s) ⊎ (Rose before after × ((met : Status) × WritesFront base now (report plan tale met)))
+    → WritesReport (Rose from after) mid now plan tale s → (now ≡ base ++ report plan tale s) ⊎ (Rose before after × (is_plain s ≡ false) × ((met : Status) × WritesFront base now (report plan tale met)))
 report_behind base mid now before from after plan tale s lt said (inl whole) = inl (whole ∙ ap (λ (l : List ℕ). l ++ run_text plan tale s) said ∙ append_assoc base (plan_text plan) (run_text plan tale s))
 report_behind base mid now before from after plan tale s lt said (inr failed) =
-    inr (rose_from before from after lt failed.0, (failed.1.0, front_behind base mid now (plan_text plan) (run_text plan tale failed.1.0) said failed.1.1))
+    inr (rose_from before from after lt failed.0, failed.1, (failed.2.0, front_behind base mid now (plan_text plan) (run_text plan tale failed.2.0) said failed.2.1))
 
 -- the text of a run stands behind the text of its plan
 pub begun_text : (base mid now : List ℕ) (before from after : ℕ) (plan : Plan) (plans : List Plan) (tale : List Logged) (tales : List (List Logged)) (s : Status) → plans ≡ plan ∷ [] → tales ≡ tale ∷ []

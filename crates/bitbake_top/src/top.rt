@@ -111,7 +111,8 @@ where
     ensures begun { (request : Request) → AskRun words.now request
         → result.tales.items ≢ [] → is_run_status result.status ≡ true }
 
-    // What a run wrote is the text of the plan, the tale and the status, or where the sink failed a front of such a text.
+    // What a run wrote is the text of the plan, the tale and the status, whole under Ok and where a task failed; under another status it may be a
+    // front of such a text, where the sink failed.
     ensures text { (request : Request) → AskRun words.now request → W.tells
         → WritesCall (Rose (W.faults sink) (W.faults result.sink)) (W.written sink) (W.written result.sink)
         result.plans.items result.tales.items result.status }

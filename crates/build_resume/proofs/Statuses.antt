@@ -41,7 +41,7 @@ pub wrote_want : {T : Type 0} (r : Result T SinkFault) (tells : Type 0) (old new
 wrote_want (Ok x) tells old new before now plan tale base ok err counts told is =
     inl (ok told ∙ ap (λ (l : List ℕ). l ++ last_line plan tale status.OutOfMemory) is ∙ append_assoc base (tale_text plan.tasks tale) (last_line plan tale status.OutOfMemory))
 wrote_want (Err e) tells old new before now plan tale base ok err counts told is =
-    inr (counts.rose, (status.OutOfMemory, front_then base old new (tale_text plan.tasks tale) (last_line plan tale status.OutOfMemory) is (err told)))
+    inr (counts.rose, refl, (status.OutOfMemory, front_then base old new (tale_text plan.tasks tale) (last_line plan tale status.OutOfMemory) is (err told)))
 
 -- a status whose line couldn't be written
 pub ends_unwritten : (sink : Type 0) (cause s : Status) → (is_plain cause ≡ true → s ≡ status.WriteFault) → (is_plain cause ≡ false → s ≡ cause) → sink → EndsBy sink cause s
@@ -50,6 +50,14 @@ ends_unwritten sink cause s plain other failed = by (is_plain cause) refl
     by : (b : Bool) → is_plain cause ≡ b → EndsBy sink cause s
     by true is = inr (inr (plain is, is, failed))
     by false is = inl (other is)
+
+-- such a status is neither Ok nor TaskFailed
+pub unwritten_apart : (cause s : Status) → (is_plain cause ≡ true → s ≡ status.WriteFault) → (is_plain cause ≡ false → s ≡ cause) → is_plain s ≡ false
+unwritten_apart cause s plain other = by (is_plain cause) refl
+  where
+    by : (b : Bool) → is_plain cause ≡ b → is_plain s ≡ false
+    by true is = ap is_plain (plain is)
+    by false is = ap is_plain (other is) ∙ is
 
 -- ---- no Unsteady
 

@@ -15,6 +15,7 @@ use Rattle.store_model.specs.Valid.{IsValid}
 use Rattle.store_model.specs.Readable.{IsReadable}
 use Rattle.plan_model.specs.Sound.{AreWanted, IsSound}
 use Rattle.plan_model.specs.Spellings.{HasSpellings}
+use Rattle.run_model.specs.Ends.{is_plain}
 use Rattle.run_model.specs.Report.{run_text}
 use Rattle.run_model.specs.Written.{WritesFront}
 use Rattle.run_model.specs.Opening.{HasFolders}
@@ -52,6 +53,7 @@ pub record Leaves (gives : Gives) (reading : Reading) (book : Book) (held : Stor
 
 -- ---- how a run may end
 
--- What was written is the text of the run, or, where the sink failed, some front of the text that some status gives.
+-- What was written is the text of the run, whole; or, where the sink failed and the status is neither Ok nor TaskFailed, some front of the text
+-- that some status gives.
 abbrev pub WritesReport : Type 0 → List ℕ → List ℕ → Plan → List Logged → Status → Type 0
-WritesReport failed old new plan tale s = (new ≡ old ++ run_text plan tale s) ⊎ (failed × ((met : Status) × WritesFront old new (run_text plan tale met)))
+WritesReport failed old new plan tale s = (new ≡ old ++ run_text plan tale s) ⊎ (failed × (is_plain s ≡ false) × ((met : Status) × WritesFront old new (run_text plan tale met)))

@@ -307,7 +307,8 @@ where
     ensures told { EndsAs plan options result.tale.items result.status }
     ensures failed { result.status ≡ ends.TaskFailed → result.failed.items ≡ failed_in result.tale.items }
 
-    // What was written is the text of the tale and of the status, or a front of one where the sink failed.
+    // What was written is the text of the tale and of the status, whole under Ok and where a task failed; under another status it may be a
+    // front of one, where the sink failed.
     ensures text { W.tells → WritesReport (Rose (W.faults sink) (W.faults result.sink)) (W.written sink)
         (W.written result.sink) plan result.tale.items result.status }
 
