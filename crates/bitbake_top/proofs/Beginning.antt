@@ -1,11 +1,11 @@
 -- Where runs of worked plans may begin.
 use Rattle.std.proofs.Common.{◌≡◌, ◌⊎◌, ◌∙◌, sym, ap, refl, subst, ℕ, zero, suc, arith, ◌<◌, ◌≤◌, ◌^◌, lit<, mod-lt, Bool, true, false, List, [], ◌∷◌, ◌++◌, length, Some, None, Result, Ok, inl, inr, if◌then◌else◌}
-use Rattle.std.specs.Prelude.{All, Any, Contains, codes, slice_index, ◌==◌}
+use Rattle.std.specs.Prelude.{Any, Contains, codes, slice_index, ◌==◌}
 use Rattle.std.specs.Fmt.{digits}
 use Rattle.std.specs.Int.{to_be_bytes, w32}
-use Rattle.std.specs.List.{AllByRecursion, slice_get}
+use Rattle.std.specs.List.{AllByRecursion}
 use Rattle.std.specs.Str.{bytes_eq, chars, is_utf8}
-use Rattle.std.proofs.lemmas.List.Elements.{All-cons, All-nil}
+use Rattle.std.proofs.lemmas.List.Elements.{All-nil}
 use Rattle.std.proofs.lemmas.Str.{IsUtf8-from_is_utf8}
 use Rattle.std.proofs.Math.Utf8.{encode}
 use Rattle.hex.specs.Hex.{encode_with}
@@ -25,18 +25,18 @@ use Rattle.meta_model.specs.CleanBuild.{Built, Entries, Lack, clean_build, is_be
 use Rattle.meta_model.specs.Worked.{file, shell}
 use Rattle.store_model.specs.Origins.{Book, Line, origin, rows_of}
 use Rattle.store_model.specs.Paths.{slashes}
-use Rattle.store_model.specs.Premises.{HasNoClash, HasNoCollision, HasOneSignature, IsBlind, IsContent, IsSoundTask, IsTreeOf, IsWord}
+use Rattle.store_model.specs.Premises.{HasOneSignature, IsBlind, IsContent, IsSoundTask, IsTreeOf, IsWord}
 use Rattle.store_model.specs.Premises as of
 use Rattle.store_model.specs.Publication.{stamp_text}
 use Rattle.store_model.specs.Readable.{IsReadable}
 use Rattle.store_model.specs.Reuse.{MayReuse}
 use Rattle.store_model.specs.Rows.{hash_eq}
-use Rattle.store_model.specs.Signatures.{Signed, is_order, signatures}
+use Rattle.store_model.specs.Signatures.{is_order, signatures}
 use Rattle.store_model.specs.Sound.{IsText}
 use Rattle.store_model.specs.Spelling.{name_of, record_bytes, signature_bytes}
 use Rattle.store_model.specs.Valid.{IsPlain, IsValid, StandsIn, record_entry, stored_of}
 use Rattle.store_model.specs.Available.{stamp_path, work_folder}
-use Rattle.store_model.specs.Hello.{chain_reading, first_line, hello_line, hello_name, hello_reading, hello_signed, hello_task, hello_tree, top_task, top_tree}
+use Rattle.store_model.specs.Hello.{chain_reading, first_line, hello_name, hello_reading, hello_signed, hello_task, hello_tree, top_task, top_tree}
 use Rattle.store_model.proofs.Hello.{empty_tree, hello_is_recorded, nothing_stands}
 use Rattle.store_model.proofs.Lasting.{empty_is_valid}
 use Rattle.store_model.proofs.Listing.{hash_itself}
