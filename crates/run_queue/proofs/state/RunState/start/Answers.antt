@@ -1,4 +1,4 @@
-use Rattle.std.proofs.Common.{◌≡◌, ◌∙◌, sym, ap, subst, refl, ℕ, Some, None, inr}
+use Rattle.std.proofs.Common.{◌≡◌, ◌∙◌, ◌++◌, sym, ap, subst, refl, ℕ, Some, None, inr}
 use Rattle.std.specs.Prelude.{IfSome, Option, IsSome}
 use Rattle.std.specs.List.{slice_get}
 use Rattle.outside_traits.proofs.Images.{held-image}
@@ -7,16 +7,17 @@ use Rattle.meta_model.specs.declared.event.Why.TheVariants as why
 use Rattle.meta_model.specs.declared.plan.PlanTask.{PlanTask}
 use Rattle.run_core.specs.declared.next.Next.TheVariants as next
 use Rattle.tale_model.specs.Fates.{IsFree}
+use Rattle.run_model.specs.Report.{event_line, tale_text}
 use Rattle.task_worker.specs.declared.given.Job.{Job}
 use Rattle.task_worker.proofs.Building.{sound_is_runnable}
-use Rattle.run_queue.specs.Keeps.{IsRun, IsUpToDate}
+use Rattle.run_queue.specs.Keeps.{IsRun, IsUpToDate, Prints}
 use Rattle.run_queue.specs.Outputs.{Finds}
 use Rattle.run_queue.specs.Seen.{RunView, Seen, seen}
-use Rattle.run_queue.specs.Turns.{Begins, IsCleanJob, MayDo, fates_of}
+use Rattle.run_queue.specs.Turns.{Begins, IsCleanJob, Marks, MayDo, fates_of}
 use Rattle.run_queue.proofs.Agreement.{some_known}
 use Rattle.run_queue.proofs.Passed.{passed_view}
 use Rattle.run_queue.proofs.ReadyJobs.{below_settled, job_is_clean, large_says, may_large, may_start, ready_lt, settles_large, settles_started, started_order, task_at, too_large_order, too_large_over}
-use Rattle.run_queue.proofs.Unsettled.{noted_run}
+use Rattle.run_queue.proofs.Unsettled.{noted_run, noted_text}
 use Rattle.run_queue.proofs.state.RunState.start.Goals as goal
 
 pub job_of-requires-clause-runnable : goal.job_of-requires-clause-runnable
@@ -141,3 +142,14 @@ returns-in-Err-clause-run g c tells o run =
     let run' = subst (λ (v : V). IsRun o (seen g.D.Disk.story g.W.Sink.written v)) (sym c.self.view_is) run in
     let faultless : c.self.inside.fault ≡ None = ap (λ v. v.fault) c.self.view_is ∙ c.requires.faultless in
     passed_view g.D.Disk.story g.W.Sink.written o _ c.job_of.new.store c.keep.new.kept c.in-Err.ensures.books (c.in-Err.ensures.images tells) (λ e. faultless) run'
+
+pub returns-in_ok-note_waiting-in-Ok-Some-clause-text : goal.returns-in_ok-note_waiting-in-Ok-Some-clause-text
+returns-in_ok-note_waiting-in-Ok-Some-clause-text g c tells base prints =
+    let V : Type 0 = RunView g.row.D.Denot g.row.W.Denot in
+    let n = c.in_ok-note_waiting-in-Ok-Some.ensures in
+    let event = events.Started c.args.task c.args.number in
+    let new = c.note_waiting.new.self in
+    let marks = subst (λ (v : V). Marks c.args.number event v.tale new.tale) c.self.view_is n.notes.marks in
+    let text = subst (λ (v : V). Prints base (g.W.Sink.written v.sink) (tale_text v.plan.tasks v.tale) v.sink_failed → Prints base (g.W.Sink.written new.sink) (tale_text v.plan.tasks v.tale ++ event_line v.plan.tasks event) new.sink_failed) c.self.view_is
+    (n.text tells base (tale_text c.self.inside.plan.tasks c.self.inside.tale.items)) in
+    noted_text g.W.Sink.written c.args.self.now new c.args.number event base marks (text prints)
