@@ -151,7 +151,8 @@ class Case:
             raise Wrong(f"below build/work stands\n{listed(held)}wanted\n{listed(self.work)}")
 
     def explained(self, status, text, said):
-        """Holds what standard error says of a run to the status and the text."""
+        """Holds what standard error says of a run to the status and the text. What real files tell besides stands in no case."""
+        said = b"".join(it for it in said.splitlines(True) if not it.startswith((b"bitbake: layers: ", b"bitbake: sandbox: ")))
         self.said += said
         wanted = [it.encode(errors="surrogateescape") for it in sentences(text.decode(errors="surrogateescape"))]
         if status in (3, 10) and said not in wanted or status == 0 and said:

@@ -58,10 +58,12 @@ holds() {
 # Runs a command, with its status in `status`, its text in the file `text`, and what it writes to standard error in the
 # file `said`. The program writes the devices' sentences there, and a line for each failed task with the end of its log
 # behind it, each line of that after a bar, or one for a task that gave something else than before; anything else is text too. Of a
-# fault of the metadata or a limit its sentence stands there alone, which counts as a case.
+# fault of the metadata or a limit its sentence stands there alone, which counts as a case. That no sandbox can be made here goes to
+# the file `no_sandbox`.
 runs() {
     "$@" >"$room/text" 2>"$room/said" </dev/null
     status=$?
+    grep -a '^bitbake: sandbox: ' "$room/said" >"$room/no_sandbox" && sed -i '/^bitbake: sandbox: /d' "$room/said"
     case $status in
         3 | 10) holds "the sentence of $(cat "$room/text")" python3 "$top/tests/sentences.py" "$room/text" "$room/said" ;;
         *) grep -a -v -e '^bitbake: [a-z]*: ' -e '^bitbake: [^ :]*:do_[^ :]* \(failed\|gave \)' -e '^| ' "$room/said" >>"$room/text" ;;

@@ -28,7 +28,7 @@ recipe hello 'echo out; echo err >&2; cat; echo "$FOREIGN" > foreign'
 runs env FOREIGN=seen "$bitbake" hello
 wants "a body that talks" 0 "$done_text"
 # (without a sandbox the place goes when its output was taken)
-grep -q '^bitbake: sandbox: ' "$room/said" || holds "its output is in the log" test "$(cat build/bench/*/log)" = 'out
+[ -s "$room/no_sandbox" ] || holds "its output is in the log" test "$(cat build/bench/*/log)" = 'out
 err'
 holds "no variable of the environment" test "$(cat build/work/hello/do_build/foreign)" = ''
 

@@ -65,7 +65,7 @@ if command -v cc >/dev/null 2>&1 && command -v make >/dev/null 2>&1; then
     # (targets are split on purpose)
     runs "$bitbake" $targets
     holds "configured software" test "$status" -eq 0 -a "$(tail -n 1 "$room/text")" = "ok 0 found, 0 restored, $(($(echo $targets | wc -w) * 5)) started"
-    if grep -q '^bitbake: sandbox: ' "$room/said"; then
+    if [ -s "$room/no_sandbox" ]; then
         echo "skipped moved copies of configured software: no sandbox can be made here"
     else
         holds "it knows its place" test "$(build/work/greet/do_install/image/usr/bin/greet)" = 'hello from /bitbake/work/build'
