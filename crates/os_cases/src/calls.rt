@@ -34,12 +34,12 @@ use tree_model::{Bytes, Mem, Size, is_clean};
 pub type LastBench<'a> = Option<(u32, ShBench<'a, HostRuntime>)>;
 
 /// What the call of a line answers.
-pub fn answer<'a>(
+pub fn answer<'a, 'b>(
     rt: &HostRuntime,
     ahead: &'a ReadAhead,
     disk: &mut FolderDisk<'a, Watch<'_>>,
-    sandboxes: &'a Sandboxes,
-    bench: &mut LastBench<'a>,
+    sandboxes: &'b Sandboxes,
+    bench: &mut LastBench<'b>,
     synced: &RefCell<String>,
     line: &str,
 ) -> io::Result<String> {

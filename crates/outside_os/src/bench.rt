@@ -100,6 +100,7 @@ impl<'a, R: Processes + AllocGlobal> ShBench<'a, R> {
             Err(error) => {
                 self.faults = one_more(self.faults);
                 self.site.note(&mut self.first, call, &error);
+                self.site.release();
                 Err(BenchFault::Failed)
             }
         }
@@ -107,6 +108,13 @@ impl<'a, R: Processes + AllocGlobal> ShBench<'a, R> {
 }
 
 impl<'a, R: Processes + AllocGlobal> Site<'a, R> {
+    /// Gives a task's place up where it has no sandbox, so that another bench may have it. Its files stay.
+    fn release(&mut self) {
+        if self.sandbox.is_none() {
+            self.place = None;
+        }
+    }
+
     /// Keeps what is said of a fault, if it is the first.
     fn note(&self, first: &mut FirstFault, call: &str, error: &io::Error) {
         first.keep(self.rt.alloc(), call, self.folder(), error);
