@@ -1,5 +1,5 @@
 -- The text of a call, behind the text of its plan.
-use Rattle.std.proofs.Common.{◌≡◌, ◌∙◌, ap, sym, subst, refl, ◌⊎◌, inl, inr, ℕ, ◌≤◌, List, [], ◌∷◌, ◌++◌, arith, append_assoc}
+use Rattle.std.proofs.Common.{◌≡◌, ◌∙◌, ap, sym, subst, refl, ◌⊎◌, inl, inr, ℕ, ◌≤◌, List, [], ◌∷◌, ◌++◌, arith, append_assoc, false}
 use Rattle.outside_traits.specs.Fault.{Rose}
 use Rattle.meta_model.specs.declared.event.Logged.{Logged}
 use Rattle.meta_model.specs.declared.event.Status.{Status}
