@@ -5,8 +5,7 @@ use Rattle.meta_model.specs.declared.facts.FactSet.{FactSet}
 use Rattle.meta_model.specs.declared.facts.Target.{Target}
 use Rattle.meta_model.specs.declared.facts.TaskId.{TaskId}
 use Rattle.meta_model.specs.GraphRefusal.{GraphRefusal}
-use Rattle.meta_model.specs.TaskGraph.{IsTaskCycle, HasMoreTasks}
-use Rattle.task_graph.specs.Reached.{IsGraphRefusal}
+use Rattle.meta_model.specs.TaskGraph.{IsTaskCycle, HasMoreTasks, IsGraphRefusal}
 use Rattle.answer_model.specs.Said.{lack_status, cycle_status, too_many_status}
 
 -- The targets have no graph, and this status says why: something is asked for that nobody has, tasks need each other, or there are

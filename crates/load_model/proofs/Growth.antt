@@ -11,7 +11,8 @@ use Rattle.meta_model.specs.Active.{expand}
 use Rattle.meta_model.specs.Entries.{lines_of}
 use Rattle.load_model.specs.Paths.{folder_of}
 use Rattle.load_model.specs.LoadRefusal.{LoadRefusal, Place, nowhere, refused_at, missing_required, missing_class, include_depth, ◌>>=◌, asked_at}
-use Rattle.load_model.specs.Loading.{Sources, Contents, Loaded, Origin, Found, Reads, Extends, with_lines, with_class, included_by, origin_of, searched, include_found, include_after, includes_after, class_searched, class_found, class_after, classes_after, statement_after, place_in, statements_after, contents_after, read_within, most_nested, read_first, file_found, entries, class_entries, searched_entries}
+use Rattle.load_model.specs.Loading.{Sources, Contents, Loaded, Origin, Found, Reads, Extends, with_lines, with_class}
+use Rattle.load_model.specs.Loading.{included_by, origin_of, searched, include_found, include_after, includes_after, class_searched, class_found, class_after, classes_after, statement_after, place_in, statements_after, contents_after, read_within, most_nested, read_first, file_found, entries, class_entries, searched_entries}
 
 -- what was done first, where all of it is no refusal
 data Done {A B E : Type 0} (m : Result A E) (f : A → Result B E) (b : B) : Type 0 where

@@ -153,6 +153,12 @@ all_packages lines provided needed (name ∷ rest) = do
   others ← all_packages lines provided needed rest
   Ok (first ∷ others)
 
+-- What the recipe says of these packages. Where it names none, the words for all packages stand for one without a name, so that they
+-- count all the same (own rule).
+abbrev pub recipe_packages : List EntryLine → List (List ℕ) → List (List ℕ) → List (List ℕ) → Result (List Package) Refusal
+recipe_packages lines provided needed [] = Ok (record { name = []; rdepends = needed; rprovides = provided } ∷ [])
+recipe_packages lines provided needed (name ∷ rest) = all_packages lines provided needed (name ∷ rest)
+
 -- the words of a flag's expanded text
 abbrev pub flag_words : List EntryLine → List ℕ → List ℕ → Result (List (List ℕ)) Refusal
 flag_words lines name f = expand lines (unwrap_or (flag lines name f) []) >>= λ text. Ok (words text)
@@ -189,7 +195,7 @@ facts_of recipe = do
   names ← words_of recipe.lines (codes "PACKAGES")
   provided ← words_of recipe.lines (codes "RPROVIDES")
   needed ← needed_words recipe.lines (codes "RDEPENDS")
-  packages ← all_packages recipe.lines provided needed names
+  packages ← recipe_packages recipe.lines provided needed names
   list ← all_tasks recipe.lines (tasks recipe.lines)
   Ok (record { file = recipe.file; pn = recipe.pn; pv = recipe.pv; pr = recipe.pr; provides = provides; depends = depends; packages = packages; tasks = list })
 

@@ -1,5 +1,5 @@
 -- The graph of the tasks that targets reach.
-use Rattle.std.specs.Prelude.{◌≡◌, ℕ, ◌<◌, List, [], map, length, Option, Some, Ok, All, AllPairs, Any, Contains, slice_get}
+use Rattle.std.specs.Prelude.{◌≡◌, ◌⊎◌, ℕ, ◌<◌, List, [], map, length, Option, Some, Err, Ok, All, AllPairs, Any, Contains, slice_get}
 use Rattle.std.specs.List.Sorted.{IsStrictlyIncreasing}
 use Rattle.std.specs.Option.{option_map}
 use Rattle.std.specs.Result.{result_ok}
@@ -61,6 +61,10 @@ pub record IsGraph (facts : FactSet) (targets : List Target) (graph : Graph) : T
   pub depths : All (λ node. IsDepth (Needs facts) (node_task node) node.depth) graph.nodes
   pub ends : map (node_at graph) graph.targets ≡ map (λ target. result_ok (target_task facts target)) targets
   pub found : All (λ k. k < length graph.nodes) graph.targets
+
+-- A target has no task, or a task that is reached is refused.
+abbrev pub IsGraphRefusal : FactSet → List Target → GraphRefusal → Type 0
+IsGraphRefusal facts targets refusal = Any (λ target. target_task facts target ≡ Err refusal) targets ⊎ ((a : Task) × IsReached facts targets a × IsRefused facts a refusal)
 
 -- Nothing that the targets ask for is refused.
 pub record HasNoRefusal (facts : FactSet) (targets : List Target) : Type 0 where

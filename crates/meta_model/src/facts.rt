@@ -1,5 +1,7 @@
 // What recipes say of one another, and the graph of their tasks.
-use tree_model::{ListOf, Text, Texts};
+ghost use Rattle.std.specs.Prelude.{◌≡◌, IfOk};
+
+use tree_model::{ListOf, Mem, Text, Texts};
 
 /// A task of a recipe.
 #[derive(Debug, Drop)]
@@ -10,6 +12,19 @@ pub struct TaskId {
     pub pn: Text,
     /// The task's name, with `do_` in front.
     pub task: Text,
+}
+
+impl TaskId {
+    /// The same task again.
+    pub fn copy(&self) -> Result<TaskId, Mem>
+        ensures { IfOk result (λ made. made ≡ self.now) }
+    {
+        Ok(TaskId {
+            mc: self.mc.copy()?,
+            pn: self.pn.copy()?,
+            task: self.task.copy()?,
+        })
+    }
 }
 
 /// A package of a recipe.

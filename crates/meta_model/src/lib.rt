@@ -60,5 +60,5 @@ pub use plan::{Options, Plan, PlanTask};
 pub use quoting::{Quoting, push_escaped};
 pub use statement::Statement;
 pub use task_words::{is_shell_name, task_name};
-pub use value::{Key, KeyLine, Resolved};
+pub use value::{Key, KeyLine, Resolved, copy_value};
 pub use word_list::{as_texts, drop_words, is_among, push_piece, push_words, words};

@@ -1,5 +1,8 @@
 // Values before expansion, and the keys of tasks.
-use tree_model::{ListOf, Text, Texts};
+ghost use Rattle.std.specs.Option.{option_copied};
+ghost use Rattle.std.specs.Prelude.{◌≡◌, IfOk};
+
+use tree_model::{ListOf, Mem, Text, Texts};
 
 /// The value of a name under the active overrides, before expansion.
 #[derive(Debug, Drop)]
@@ -10,6 +13,29 @@ pub struct Resolved {
     pub removes: Texts,
     /// Flags of the name with their texts, unexpanded.
     pub flags: ListOf<(Text, Text)>,
+}
+
+impl Resolved {
+    /// The same value again.
+    pub fn copy(&self) -> Result<Resolved, Mem>
+        ensures { IfOk result (λ made. made ≡ self.now) }
+    {
+        Ok(Resolved {
+            text: self.text.copy()?,
+            removes: self.removes.copy()?,
+            flags: self.flags.copy()?,
+        })
+    }
+}
+
+/// The same value again, where there is one.
+pub fn copy_value(value: Option<&Resolved>) -> Result<Option<Resolved>, Mem>
+    ensures { IfOk result (λ made. made ≡ option_copied value.entry) }
+{
+    match value {
+        Some(value) => Ok(Some(value.copy()?)),
+        None => Ok(None),
+    }
 }
 
 /// A line of a key: a name and what it has, or that it has no value.

@@ -60,7 +60,8 @@ same_settled list zero before last = sym (ends (texts_eq before last))
     ends false = refl
 same_settled list (suc left) before last = sym (goes (same_settled list left last) (texts_eq before last))
   where
-    goes : ((next : List (List ℕ)) → settled_by (pass_of (overrides_under list)) left last next ≡ settled list left last next) → (same : Bool) → ◌≡◌ {A = Result (List (List ℕ)) Refusal} (elim same [ true ↦ Ok last | false ↦ (pass list last >>= λ next. settled list left last next) ]) (if same then Ok last else (pass_of (overrides_under list) last >>= settled_by (pass_of (overrides_under list)) left last))
+    goes : ((next : List (List ℕ)) → settled_by (pass_of (overrides_under list)) left last next ≡ settled list left last next)
+        → (same : Bool) → ◌≡◌ {A = Result (List (List ℕ)) Refusal} (elim same [ true ↦ Ok last | false ↦ (pass list last >>= λ next. settled list left last next) ]) (if same then Ok last else (pass_of (overrides_under list) last >>= settled_by (pass_of (overrides_under list)) left last))
     goes rest true = refl
     goes rest false = sym (ap (λ r. r >>= settled_by (pass_of (overrides_under list)) left last) (one_pass list last) ∙ same_next (pass list last) (settled_by (pass_of (overrides_under list)) left last) (settled list left last) rest)
 

@@ -27,7 +27,7 @@ use Rattle.load_model.specs.LoadRefusal.{LoadRefusal, nowhere, ◌>>=◌, refuse
 use Rattle.load_model.specs.Loading.{Sources, Loaded, with_lines, read_first, classes_after, class_entries, entries}
 use Rattle.load_model.specs.Layers.{words_of, starting_with}
 use Rattle.load_model.specs.Recipes.{FileName, Recipe, SetRefusal, load, no_value, bad_name, asked_of, is_pn, appends_of, file_lines, name_lines, appended, with_inherit, recipe_entries, name_in, three_values, good_name, recipe_with, classes_read, files_read, recipe_of, recipe_read, recipes_read}
-use Rattle.load_model.specs.Facts.{flag_words, named_task, task_facts, all_tasks, facts_of, all_facts, needed_words, all_packages, RecipeSet, wishes, recipe_cmp, greater, chosen, that_count, fits, all_chosen, recipe_set, set_under, files_over, read_over, set_over}
+use Rattle.load_model.specs.Facts.{flag_words, named_task, task_facts, all_tasks, facts_of, all_facts, needed_words, recipe_packages, RecipeSet, wishes, recipe_cmp, greater, chosen, that_count, fits, all_chosen, recipe_set, set_under, files_over, read_over, set_over}
 use Rattle.meta_model.specs.Ascending.{Before, Above, Ascending}
 use Rattle.meta_model.proofs.Ordered.{ordered_ascending}
 use Rattle.plan_model.specs.Names.{is_task_name, AddsGoodTask, HaveGoodTasks, AddGoodTasks}
@@ -184,7 +184,7 @@ facts_named : (recipe : Recipe) (made : RecipeFacts) → Good recipe.lines → f
 facts_named recipe made h e =
     let last = λ (provides depends : List (List ℕ)) (packages : List Package) (list : List TaskFacts). let r : Result RecipeFacts Refusal = Ok (record { file = recipe.file; pn = recipe.pn; pv = recipe.pv; pr = recipe.pr; provides = provides; depends = depends; packages = packages; tasks = list }) in r in
     let sixth = λ (provides depends : List (List ℕ)) (packages : List Package). all_tasks recipe.lines (tasks recipe.lines) >>= last provides depends packages in
-    let fifth = λ (provides depends names provided needed : List (List ℕ)). all_packages recipe.lines provided needed names >>= sixth provides depends in
+    let fifth = λ (provides depends names provided needed : List (List ℕ)). recipe_packages recipe.lines provided needed names >>= sixth provides depends in
     let fourth = λ (provides depends names provided : List (List ℕ)). needed_words recipe.lines (codes "RDEPENDS") >>= fifth provides depends names provided in
     let third = λ (provides depends names : List (List ℕ)). words_of recipe.lines (codes "RPROVIDES") >>= fourth provides depends names in
     let second = λ (provides depends : List (List ℕ)). words_of recipe.lines (codes "PACKAGES") >>= third provides depends in
@@ -194,7 +194,7 @@ facts_named recipe made h e =
     let c = ok_parts (words_of recipe.lines (codes "PACKAGES")) (third a.0 b.0) made b.2 in
     let d = ok_parts (words_of recipe.lines (codes "RPROVIDES")) (fourth a.0 b.0 c.0) made c.2 in
     let n = ok_parts (needed_words recipe.lines (codes "RDEPENDS")) (fifth a.0 b.0 c.0 d.0) made d.2 in
-    let p = ok_parts (all_packages recipe.lines d.0 n.0 c.0) (sixth a.0 b.0) made n.2 in
+    let p = ok_parts (recipe_packages recipe.lines d.0 n.0 c.0) (sixth a.0 b.0) made n.2 in
     let l = ok_parts (all_tasks recipe.lines (tasks recipe.lines)) (last a.0 b.0 p.0) made p.2 in
     let all = task_names recipe.lines in
     subst (IsOf recipe) {x = record { file = recipe.file; pn = recipe.pn; pv = recipe.pv; pr = recipe.pr; provides = a.0; depends = b.0; packages = p.0; tasks = l.0 }}

@@ -17,7 +17,8 @@ use Rattle.meta_model.specs.Active.{expand}
 use Rattle.meta_model.specs.Entries.{lines_of, taken, line_of, assignment_line, set_flag}
 use Rattle.load_model.specs.Paths.{is_absolute, paths_in, folder_of}
 use Rattle.load_model.specs.LoadRefusal.{LoadRefusal, Place, nowhere, refused_at, missing_required, missing_class, include_depth, ◌>>=◌, asked_at, no_value}
-use Rattle.load_model.specs.Loading.{Sources, Contents, Loaded, Origin, Found, Reads, with_lines, with_class, included_by, origin_of, found_there, first_found, search_folders, searched, include_found, include_after, includes_after, class_path, class_searched, class_found, class_after, classes_after, statement_after, place_in, statements_after, contents_after, read_within, most_nested, read_first, file_found, entries, class_entries, searched_entries}
+use Rattle.load_model.specs.Loading.{Sources, Contents, Loaded, Origin, Found, Reads, with_lines, with_class}
+use Rattle.load_model.specs.Loading.{included_by, origin_of, found_there, first_found, search_folders, searched, include_found, include_after, includes_after, class_path, class_searched, class_found, class_after, classes_after, statement_after, place_in, statements_after, contents_after, read_within, most_nested, read_first, file_found, entries, class_entries, searched_entries}
 use Rattle.plan_model.specs.Names.{is_task_name, AddsGoodTasks, AddsGoodTask, HaveGoodTasks, AddGoodTasks}
 use Rattle.plan_model.proofs.Planning.{ok_parts, ok_as, same_ok}
 

@@ -17,7 +17,8 @@ use Rattle.meta_model.specs.Text.{is_blank, without_end}
 use Rattle.meta_model.specs.Lines.{OrFault, with_first, logical_lines, opens_body, without_opening}
 use Rattle.load_model.specs.LoadRefusal.{file_bytes}
 use Rattle.load_model.specs.Loading.{Contents, with_cause, most_bytes, contents_of, sources_of}
-use Rattle.meta_model.specs.Grammar.{Fit, ◌>>=◌, where_true, first_of_two, first_there, operator, operation, assignment, flag_assignment, flag_of_name, behind_word, with_name, flag_unset, with_text, with_words, plain_fit, task_of, tasks, up_to_part, part, task_parts, task_names, function_head, fit_of, words_behind_word, text_behind_word, name_behind_word, value_forms_of, directive_forms_of, exported_assignment}
+use Rattle.meta_model.specs.Grammar.{Fit, ◌>>=◌, where_true, first_of_two, first_there, operator, operation, assignment, flag_assignment, flag_of_name, behind_word, with_name, flag_unset, with_text, with_words}
+use Rattle.meta_model.specs.Grammar.{plain_fit, task_of, tasks, up_to_part, part, task_parts, task_names, function_head, fit_of, words_behind_word, text_behind_word, name_behind_word, value_forms_of, directive_forms_of, exported_assignment}
 use Rattle.meta_model.specs.Statements.{statement_of, statement_of_fit, is_allowed, is_python, is_fakeroot, has_one_inner_quote, has_reserved_name, statements_of_lines, with_statement, body_of, ends_in_body, of_lines, statements}
 use Rattle.plan_model.specs.Names.{is_task_name, AddsGoodTasks, AddGoodTasks}
 

@@ -13,3 +13,4 @@ pub mod Sorted
 pub mod OneGraph
 pub mod Wanted
 pub mod Spelling
+pub mod Blinded

@@ -30,6 +30,8 @@ same_ok a b e = cc
 -- what the parts of a task are
 pub record HasParts (files : Files) (file : List ℕ) (store : List EntryLine) (task : List ℕ) (bytes : ℕ) (parts : Parts) : Type 0 where
   pub key_is : key store task ≡ Ok parts.key
+  pub script_is : script store task ≡ Ok parts.script
+  pub shared_is : is_shared store task ≡ Ok parts.sstate
   pub inputs_are : task_inputs files file store task bytes ≡ Ok parts.inputs
   pub places_are : places store task ≡ Ok parts.places
 
@@ -50,6 +52,8 @@ has_parts files file store task bytes parts e =
     let whole : record { key = made.0; inputs = inputs.0; script = text.0; places = pairs.0; nostamp = nostamp.0; sstate = shared.0 } ≡ parts = same_ok {E = PlanRefusal} (record { key = made.0; inputs = inputs.0; script = text.0; places = pairs.0; nostamp = nostamp.0; sstate = shared.0 }) parts shared.2 in
     subst (HasParts files file store task bytes) {x = record { key = made.0; inputs = inputs.0; script = text.0; places = pairs.0; nostamp = nostamp.0; sstate = shared.0 }} whole (record {
       key_is = ok_as (no_value file) (key store task) made.0 made.1;
+      script_is = ok_as (told_at file) (script store task) text.0 text.1;
+      shared_is = ok_as (no_value file) (is_shared store task) shared.0 shared.1;
       inputs_are = inputs.1;
       places_are = ok_as (told_at file) (places store task) pairs.0 pairs.1;
     })
@@ -62,6 +66,8 @@ pub record IsOfNode (files : Files) (set : RecipeSet) (node : Node) (task : Plan
   pub parts : Parts
   pub has : HasParts files (file_at set.facts node.recipe) (slice_index_or set.stores node.recipe []) node.id.task bytes parts
   pub key : task.key ≡ parts.key
+  pub script : task.script ≡ parts.script
+  pub sstate : task.sstate ≡ parts.sstate
   pub files_are : task.files ≡ parts.inputs.tree
   pub places : task.places ≡ parts.places
 
@@ -83,6 +89,8 @@ of_node files set node sums made e =
       parts = parts.0;
       has = has_parts files (file_at set.facts node.recipe) (slice_index_or set.stores node.recipe []) node.id.task sums.inputs parts.0 parts.1;
       key = ap (λ t. t.key) is;
+      script = ap (λ t. t.script) is;
+      sstate = ap (λ t. t.sstate) is;
       files_are = ap (λ t. t.files) is;
       places = ap (λ t. t.places) is;
     }

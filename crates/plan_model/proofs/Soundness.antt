@@ -158,18 +158,20 @@ forced_many n targets [] = refl
 forced_many n targets (task ∷ tasks) = omega (arith, forced_many (suc n) targets tasks)
 
 -- a forced task is the task, but for whether it runs in each run
-record IsForced (task forced : PlanTask) : Type 0 where
-  id : forced.id ≡ task.id
-  deps : forced.deps ≡ task.deps
-  key : forced.key ≡ task.key
-  files : forced.files ≡ task.files
-  places : forced.places ≡ task.places
+pub record IsForced (task forced : PlanTask) : Type 0 where
+  pub id : forced.id ≡ task.id
+  pub deps : forced.deps ≡ task.deps
+  pub key : forced.key ≡ task.key
+  pub files : forced.files ≡ task.files
+  pub script : forced.script ≡ task.script
+  pub sstate : forced.sstate ≡ task.sstate
+  pub places : forced.places ≡ task.places
 
-forced_at : (n : ℕ) (targets : List ℕ) (tasks : List PlanTask) (k : ℕ) (made : PlanTask) → slice_get (forced_from n targets tasks) k ≡ Some made → (task : PlanTask) × (slice_get tasks k ≡ Some task) × IsForced task made
+pub forced_at : (n : ℕ) (targets : List ℕ) (tasks : List PlanTask) (k : ℕ) (made : PlanTask) → slice_get (forced_from n targets tasks) k ≡ Some made → (task : PlanTask) × (slice_get tasks k ≡ Some task) × IsForced task made
 forced_at n targets [] k made e = absurd (cc)
 forced_at n targets (task ∷ tasks) zero made e =
     let is : record task { nostamp = task.nostamp || list_any (nat_eq n) targets } ≡ made = (let s : Some (record task { nostamp = task.nostamp || list_any (nat_eq n) targets }) ≡ Some made = e in cc) in
-    (task, refl, subst (IsForced task) is (record { id = refl; deps = refl; key = refl; files = refl; places = refl }))
+    (task, refl, subst (IsForced task) is (record { id = refl; deps = refl; key = refl; files = refl; script = refl; sstate = refl; places = refl }))
 forced_at n targets (task ∷ tasks) (suc k) made e = forced_at (suc n) targets tasks k made e
 
 module _ (plan : Plan) (sound : IsSound plan) where

@@ -5,3 +5,4 @@ pub mod Names
 pub mod Sound
 pub mod PlanSamples
 pub mod Spellings
+pub mod Blind

@@ -1,5 +1,6 @@
 // What is proved of the definitions.
 ghost use Rattle.plan_model.specs.Sound.{ForcedIsSound, ForcedIsWanted, GraphIsOver, GraphsAreOne, PlanIsSound, PlanIsWanted, ProjectHasGoodNames, SoundMeets};
+ghost use Rattle.plan_model.specs.Blind.{FirstMayReuse, ForcedIsBlind, ForcedIsWhole, WholeIsBlind};
 ghost use Rattle.plan_model.specs.Spellings.{SoundHasSpellings};
 
 /// The plan of a graph is sound, where its threads are 1 to 16, files stand at clean paths, and recipes and tasks have names that
@@ -41,4 +42,14 @@ pub fn graphs_are_over_their_facts()
 /// Targets have one graph, where no two recipes have one PN.
 pub fn graphs_are_one()
     ensures { GraphsAreOne }
+{}
+
+/// A plan of which nothing was left out is blind by the reading of its keys, forced or not; and where it is sound, no two contents have
+/// one digest, and nothing was recorded before, it may reuse the empty book.
+pub fn whole_plans_are_blind()
+    ensures plan { WholeIsBlind }
+    // also where the targets' tasks are forced
+    ensures forced { ForcedIsBlind }
+    ensures whole { ForcedIsWhole }
+    ensures first { FirstMayReuse }
 {}

@@ -12,5 +12,5 @@ mod laws;
 
 pub use laws::{
     graphs_are_one, graphs_are_over_their_facts, plan_is_sound, plan_is_wanted,
-    projects_have_good_names, sound_plans_have_spellings, sound_plans_meet,
+    projects_have_good_names, sound_plans_have_spellings, sound_plans_meet, whole_plans_are_blind,
 };

@@ -10,7 +10,7 @@ use Rattle.meta_model.specs.Frozen.{frozen}
 use Rattle.load_model.specs.LoadRefusal.{◌>>=◌}
 use Rattle.load_model.specs.Layers.{words_of}
 use Rattle.load_model.specs.Recipes.{Recipe}
-use Rattle.load_model.specs.Facts.{flag_words, named_task, task_facts, facts_of, form, package_facts, needed_words, all_packages, all_tasks, Wishes, family, wishes, wishes_over}
+use Rattle.load_model.specs.Facts.{flag_words, named_task, task_facts, facts_of, form, package_facts, needed_words, recipe_packages, all_tasks, Wishes, family, wishes, wishes_over}
 use Rattle.recipe_facts.specs.Recipe.{facts_behind}
 
 -- a task's flags
@@ -47,7 +47,7 @@ bind_apart (Ok a) f g = refl
 bind_apart (Err refusal) f g = refl
 
 abbrev pub packages3 : List EntryLine → Words → Words → Words → Result (List Package) Refusal
-packages3 lines names provided needed = all_packages lines provided needed names
+packages3 lines names provided needed = recipe_packages lines provided needed names
 
 abbrev pub packages2 : List EntryLine → Words → Words → Result (List Package) Refusal
 packages2 lines names provided = needed_words lines (codes "RDEPENDS") >>= packages3 lines names provided

@@ -6,7 +6,7 @@ use Rattle.meta_model.specs.Refusal.{Refusal}
 use Rattle.load_model.specs.LoadRefusal.{◌>>=◌}
 use Rattle.load_model.specs.Layers.{words_of}
 use Rattle.load_model.specs.Recipes.{Recipe as Meant}
-use Rattle.load_model.specs.Facts.{needed_words, all_packages, all_tasks}
+use Rattle.load_model.specs.Facts.{needed_words, recipe_packages, all_tasks}
 use Rattle.meta_model.specs.Tasks.{tasks}
 use Rattle.meta_model.specs.declared.facts.RecipeFacts.{RecipeFacts}
 use Rattle.recipe_facts.specs.declared.of_recipe.Recipe.{Recipe}
@@ -21,7 +21,7 @@ packages_of lines = do
   names ← words_of lines (codes "PACKAGES")
   provided ← words_of lines (codes "RPROVIDES")
   needed ← needed_words lines (codes "RDEPENDS")
-  all_packages lines provided needed names
+  recipe_packages lines provided needed names
 
 -- what a recipe says of itself, where the words of PROVIDES and DEPENDS are these
 abbrev pub facts_behind : Meant → List (List ℕ) → List (List ℕ) → Result RecipeFacts Refusal

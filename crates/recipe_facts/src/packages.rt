@@ -114,6 +114,30 @@ fn all_packages(
     Ok(made)
 }
 
+/// What a recipe says of these packages. Where it names none, the words for all packages stand for one without a name (own rule).
+fn recipe_packages(
+    alloc: Global,
+    store: &Datastore,
+    provided: &Texts,
+    needed: &Texts,
+    names: &[Text],
+) -> Result<ListOf<Package>, DataFault>
+    ensures ok { IfOk result (λ made. facts.recipe_packages store.now provided.now needed.now names.now ≡ Ok made) }
+    ensures err { IfErr result (λ fault. IsDataFault fault
+        (facts.recipe_packages store.now provided.now needed.now names.now)) }
+{
+    if !names.is_empty() {
+        return all_packages(alloc, store, provided, needed, names);
+    }
+    let mut made = ListOf::new(alloc);
+    made.push(Package {
+        name: Text::new(alloc),
+        rdepends: needed.copy()?,
+        rprovides: provided.copy()?,
+    })?;
+    Ok(made)
+}
+
 /// What a recipe says of its packages, the words of PACKAGES.
 pub(crate) fn packages_of(alloc: Global, store: &Datastore) -> Result<ListOf<Package>, DataFault>
     ensures ok { IfOk result (λ made. packages_of store.now ≡ Ok made) }
@@ -122,5 +146,5 @@ pub(crate) fn packages_of(alloc: Global, store: &Datastore) -> Result<ListOf<Pac
     let names = words_of(alloc, store, "PACKAGES")?;
     let provided = words_of(alloc, store, "RPROVIDES")?;
     let needed = needed_words(alloc, store, "RDEPENDS")?;
-    all_packages(alloc, store, &provided, &needed, names.as_slice())
+    recipe_packages(alloc, store, &provided, &needed, names.as_slice())
 }

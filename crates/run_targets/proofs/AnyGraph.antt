@@ -19,8 +19,7 @@ use Rattle.meta_model.specs.declared.facts.Graph.{Graph}
 use Rattle.meta_model.specs.Walks.{Walk, IsDepth, IsCycle, ClosesAt}
 use Rattle.meta_model.specs.Needs.{Task, Needs}
 use Rattle.meta_model.specs.GraphRefusal.{GraphRefusal, target_task}
-use Rattle.meta_model.specs.TaskGraph.{IsReached, IsGraph, HasNoRefusal, node_task}
-use Rattle.task_graph.specs.Reached.{IsGraphRefusal}
+use Rattle.meta_model.specs.TaskGraph.{IsReached, IsGraph, HasNoRefusal, node_task, IsGraphRefusal}
 use Rattle.answer_model.specs.GraphStatus.{IsGraphStatus, lacking, cycle, many}
 use Rattle.answer_model.specs.RunAsked.{Asked}
 use Rattle.answer_model.specs.Runs.{HasGraph}

@@ -33,9 +33,9 @@ pub record Course : Type 0 where
   pub clean : ℕ → Clean
 
 -- Which event a seat may mark, by the fates so far. Found and restored are needed tasks whose output is there. Started are
--- ready tasks, under their own seat, where no other task runs; a ready task whose layout is too large fails. A running task
--- ends or fails as the clean build says, or breaks off, each time marked by its own seat. After a failure nothing new
--- begins, except with `keep_going`.
+-- ready tasks, each under the seat that marks it, while no other task runs under that seat; a ready task whose layout is too
+-- large fails. A running task ends or fails as the clean build says, or breaks off, each time marked by its own seat. After a
+-- failure nothing new begins, except with `keep_going`.
 abbrev pub MayMark : Options → List PlanTask → List Bool → List Avail → (ℕ → Clean) → List Fate → ℕ → Event → Type 0
 MayMark options tasks need avail clean fates seat (events.Found t) = IsIn need t × (fate_at fates t ≡ Waiting) × (slice_get avail t ≡ Some Work) × GoesOn options fates
 MayMark options tasks need avail clean fates seat (events.Restored t) = IsIn need t × (fate_at fates t ≡ Waiting) × (slice_get avail t ≡ Some Object) × GoesOn options fates

@@ -10,7 +10,7 @@ use Rattle.meta_model.specs.declared.facts.TaskId.{TaskId}
 use Rattle.meta_model.specs.Walks.{Walk}
 use Rattle.meta_model.specs.Needs.{Task, Needs, is_task, by_order, by_depends, by_deptask, by_rdeptask, by_recrdeptask}
 use Rattle.meta_model.specs.GraphRefusal.{GraphRefusal, target_task, IsRefused}
-use Rattle.meta_model.specs.TaskGraph.{IsTarget, IsReached, HasMoreTasks}
+use Rattle.meta_model.specs.TaskGraph.{IsTarget, IsReached, HasMoreTasks, IsGraphRefusal}
 use Rattle.task_graph.specs.declared.fault.GraphFault.{GraphFault}
 use Rattle.task_graph.specs.declared.fault.GraphFault.TheVariants.{NoSuchTask, TaskCycle, NothingProvides, SeveralProvide, Tasks, BadThreads, Memory}
 use Rattle.task_graph.specs.declared.table.TaskTable.{TaskTable}
@@ -19,7 +19,7 @@ use Rattle.graph_walk.specs.Frontier.{Has, with_nodes, number_of, IsFrontier, Is
 use Rattle.task_graph.specs.Table.{IsTable, number_of_task}
 use Rattle.task_graph.specs.Context.{IsNumberOf}
 use Rattle.task_graph.specs.Edges.{IsNumbered, HasEdges, IsRefusedAt}
-use Rattle.task_graph.specs.Reached.{TaskEdge, HasFoundNext, GoesBeyond, ArePlaces, AreReached, IsReaching, IsGraphRefusal}
+use Rattle.task_graph.specs.Reached.{TaskEdge, HasFoundNext, GoesBeyond, ArePlaces, AreReached, IsReaching}
 use Rattle.graph_walk.proofs.Finding.{place_within, slice_push, slice_last}
 use Rattle.graph_walk.proofs.Searching.{kept_all, search_step, search_first, search_whole}
 use Rattle.task_graph.proofs.Refusals.{refusal_weaker}

@@ -1,12 +1,12 @@
 -- The tasks that targets reach, by their numbers, in the order in which they are found.
-use Rattle.std.specs.Prelude.{◌≡◌, ℕ, ◌<◌, ◌≤◌, List, length, Any, Option, Some, Err, ◌⊎◌, slice_get}
+use Rattle.std.specs.Prelude.{◌≡◌, ℕ, ◌<◌, ◌≤◌, List, length, Option, Some, slice_get}
 use Rattle.std.specs.List.{AllZip}
 use Rattle.meta_model.specs.declared.facts.FactSet.{FactSet}
 use Rattle.meta_model.specs.declared.facts.Target.{Target}
 use Rattle.meta_model.specs.Walks.{IsCycle}
 use Rattle.meta_model.specs.Needs.{Task, Needs}
 use Rattle.meta_model.specs.GraphRefusal.{GraphRefusal, target_task, IsRefused}
-use Rattle.meta_model.specs.TaskGraph.{IsReached, IsTaskCycle, HasMoreTasks}
+use Rattle.meta_model.specs.TaskGraph.{IsGraphRefusal, IsReached, IsTaskCycle, HasMoreTasks}
 use Rattle.task_graph.specs.declared.fault.GraphFault.{GraphFault}
 use Rattle.task_graph.specs.declared.table.TaskTable.{TaskTable}
 use Rattle.task_graph.specs.Faults.{IsFaultOf}
@@ -14,10 +14,6 @@ use Rattle.graph_walk.specs.Frontier.{with_nodes, IsFrontier, IsSearch, Has}
 use Rattle.task_graph.specs.Table.{number_of_task}
 use Rattle.task_graph.specs.Context.{IsNumberOf}
 use Rattle.task_graph.specs.Edges.{HasEdges}
-
--- A target has no task, or a task that is reached is refused.
-abbrev pub IsGraphRefusal : FactSet → List Target → GraphRefusal → Type 0
-IsGraphRefusal facts targets refusal = Any (λ target. target_task facts target ≡ Err refusal) targets ⊎ ((a : Task) × IsReached facts targets a × IsRefused facts a refusal)
 
 -- Why there is no graph: a refusal of a target or of a task that is reached; tasks that are reached and need each other; or
 -- more than 65,536 tasks. Of want of memory nothing is claimed.

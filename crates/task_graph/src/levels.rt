@@ -1,9 +1,9 @@
 // How deep the tasks stand that targets reach.
 ghost use Rattle.std.specs.Prelude.{◌≡◌, ◌<◌, ◌^◌, IfOk, IfErr, length};
-ghost use Rattle.meta_model.specs.TaskGraph.{HasMoreTasks};
+ghost use Rattle.meta_model.specs.TaskGraph.{HasMoreTasks, IsGraphRefusal};
 ghost use Rattle.task_graph.specs.Faults.{IsFaultOf};
 ghost use Rattle.task_graph.specs.Context.{IsContext};
-ghost use Rattle.task_graph.specs.Reached.{IsGraphRefusal, AreReached};
+ghost use Rattle.task_graph.specs.Reached.{AreReached};
 ghost use Rattle.task_graph.specs.Levels.{AreLevels};
 
 use crate::context::Context;

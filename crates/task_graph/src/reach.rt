@@ -2,12 +2,12 @@
 ghost use Rattle.std.specs.Prelude.{◌≡◌, ◌<◌, ◌≤◌, ◌^◌, ◌++◌, [], OnOk, IfOk, IfErr, All, Any, length, Some, Err, ℕ};
 ghost use Rattle.std.specs.List.{AllZip};
 ghost use Rattle.meta_model.specs.GraphRefusal.{target_task};
-ghost use Rattle.meta_model.specs.TaskGraph.{HasMoreTasks};
+ghost use Rattle.meta_model.specs.TaskGraph.{HasMoreTasks, IsGraphRefusal};
 ghost use Rattle.task_graph.specs.Faults.{IsRefusalOf, IsFaultOf};
 ghost use Rattle.graph_walk.specs.Frontier.{IsFrontier, room, free};
 ghost use Rattle.task_graph.specs.Context.{IsContext, IsNumberOf};
 ghost use Rattle.task_graph.specs.Edges.{IsNumbered, IsRefusedAt};
-ghost use Rattle.task_graph.specs.Reached.{HasFoundNext, GoesBeyond, IsGraphRefusal, IsReaching, AreReached};
+ghost use Rattle.task_graph.specs.Reached.{HasFoundNext, GoesBeyond, IsReaching, AreReached};
 
 use crate::context::{Context, find_task};
 use crate::edges::edges_of;

@@ -150,7 +150,9 @@ pub pred_at : (xs : List (List ℕ × Entry)) (i : ℕ) (e : List ℕ × Entry) 
 pred_at xs i e here p lt is same last d = sym (ap (λ x. x.0) (get_or_read xs i e lt is d)) ∙ sym same ∙ sym last
 
 -- what a search at the one place tells
-pub below_cases : (xs : List (List ℕ × Entry)) (e p path : List ℕ) (start n : ℕ) (r : Bool) → IsTree xs → IsStart xs path start → ((d : List ℕ × Entry) → (get_or xs (start - 1) d).0 ≡ p) → IsCommon p e n → e ≡ path → n < length e → get_or e n 0 ≡ 47 → MatchBool r (Any (λ x. x.0 ≡ take n e) xs) (All (λ x. x.0 ≡ take n e → ⊥) xs) → MatchBool r (Any (λ x. IsBelow x.0 path) xs) (All (λ x. IsBelow x.0 path → ⊥) xs)
+pub below_cases : (xs : List (List ℕ × Entry)) (e p path : List ℕ) (start n : ℕ) (r : Bool) → IsTree xs → IsStart xs path start → ((d : List ℕ × Entry) → (get_or xs (start - 1) d).0 ≡ p) → IsCommon p e n → e ≡ path → n < length e → get_or e n 0 ≡ 47
+    → MatchBool r (Any (λ x. x.0 ≡ take n e) xs) (All (λ x. x.0 ≡ take n e → ⊥) xs)
+    → MatchBool r (Any (λ x. IsBelow x.0 path) xs) (All (λ x. IsBelow x.0 path → ⊥) xs)
 below_cases xs e p path start n true tree from pred common same lt slash h = any_below_same xs e path same (below_at xs e n lt slash h)
 below_cases xs e p path start n false tree from pred common same lt slash h =
     none_below xs e p path start n tree from pred common same (λ l. h l.held.0 l.held.1 l.held.2 (ap (λ x. x.0) l.held.3 ∙ l.held.4))

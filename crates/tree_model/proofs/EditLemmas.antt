@@ -261,7 +261,10 @@ pub length_later : (xs : List (List ℕ × Entry)) (start : ℕ) → length (tak
 length_later xs start = ap length (take_rest xs start) ∙ length-drop start xs
 
 -- one entry more of a run
-pub begin_more : (xs : List (List ℕ × Entry)) (prefix path : List ℕ) (start n : ℕ) (e : List ℕ × Entry) → start ≤ length xs → n < length xs - start → e ≡ get_or (take (length xs - start) (drop start xs)) n e → path ≡ e.0 → BeginsWith prefix path → ((k : ℕ) (d : List ℕ × Entry) → k < n → BeginsWith prefix (get_or xs (start + k) d).0) → (k : ℕ) (d : List ℕ × Entry) → k < n + 1 → BeginsWith prefix (get_or xs (start + k) d).0
+pub begin_more : (xs : List (List ℕ × Entry)) (prefix path : List ℕ) (start n : ℕ) (e : List ℕ × Entry)
+    → start ≤ length xs → n < length xs - start → e ≡ get_or (take (length xs - start) (drop start xs)) n e → path ≡ e.0 → BeginsWith prefix path
+    → ((k : ℕ) (d : List ℕ × Entry) → k < n → BeginsWith prefix (get_or xs (start + k) d).0)
+    → (k : ℕ) (d : List ℕ × Entry) → k < n + 1 → BeginsWith prefix (get_or xs (start + k) d).0
 begin_more xs prefix path start n e le lt is same here below k d k_lt =
     below_more (λ m. BeginsWith prefix (get_or xs (start + m) d).0) n (λ m h. below m d h)
     (let P : List ℕ → Type 0 = λ p. BeginsWith prefix p in subst P (same ∙ ap (λ x. x.0) (later_at xs start n e d le lt is)) here) k k_lt

@@ -33,7 +33,15 @@ behind_at xs i j d lt within =
       omega (arith, length-drop (i + 1) xs, ap length whole),
     )
 
-pub ordered_more : (xs : List (List ℕ × Entry)) (i : ℕ) (path : List ℕ) (e : List ℕ × Entry) → i < length xs → e ≡ get_or xs i e → path ≡ e.0 → IsSortedByPath xs → All (λ x. IsAtOrBelow path x.0 → ⊥) (take (length xs - (i + 1)) (drop (i + 1) xs)) → ((k j : ℕ) (d : List ℕ × Entry) → k < i → k < j → j < length xs → Precedes (slice_index_or xs k d).0 (slice_index_or xs j d).0) → (k j : ℕ) (d : List ℕ × Entry) → k < i + 1 → k < j → j < length xs → Precedes (slice_index_or xs k d).0 (slice_index_or xs j d).0
+-- the paths before a place are clean
+abbrev CleanBefore : List (List ℕ × Entry) → ℕ → Type 0
+CleanBefore xs i = (k : ℕ) (d : List ℕ × Entry) → k < i → IsClean (get_or xs k d).0
+
+-- each path before a place precedes all that stand behind it
+abbrev OrderedBefore : List (List ℕ × Entry) → ℕ → Type 0
+OrderedBefore xs i = (k j : ℕ) (d : List ℕ × Entry) → k < i → k < j → j < length xs → Precedes (get_or xs k d).0 (get_or xs j d).0
+
+pub ordered_more : (xs : List (List ℕ × Entry)) (i : ℕ) (path : List ℕ) (e : List ℕ × Entry) → i < length xs → e ≡ get_or xs i e → path ≡ e.0 → IsSortedByPath xs → All (λ x. IsAtOrBelow path x.0 → ⊥) (take (length xs - (i + 1)) (drop (i + 1) xs)) → OrderedBefore xs i → OrderedBefore xs (i + 1)
 ordered_more xs i path e lt is same sorted all below k j d k_lt kj j_lt =
     below_more (λ m. m < j → Precedes (get_or xs m d).0 (get_or xs j d).0) i (λ m h mj. below m j d h mj j_lt)
     (λ ij.
@@ -256,7 +264,7 @@ no_common_path a b q e f p =
     before_itself q (subst P e (subst Q f p.before))
 
 -- the first bad place has the first bad path
-pub first_bad : (xs : List (List ℕ × Entry)) (i : ℕ) (path : List ℕ) → StandsAt xs path i → IsSortedByPath xs → ((k : ℕ) (d : List ℕ × Entry) → k < i → IsClean (get_or xs k d).0) → ((k j : ℕ) (d : List ℕ × Entry) → k < i → k < j → j < length xs → Precedes (get_or xs k d).0 (get_or xs j d).0) → (q : List ℕ) → IsBadPath xs q → IsUpTo path q
+pub first_bad : (xs : List (List ℕ × Entry)) (i : ℕ) (path : List ℕ) → StandsAt xs path i → IsSortedByPath xs → CleanBefore xs i → OrderedBefore xs i → (q : List ℕ) → IsBadPath xs q → IsUpTo path q
 first_bad xs i path at sorted clean ordered q bad = by (cases_lt bad.stands.0 i)
   where
     stands : StandsAt xs q (bad.stands.0)
@@ -284,7 +292,7 @@ first_bad xs i path at sorted clean ordered q bad = by (cases_lt bad.stands.0 i)
     by (inl lt) = why lt bad.bad
     by (inr ge) = up_to_later xs i bad.stands.0 path q at stands sorted ge
 
-first_bad_at : (xs : List (List ℕ × Entry)) (i : ℕ) (path : List ℕ) (e : List ℕ × Entry) → i < length xs → e ≡ get_or xs i e → path ≡ e.0 → IsSortedByPath xs → ((k : ℕ) (d : List ℕ × Entry) → k < i → IsClean (get_or xs k d).0) → ((k j : ℕ) (d : List ℕ × Entry) → k < i → k < j → j < length xs → Precedes (get_or xs k d).0 (get_or xs j d).0) → (IsClean path → ⊥) ⊎ (StandsTwice xs path ⊎ Any (λ x. IsBelow path x.0) xs) → (d : List ℕ × Entry) → IsFirstBadPath xs (get_or xs i d).0
+first_bad_at : (xs : List (List ℕ × Entry)) (i : ℕ) (path : List ℕ) (e : List ℕ × Entry) → i < length xs → e ≡ get_or xs i e → path ≡ e.0 → IsSortedByPath xs → CleanBefore xs i → OrderedBefore xs i → (IsClean path → ⊥) ⊎ (StandsTwice xs path ⊎ Any (λ x. IsBelow path x.0) xs) → (d : List ℕ × Entry) → IsFirstBadPath xs (get_or xs i d).0
 first_bad_at xs i path e lt is same sorted clean ordered why d =
     let P : List ℕ → Type 0 = λ p. IsFirstBadPath xs p in
     subst P (same ∙ ap (λ x. x.0) (get_or_read xs i e lt is d)) (record {
@@ -293,7 +301,7 @@ first_bad_at xs i path e lt is same sorted clean ordered why d =
     })
 
 -- a place before which all is well, with a path that isn't clean
-pub bad_from_unclean : (xs : List (List ℕ × Entry)) (i : ℕ) (path : List ℕ) (e : List ℕ × Entry) → i < length xs → e ≡ get_or xs i e → path ≡ e.0 → IsSortedByPath xs → ((k : ℕ) (d : List ℕ × Entry) → k < i → IsClean (get_or xs k d).0) → ((k j : ℕ) (d : List ℕ × Entry) → k < i → k < j → j < length xs → Precedes (get_or xs k d).0 (get_or xs j d).0) → (IsClean path → ⊥) → (d : List ℕ × Entry) → IsFirstBadPath xs (get_or xs i d).0
+pub bad_from_unclean : (xs : List (List ℕ × Entry)) (i : ℕ) (path : List ℕ) (e : List ℕ × Entry) → i < length xs → e ≡ get_or xs i e → path ≡ e.0 → IsSortedByPath xs → CleanBefore xs i → OrderedBefore xs i → (IsClean path → ⊥) → (d : List ℕ × Entry) → IsFirstBadPath xs (get_or xs i d).0
 bad_from_unclean xs i path e lt is same sorted clean ordered unclean d =
     first_bad_at xs i path e lt is same sorted clean ordered (inl unclean) d
 
@@ -314,7 +322,7 @@ covered_behind xs i path at any = by any.4
     by (inr b) = inr (i + 1 + any.0, any.1, within, element any.1, b)
 
 -- or with a path that another entry behind it has, or lies below
-pub bad_from_covered : (xs : List (List ℕ × Entry)) (i : ℕ) (path : List ℕ) (e : List ℕ × Entry) → i < length xs → e ≡ get_or xs i e → path ≡ e.0 → IsSortedByPath xs → ((k : ℕ) (d : List ℕ × Entry) → k < i → IsClean (get_or xs k d).0) → ((k j : ℕ) (d : List ℕ × Entry) → k < i → k < j → j < length xs → Precedes (get_or xs k d).0 (get_or xs j d).0) → Any (λ x. IsAtOrBelow path x.0) (take (length xs - (i + 1)) (drop (i + 1) xs)) → (d : List ℕ × Entry) → IsFirstBadPath xs (get_or xs i d).0
+pub bad_from_covered : (xs : List (List ℕ × Entry)) (i : ℕ) (path : List ℕ) (e : List ℕ × Entry) → i < length xs → e ≡ get_or xs i e → path ≡ e.0 → IsSortedByPath xs → CleanBefore xs i → OrderedBefore xs i → Any (λ x. IsAtOrBelow path x.0) (take (length xs - (i + 1)) (drop (i + 1) xs)) → (d : List ℕ × Entry) → IsFirstBadPath xs (get_or xs i d).0
 bad_from_covered xs i path e lt is same sorted clean ordered any d =
     first_bad_at xs i path e lt is same sorted clean ordered (inr (covered_behind xs i path (lt, λ f. sym (same ∙ ap (λ x. x.0) (get_or_read xs i e lt is f))) any)) d
 

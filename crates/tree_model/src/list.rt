@@ -76,12 +76,33 @@ impl ListOf<Text> {
         ensures { IfOk result (λ made. made ≡ self.now) }
     {
         Ok(ListOf {
-            items: texts_again(*self.items.allocator(), &self.items)?,
+            items: copy_texts(*self.items.allocator(), &self.items)?,
         })
     }
 }
 
-fn texts_again(alloc: Global, texts: &[Text]) -> Result<Vec<Text>, Mem>
+impl ListOf<(Text, Text)> {
+    /// The same pairs again.
+    pub fn copy(&self) -> Result<ListOf<(Text, Text)>, Mem>
+        ensures { IfOk result (λ made. made ≡ self.now) }
+    {
+        Ok(ListOf {
+            items: copy_pairs(*self.items.allocator(), &self.items)?,
+        })
+    }
+}
+
+fn copy_pairs(alloc: Global, pairs: &[(Text, Text)]) -> Result<Vec<(Text, Text)>, Mem>
+    ensures { IfOk result (λ made. made.items ≡ pairs.now) }
+{
+    let mut made = Vec::with_capacity(alloc, pairs.len())?;
+    for pair in pairs {
+        made.push((pair.0.copy()?, pair.1.copy()?))?;
+    }
+    Ok(made)
+}
+
+fn copy_texts(alloc: Global, texts: &[Text]) -> Result<Vec<Text>, Mem>
     ensures { IfOk result (λ made. made.items ≡ texts.now) }
 {
     let mut made = Vec::with_capacity(alloc, texts.len())?;

@@ -8,7 +8,7 @@ use Rattle.meta_model.specs.Expansion.{Find}
 use Rattle.meta_model.proofs.Passing.{behind_ends, next_of}
 use Rattle.var_expand.specs.declared.fault.ExpandFault.{ExpandFault}
 use Rattle.var_expand.specs.Faults.{IsFaultOf}
-use Rattle.var_expand.specs.References.{looked_up}
+use Rattle.meta_model.specs.References.{looked_up}
 use Rattle.task_model.specs.Views.{is_function}
 use Rattle.task_model.specs.Leads.{all_looked_up, functions_of}
 use Rattle.var_deps.specs.Reading.{function_named, flag_looked_up}

@@ -5,7 +5,7 @@ use Rattle.meta_model.specs.declared.value.Resolved.{Resolved}
 use Rattle.meta_model.specs.Refusal.{Refusal, ◌>>=◌}
 use Rattle.meta_model.specs.Expansion.{Find}
 use Rattle.meta_model.specs.Base.{flag, names}
-use Rattle.var_expand.specs.References.{looked_up}
+use Rattle.meta_model.specs.References.{looked_up}
 use Rattle.task_model.specs.Views.{is_function}
 use Rattle.task_model.specs.Leads.{View, Led, flag_words, by_value, by_flags, without}
 use Rattle.task_model.specs.Keys.{Told, line_value, own_value}

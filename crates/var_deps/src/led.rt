@@ -2,7 +2,7 @@
 ghost use Rattle.std.specs.Prelude.{◌≡◌, ◌++◌, ◌∷◌, [], ◌<◌, true, false, List, ℕ, Some, None, IfOk, IfErr, OnOk, Ok, length, codes, slice_index_or};
 ghost use Rattle.meta_model.specs.Base.{flag};
 ghost use Rattle.var_expand.specs.Faults.{IsFaultOf};
-ghost use Rattle.var_expand.specs.References.{looked_up};
+ghost use Rattle.meta_model.specs.References.{looked_up};
 ghost use Rattle.task_model.specs.Views.{is_function};
 ghost use Rattle.task_model.specs.Leads.{flag_words, all_looked_up, functions_of, called_by, by_text, by_value, by_flags, read_flags, without};
 ghost use Rattle.var_deps.specs.Seen.{seen_with};

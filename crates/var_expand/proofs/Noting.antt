@@ -13,7 +13,7 @@ use Rattle.var_expand.specs.declared.parts.Part.{Part, Plain, Ref, Ref'}
 use Rattle.var_expand.specs.declared.parts.Parts.{Parts as Pieces}
 use Rattle.var_expand.specs.Faults.{IsFaultOf}
 use Rattle.var_expand.specs.Pieces.{text_before, part_before, parts_in, parts_in_row}
-use Rattle.var_expand.specs.References.{names_looked_up, noted}
+use Rattle.meta_model.specs.References.{names_looked_up, noted}
 use Rattle.var_expand.proofs.Pieces.{ref_part}
 
 fold_more : (names xs ys : List (List ℕ)) → fold into_order names (xs ++ ys) ≡ fold into_order (fold into_order names xs) ys

@@ -3,6 +3,5 @@ pub mod Faults
 pub mod Going
 pub mod Pieces
 pub mod ReadOn
-pub mod References
 pub mod Standing
 pub mod ValueTable

@@ -4,7 +4,7 @@ ghost use Rattle.meta_model.specs.Expansion.{value_by};
 ghost use Rattle.meta_model.specs.Parts.{end, reference};
 ghost use Rattle.var_expand.specs.Faults.{IsFaultOf};
 ghost use Rattle.var_expand.specs.Pieces.{part_before, parts_in};
-ghost use Rattle.var_expand.specs.References.{looked_up, noted};
+ghost use Rattle.meta_model.specs.References.{looked_up, noted};
 
 use crate::expansion::expand_name;
 use crate::fault::ExpandFault;

@@ -2,7 +2,7 @@ use Rattle.std.proofs.Common.{◌≡◌, ◌∙◌, ap, sym, Ok, codes}
 use Rattle.std.proofs.lemmas.Result.{IfOk-weaker, IfErr-weaker}
 use Rattle.datastore.specs.Faults.{IsDataFault}
 use Rattle.load_model.specs.Layers.{words_of}
-use Rattle.load_model.specs.Facts.{needed_words, all_packages}
+use Rattle.load_model.specs.Facts.{needed_words, recipe_packages}
 use Rattle.recipe_facts.specs.Recipe.{packages_of}
 use Rattle.datastore.proofs.Freezing.{fault_on, fault_same}
 use Rattle.recipe_facts.proofs.Binding.{exit, fault_later}
@@ -46,8 +46,8 @@ returns-clause-ok c =
     let same = goes_on (words_of lines (codes "PACKAGES")) names (packages1 lines) c.in_ok-names.ensures.ok
     ∙ goes_on (words_of lines (codes "RPROVIDES")) provided (packages2 lines names) c.in_ok-provided.ensures.ok
     ∙ goes_on (needed_words lines (codes "RDEPENDS")) needed (packages3 lines names provided) c.in_ok-needed.ensures.ok
-    ∙ ap (all_packages lines provided needed) (sym c.as_slice.ensures) in
-    IfOk-weaker c.all_packages.result (λ made. all_packages lines provided needed c.as_slice.result.now ≡ Ok made) (λ made. packages_of lines ≡ Ok made) (λ made e. same ∙ e) c.all_packages.ensures.ok
+    ∙ ap (recipe_packages lines provided needed) (sym c.as_slice.ensures) in
+    IfOk-weaker c.recipe_packages.result (λ made. recipe_packages lines provided needed c.as_slice.result.now ≡ Ok made) (λ made. packages_of lines ≡ Ok made) (λ made e. same ∙ e) c.recipe_packages.ensures.ok
 
 pub returns-clause-err : goal.returns-clause-err
 returns-clause-err c =
@@ -58,6 +58,6 @@ returns-clause-err c =
     let same = goes_on (words_of lines (codes "PACKAGES")) names (packages1 lines) c.in_ok-names.ensures.ok
     ∙ goes_on (words_of lines (codes "RPROVIDES")) provided (packages2 lines names) c.in_ok-provided.ensures.ok
     ∙ goes_on (needed_words lines (codes "RDEPENDS")) needed (packages3 lines names provided) c.in_ok-needed.ensures.ok
-    ∙ ap (all_packages lines provided needed) (sym c.as_slice.ensures) in
-    IfErr-weaker c.all_packages.result (λ fault. IsDataFault fault (all_packages lines provided needed c.as_slice.result.now)) (λ fault. IsDataFault fault (packages_of lines))
-    (λ fault h. fault_same fault (packages_of lines) (all_packages lines provided needed c.as_slice.result.now) same h) c.all_packages.ensures.err
+    ∙ ap (recipe_packages lines provided needed) (sym c.as_slice.ensures) in
+    IfErr-weaker c.recipe_packages.result (λ fault. IsDataFault fault (recipe_packages lines provided needed c.as_slice.result.now)) (λ fault. IsDataFault fault (packages_of lines))
+    (λ fault h. fault_same fault (packages_of lines) (recipe_packages lines provided needed c.as_slice.result.now) same h) c.recipe_packages.ensures.err

@@ -1,9 +1,9 @@
 use Rattle.std.proofs.Common.{◌≡◌, ◌<◌, ◌≤◌, ◌∙◌, arith, length, sym, subst, List, ℕ, [], All, ap, Some, slice_get}
 use Rattle.std.specs.List.{AllZip}
 use Rattle.std.proofs.lemmas.Result.{err_from_is_err_and}
-use Rattle.meta_model.specs.TaskGraph.{HasMoreTasks}
+use Rattle.meta_model.specs.TaskGraph.{HasMoreTasks, IsGraphRefusal}
 use Rattle.graph_walk.specs.Frontier.{with_nodes, IsSearch}
-use Rattle.task_graph.specs.Reached.{IsGraphRefusal, TaskEdge}
+use Rattle.task_graph.specs.Reached.{TaskEdge}
 use Rattle.graph_walk.proofs.Searching.{search_first}
 use Rattle.task_graph.proofs.Reaching.{starts_within, places_within, all_weaker, reaching_first, fault_weaker, more_tasks}
 use Rattle.task_graph.proofs.reach.find_targets.Goals as goal

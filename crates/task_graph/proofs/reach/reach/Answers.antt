@@ -1,9 +1,9 @@
 use Rattle.std.proofs.Common.{◌≡◌, ◌+◌, ◌<◌, ◌≤◌, arith, length, sym, subst, refl, List, ℕ, Some, slice_get}
 use Rattle.std.proofs.lemmas.Option.{slice_get_read}
 use Rattle.std.proofs.lemmas.Result.{err_from_is_err_and}
-use Rattle.meta_model.specs.TaskGraph.{HasMoreTasks}
+use Rattle.meta_model.specs.TaskGraph.{HasMoreTasks, IsGraphRefusal}
 use Rattle.task_graph.specs.Edges.{IsRefusedAt}
-use Rattle.task_graph.specs.Reached.{GoesBeyond, IsGraphRefusal, IsReaching, AreReached}
+use Rattle.task_graph.specs.Reached.{GoesBeyond, IsReaching, AreReached}
 use Rattle.task_graph.proofs.Reaching.{reaching_number, next_refused, next_beyond, reaching_step, reaching_done, fault_weaker}
 use Rattle.task_graph.proofs.reach.reach.Goals as goal
 

@@ -17,4 +17,7 @@ pub returns-clause-ok : goal.returns-clause-ok
 returns-clause-ok c = rw (take_all _ _ c.loop-entry-test.false) at c.loop-entry.invariant.made
 
 pub returns-then-not-is_clean-clause-refused : goal.returns-then-not-is_clean-clause-refused
-returns-then-not-is_clean-clause-refused c = first_unclean c.args.entries.now c.loop-entry.entry-index c.entry-item.result c.args.folder.now c.as_str.result.now c.in_ok-path.path c.as_str-in-loop-entry.result.now c.loop-entry-test.true c.entry-item.is c.as_str.ensures c.in_ok-path.ensures c.as_str-in-loop-entry.ensures (λ h. true≢false (sym (c.is_clean.ensures.1 h) ∙ c.if-not-is_clean.true)) c.loop-entry.invariant.clean
+returns-then-not-is_clean-clause-refused c =
+    first_unclean c.args.entries.now c.loop-entry.entry-index c.entry-item.result c.args.folder.now c.as_str.result.now c.in_ok-path.path c.as_str-in-loop-entry.result.now
+    c.loop-entry-test.true c.entry-item.is c.as_str.ensures c.in_ok-path.ensures c.as_str-in-loop-entry.ensures
+    (λ h. true≢false (sym (c.is_clean.ensures.1 h) ∙ c.if-not-is_clean.true)) c.loop-entry.invariant.clean

@@ -1,5 +1,5 @@
 use Rattle.std.proofs.Common.{◌∙◌, ap, sym}
-use Rattle.var_expand.specs.References.{looked_up}
+use Rattle.meta_model.specs.References.{looked_up}
 use Rattle.task_model.specs.Leads.{all_looked_up}
 use Rattle.var_deps.specs.Seen.{seen_with}
 use Rattle.meta_model.specs.Passing.{behind}

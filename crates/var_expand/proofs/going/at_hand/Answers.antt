@@ -1,5 +1,6 @@
 use Rattle.std.proofs.Common.{◌∙◌, refl, sym, false}
 use Rattle.std.proofs.lemmas.Result.{err_from_is_err_and}
+use Rattle.var_expand.specs.declared.going.Going.{Going}
 use Rattle.var_expand.specs.Going.{kept_of, has_no_more}
 use Rattle.var_expand.proofs.Growing.{kept_at_hand, none_at_hand, plain_at_hand, plain_too_long}
 use Rattle.var_expand.proofs.going.at_hand.Goals as goal
@@ -25,5 +26,6 @@ returns-in_err-value-clause-err g c =
 pub returns-clause-ok : goal.returns-clause-ok
 returns-clause-ok g c =
     let found = rw (c.in-Some-2.is, c.as_slice.ensures.value) at c.in_ok-found.ensures.ok in
-    let hit = plain_at_hand (g.L.Lookup.finds c.args.from.now) c.args.left c.args.going.now (record { within = c.args.going.now.within; values = c.args.going.now.values; height = c.higher-going-2.result }) c.args.name.now c.in_ok-value.value c.in-Some-2.found c.requires found.0 found.1 found.2 (sym c.has_no_more.ensures ∙ c.if-not-has_no_more.false) c.in_ok-value.ensures.ok c.in_ok-value.ensures.fits refl c.higher-going-2.ensures in
+    let next : Going = record { within = c.args.going.now.within; values = c.args.going.now.values; height = c.higher-going-2.result } in
+    let hit = plain_at_hand (g.L.Lookup.finds c.args.from.now) c.args.left c.args.going.now next c.args.name.now c.in_ok-value.value c.in-Some-2.found c.requires found.0 found.1 found.2 (sym c.has_no_more.ensures ∙ c.if-not-has_no_more.false) c.in_ok-value.ensures.ok c.in_ok-value.ensures.fits refl c.higher-going-2.ensures in
     (hit.0, refl, hit.1, hit.2)

@@ -3,7 +3,7 @@ use Rattle.std.proofs.lemmas.Result.{err_from_is_err_and}
 use Rattle.meta_model.specs.Parts.{end, depth}
 use Rattle.meta_model.specs.Expansion.{value_by}
 use Rattle.var_expand.specs.Pieces.{part_before, parts_in, parts_in_list}
-use Rattle.var_expand.specs.References.{noted}
+use Rattle.meta_model.specs.References.{noted}
 use Rattle.var_expand.proofs.Expanding.{fault_same, ref_depth, part_depth, cut_part}
 use Rattle.var_expand.proofs.Noting.{part_next, part_fault, part_plain, ref_ok, ref_err}
 use Rattle.var_expand.proofs.names.+noting.Goals as goal

@@ -2,7 +2,7 @@ use Rattle.std.proofs.Common.{◌≡◌, ◌+◌, ◌*◌, drop}
 use Rattle.meta_model.specs.Parts.{end, depth}
 use Rattle.meta_model.specs.Expansion.{value_by}
 use Rattle.var_expand.specs.Pieces.{part_before, parts_in, parts_in_list}
-use Rattle.var_expand.specs.References.{noted}
+use Rattle.meta_model.specs.References.{noted}
 use Rattle.var_expand.proofs.names.+noting.Given as goal
 
 abbrev pub decreases-note_reference : goal.decreases-note_reference

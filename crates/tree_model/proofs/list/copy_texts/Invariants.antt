@@ -1,5 +1,5 @@
 use Rattle.std.proofs.Common.{◌≡◌, take}
-use Rattle.tree_model.proofs.list.texts_again.Given as goal
+use Rattle.tree_model.proofs.list.copy_texts.Given as goal
 
 abbrev pub invariant-loop-text : goal.invariant-loop-text
 invariant-loop-text l = l.made.items ≡ take l.text-index l.texts

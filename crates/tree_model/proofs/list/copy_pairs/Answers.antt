@@ -1,0 +1,5 @@
+use Rattle.std.proofs.lemmas.List.{take_all}
+use Rattle.tree_model.proofs.list.copy_pairs.Goals as goal
+
+pub returns : goal.returns
+returns c = rw (take_all _ _ c.loop-pair-test.false) at c.loop-pair.invariant
