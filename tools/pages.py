@@ -6,7 +6,8 @@ Usage: tools/pages.py [--check]
 Each number of NUMBERS stands once in its page, where its text says, and is written there; with --check nothing is written. The status is 1 where
 a number isn't right, a crate or a folder of edits is in no page, a page names a file that isn't there, a table has the crates in another
 order than crates.txt, a crate doesn't name a library that is listed for it, a crate of code has a file of definitions that has to be
-believed, the line that an edit changes doesn't stand once in its file, or a cell of a table of docs/PROOFS.md has more than 60 words.
+believed, the line that an edit changes doesn't stand once in its file, a cell of a table of docs/PROOFS.md has more than 60 words, or a line of
+code, definitions or proofs has more than 400 columns.
 """
 import glob
 import os
@@ -147,11 +148,18 @@ def cells():
             wrong.extend(f"docs/PROOFS.md:{number}: a cell of {len(it.split())} words: {it.strip()[:40]}.." for it in long)
 
 
+def long_lines():
+    """No line of code, definitions or proofs has more than 400 columns: what a lemma is given goes in one record there."""
+    for file in sorted(it for end in ("rt", "antt") for part in ("src", "specs", "proofs") for it in glob.glob(f"crates/*/{part}/**/*.{end}", recursive=True)):
+        wrong.extend(f"{file}:{number}: a line of {len(line)} columns" for number, line in enumerate(read(file).splitlines(), 1) if len(line) > 400)
+
+
 numbers()
 crates()
 files()
 believed()
 edits()
 cells()
+long_lines()
 print(*wrong, sep="\n", end="\n" if wrong else "")
 sys.exit(1 if wrong else 0)

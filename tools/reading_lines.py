@@ -23,7 +23,7 @@ ROOTS = [
     "crates/bitbake_top/src/top.rt",
     "crates/meta_model/src/event.rt",
     "crates/bitbake_top/src/laws.rt",
-    "crates/run_plan/src/laws.rt",
+    "crates/target_plan/src/laws.rt",
 ]
 # the heart: what each of its tables follows
 HEART = {

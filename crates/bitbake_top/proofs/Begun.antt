@@ -12,7 +12,7 @@ use Rattle.meta_model.specs.declared.plan.Plan.{Plan}
 use Rattle.project_reading.specs.Answered.{is_failed_read}
 use Rattle.answer_model.specs.Answers.{is_refusal}
 use Rattle.answer_model.specs.Project.{not_built}
-use Rattle.run_plan.proofs.OnePlan.{plan_not_refused, plans_are_one}
+use Rattle.target_plan.proofs.OnePlan.{plan_not_refused, plans_are_one}
 use Rattle.run_model.specs.Build.{MayEndSo, is_unsteady}
 use Rattle.build_resume.specs.Build.{is_collision}
 use Rattle.answer_model.specs.Devices.{IsUnchanged}

@@ -10,8 +10,8 @@ use Rattle.run_model.specs.Texts.{dry_text}
 use Rattle.plan_model.specs.Inputs.{Files}
 use Rattle.answer_model.specs.Answers.{is_refusal}
 use Rattle.answer_model.specs.Plans.{HasPlan}
-use Rattle.run_plan.specs.Plans.{IsNoPlan}
-use Rattle.run_plan.proofs.OnePlan.{plans_are_one, plan_not_refused}
+use Rattle.target_plan.specs.Plans.{IsNoPlan}
+use Rattle.target_plan.proofs.OnePlan.{plans_are_one, plan_not_refused}
 use Rattle.answer_model.specs.declared.asked.Asked.{Asked}
 use Rattle.answer_model.specs.declared.asked.Asked.TheVariants.{Plans}
 use Rattle.answer_model.specs.declared.asked.DryRequest.{DryRequest}

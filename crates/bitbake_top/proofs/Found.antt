@@ -5,7 +5,7 @@ use Rattle.outside_traits.specs.Store.{IsListing}
 use Rattle.meta_model.specs.declared.event.Status.{Status}
 use Rattle.meta_model.specs.declared.plan.Plan.{Plan}
 use Rattle.answer_model.specs.Plans.{HasPlan}
-use Rattle.run_plan.specs.Plans.{IsNoPlan}
+use Rattle.target_plan.specs.Plans.{IsNoPlan}
 use Rattle.answer_model.specs.declared.asked.RunRequest.{RunRequest}
 use Rattle.answer_model.specs.Run.{Files, IsRunPlan, IsUnrun}
 

@@ -9,7 +9,7 @@ ghost use Rattle.run_model.specs.Texts.{dry_text as text_of, fault_text};
 ghost use Rattle.run_model.specs.Written.{WritesFront};
 ghost use Rattle.answer_model.specs.Dry.{HasDry, IsDryPlan};
 ghost use Rattle.bitbake_top.specs.Dry.{IsDryText};
-ghost use Rattle.run_plan.specs.Plans.{IsNoPlan};
+ghost use Rattle.target_plan.specs.Plans.{IsNoPlan};
 
 use crate::answer::{print, refuse};
 use answer_model::DryRequest;
@@ -17,7 +17,7 @@ use bb_report::dry_text;
 use meta_model::Status;
 use outside_traits::{Layers, Sink};
 use project_reading::or_status;
-use run_plan::find_plan;
+use target_plan::find_plan;
 use std::alloc::Global;
 use tree_model::Text;
 

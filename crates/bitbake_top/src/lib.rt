@@ -1,6 +1,6 @@
 //! The top call: everything that the program does, over the devices that it is handed.
 //!
-//! `bitbake` reads the words behind the program's name and does what they ask for: it finds the plan of a run's targets (`run_plan`)
+//! `bitbake` reads the words behind the program's name and does what they ask for: it finds the plan of a run's targets (`target_plan`)
 //! and runs it (`build_resume`), prints what a mode gives that only reads metadata (`read_modes`), prints the plan of targets, or
 //! refuses the words. It hands the devices back with its status, the plan and the tale.
 //!
@@ -38,5 +38,5 @@ mod top;
 mod whole;
 
 pub use finish::Finish;
-pub use laws::begin_laws;
+pub use laws::{begin_laws, era_laws};
 pub use top::bitbake;

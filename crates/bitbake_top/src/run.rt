@@ -24,7 +24,7 @@ use answer_model::RunRequest;
 use build_store::Ahead;
 use meta_model::{Plan, Status};
 use outside_traits::{Bench, Disk, Layers, Sink};
-use run_plan::find_plan;
+use target_plan::find_plan;
 use std::alloc::Global;
 use std::sync::Wait;
 use std::thread::Threads;

@@ -16,3 +16,4 @@ pub mod Outcome
 pub mod Benches
 pub mod Build
 pub mod Headline
+pub mod Era

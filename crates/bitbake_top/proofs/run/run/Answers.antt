@@ -1,7 +1,7 @@
 use Rattle.std.proofs.Common.{refl, subst}
 use Rattle.meta_model.specs.declared.plan.Plan.{Plan}
 use Rattle.run_model.specs.Build.{AllClean, TellsDifference}
-use Rattle.run_plan.proofs.OnePlan.{plan_of_words_is_wanted}
+use Rattle.target_plan.proofs.OnePlan.{plan_of_words_is_wanted}
 use Rattle.answer_model.specs.Run.{IsRunPlan}
 use Rattle.bitbake_top.proofs.Begun.{all_of_none, all_of_one, found_one, one_plan, refused_cause, refused_found, refused_not_ok, refused_steady, run_cause, run_goes_on, run_is_built, run_is_read, unrun_fails, unrun_is_built, unrun_of_run, unrun_told}
 use Rattle.bitbake_top.proofs.Devices.{unchanged_rose}
