@@ -298,12 +298,13 @@ pub fn example_of_facts()
           preferred = [];
           assumed = [];
         }) }
-    // the words of PROVIDES and DEPENDS, with references and removes
+    // the words of PROVIDES and DEPENDS, with references and removes; without packages those of RDEPENDS and RPROVIDES
     ensures words { facts_in
         ((
           (codes "recipes/a.bb"),
           (codes
-              "PROVIDES = \"x ${PN}-y\"\nDEPENDS = \"b c b\"\nDEPENDS:remove = \"c\"\nPACKAGES = \"\""),
+              "PROVIDES = \"x ${PN}-y\"\nDEPENDS = \"b c b\"\nDEPENDS:remove = \"c\"\nPACKAGES = \"\"\n"
+              ++ codes "RDEPENDS = \"r\"\nRPROVIDES = \"q\"\nRDEPENDS:a = \"s\""),
         ) ∷ [])
         ≡ Ok (record {
           recipes = (record {
@@ -313,7 +314,7 @@ pub fn example_of_facts()
             pr = (codes "r0");
             provides = ((codes "x") ∷ (codes "a-y") ∷ []);
             depends = ((codes "b") ∷ (codes "b") ∷ []);
-            packages = [];
+            packages = (record { name = []; rdepends = ((codes "r") ∷ []); rprovides = ((codes "q") ∷ []) } ∷ []);
             tasks = [];
           } ∷ []);
           preferred = [];
@@ -360,7 +361,7 @@ pub fn example_of_facts()
             pr = (codes "r0");
             provides = [];
             depends = [];
-            packages = [];
+            packages = (record { name = []; rdepends = []; rprovides = [] } ∷ []);
             tasks = (record {
               task = (codes "do_a");
               after = [];
@@ -396,7 +397,7 @@ pub fn example_of_facts()
             pr = (codes "r0");
             provides = [];
             depends = [];
-            packages = [];
+            packages = (record { name = []; rdepends = []; rprovides = [] } ∷ []);
             tasks = (record {
               task = (codes "do_b");
               after = [];
@@ -442,7 +443,7 @@ pub fn example_of_facts()
             pr = (codes "r0");
             provides = [];
             depends = [];
-            packages = [];
+            packages = (record { name = []; rdepends = []; rprovides = [] } ∷ []);
             tasks = [];
           } ∷ []);
           preferred = [];
