@@ -4,8 +4,8 @@
 Usage: bench/gate_minutes.py [--log FILE] [--into FILE] [--anew] [CRATE ..]
   --log FILE     where what `rt ci` prints is written (gate.log in the folder for temporary files)
   --into FILE    puts the table between the two marks of this file, as docs/GATE.md has them, in place of printing it
-  --anew         proves everything, also what an earlier run on this machine proved; kit 13b keeps nothing, so there it changes nothing
-  CRATE ..       these crates and those below them alone; with kit 13f, since `rt ci` of kit 13b takes no names
+  --anew         proves everything, also what an earlier run on this machine proved
+  CRATE ..       these crates and those below them alone
   --before COMMIT adds a column with the minutes that docs/GATE.md had at that commit
   --join FILE .. runs nothing: makes one table of those that earlier runs over other crates printed, each into a file
 
@@ -200,11 +200,7 @@ def main():
         return 0
     began = time.time()
     commit = subprocess.run(["git", "rev-parse", "--short", "HEAD"], capture_output=True, text=True).stdout.strip()
-    told = subprocess.run(["rt", "help"], stdout=subprocess.PIPE, stderr=subprocess.STDOUT, text=True).stdout
-    keeps = "--anew" in told
-    if given.crates and not keeps:
-        sys.exit("gate_minutes: `rt ci` of this kit takes no names of crates and proves all of them: leave the names out")
-    status, sums, whole = watch(["rt", "ci", *["--anew"] * (given.anew and keeps), *given.crates], given.log)
+    status, sums, whole = watch(["rt", "ci", *["--anew"] * given.anew, *given.crates], given.log)
     last = open(given.log, errors="replace").read().rstrip("\n").rpartition("\n")[2]
     head = f"Commit {commit}, {os.cpu_count()} processors, {(time.time() - began) / 60:.0f} minutes by the clock: `{last}`."
     lines = [head, "", *table(sums, whole)]
