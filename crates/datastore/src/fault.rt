@@ -85,7 +85,7 @@ impl From<ExpandFault> for DataFault {
 }
 
 /// The same fault again.
-fn copy_of(fault: &ExpandFault) -> Result<ExpandFault, Mem>
+pub fn copy_fault(fault: &ExpandFault) -> Result<ExpandFault, Mem>
     ensures { IfOk result (λ made. made ≡ fault.now) }
 {
     Ok(match fault {
@@ -101,10 +101,10 @@ fn copy_of(fault: &ExpandFault) -> Result<ExpandFault, Mem>
 }
 
 /// The same fault again, or want of memory.
-pub(crate) fn again(fault: &ExpandFault) -> ExpandFault
+pub(crate) fn copy_or_memory(fault: &ExpandFault) -> ExpandFault
     ensures { IsFaultOf result (refused_by fault.now) }
 {
-    match copy_of(fault) {
+    match copy_fault(fault) {
         Ok(made) => made,
         Err(_) => ExpandFault::Memory,
     }

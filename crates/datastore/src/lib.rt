@@ -10,8 +10,8 @@
 //! names that hold references. Want of memory alone is free, and has an answer of its own.
 #![tactic(auto)]
 
-mod again;
 mod by_name;
+mod copies;
 mod fault;
 mod forms;
 mod found;
@@ -28,5 +28,5 @@ mod store;
 mod tasks;
 
 pub use by_name::{names_of, put_value};
-pub use fault::DataFault;
+pub use fault::{DataFault, copy_fault};
 pub use store::{Datastore, SharedStore};

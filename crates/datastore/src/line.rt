@@ -77,7 +77,7 @@ fn task_of(task: &Text, after: &Texts, before: &Texts) -> Result<EntryLine, Mem>
 }
 
 /// The same entry again.
-pub(crate) fn copy_of(line: &EntryLine) -> Result<EntryLine, Mem>
+pub(crate) fn copy_line(line: &EntryLine) -> Result<EntryLine, Mem>
     ensures { IfOk result (λ made. made ≡ line.now) }
 {
     match line {
@@ -119,8 +119,8 @@ fn push_task(lines: &mut Vec<EntryLine>, line: &EntryLine) -> Result<(), Mem>
     ensures { OnOk result (lines.new.items ≡ lines.old.items ++ filter is_task_line (line.now ∷ [])) }
 {
     match line {
-        EntryLine::Task { .. } => push_line(lines, copy_of(line)?),
-        EntryLine::NoTask { .. } => push_line(lines, copy_of(line)?),
+        EntryLine::Task { .. } => push_line(lines, copy_line(line)?),
+        EntryLine::NoTask { .. } => push_line(lines, copy_line(line)?),
         _ => Ok(()),
     }
 }

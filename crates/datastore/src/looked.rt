@@ -7,7 +7,7 @@ ghost use Rattle.var_expand.specs.Faults.{IsFaultOf};
 ghost use Rattle.datastore.specs.Faults.{IsDataFault, refusal_of};
 ghost use Rattle.datastore.specs.Looked.{IsMeant, found_under};
 
-use crate::fault::{DataFault, again};
+use crate::fault::{DataFault, copy_or_memory};
 use crate::store::Datastore;
 use meta_model::Resolved;
 use override_eval::{OverrideFault, OverrideText, settle};
@@ -114,7 +114,7 @@ impl Lookup for Over<'_> {
             Overrides::Settled(active) => {
                 Ok(self.store.resolved_under(alloc, name, active.as_slice())?)
             }
-            Overrides::Refused(fault) => Err(again(fault)),
+            Overrides::Refused(fault) => Err(copy_or_memory(fault)),
         }
     }
 }

@@ -36,7 +36,7 @@ pub(crate) struct Maps {
 }
 
 /// The same shared entries again.
-pub(crate) fn again(base: &Option<Rc<Base>>) -> Result<Option<Rc<Base>>, Mem>
+pub(crate) fn copy_base(base: &Option<Rc<Base>>) -> Result<Option<Rc<Base>>, Mem>
     ensures { IfOk result (λ made. option_map rc_value made ≡ option_map rc_value base.now) }
 {
     match base {

@@ -16,12 +16,12 @@ ghost use Rattle.datastore.specs.Parts.{moved_with};
 
 use crate::fault::DataFault;
 use crate::freeze::{apply_all, retold, told_anew};
-use crate::line::{copy_of, push_tasks};
+use crate::line::{copy_line, push_tasks};
 use crate::looked::{
     Overrides, expand_anew, expand_over, overrides_of, resolved_anew, resolved_over, value_anew,
     value_over,
 };
-use crate::maps::{Base, Maps, again};
+use crate::maps::{Base, Maps, copy_base};
 use crate::special::special_of;
 use crate::tasks::ordered_tasks;
 use meta_model::{EntryLine, Resolved};
@@ -147,7 +147,7 @@ impl Datastore {
         ensures ok { OnOk result (self.new ≡ self.old ++ line.now ∷ []) }
         ensures err { OnErr result (self.new ≡ self.old) }
     {
-        self.apply_line(alloc, copy_of(line)?)
+        self.apply_line(alloc, copy_line(line)?)
     }
 
     /// One more entry. Where memory is wanting, the store is as before.
@@ -166,7 +166,7 @@ impl Datastore {
     pub fn copy(&self, alloc: Global) -> Result<Datastore, Mem>
         ensures { IfOk result (λ made. made ≡ self.now) }
     {
-        let start = Datastore::over(alloc, again(&self.maps.base)?);
+        let start = Datastore::over(alloc, copy_base(&self.maps.base)?);
         let mut made = replayed(alloc, start, self.past.as_slice())?;
         apply_all(&mut made, alloc, self.entries.as_slice())?;
         Ok(made)

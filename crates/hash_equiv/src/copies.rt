@@ -6,7 +6,7 @@ use store_model::EquivRow;
 use tree_model::{Manifest, ManifestLine, Mem};
 
 /// The same line again.
-fn line_again(line: &ManifestLine) -> Result<ManifestLine, Mem>
+fn copy_line(line: &ManifestLine) -> Result<ManifestLine, Mem>
     ensures { IfOk result (λ made. made ≡ line.now) }
 {
     Ok(ManifestLine {
@@ -18,18 +18,18 @@ fn line_again(line: &ManifestLine) -> Result<ManifestLine, Mem>
 }
 
 /// The same manifest again.
-fn manifest_again(alloc: Global, manifest: &Manifest) -> Result<Manifest, Mem>
+fn copy_manifest(alloc: Global, manifest: &Manifest) -> Result<Manifest, Mem>
     ensures { IfOk result (λ made. made ≡ manifest.now) }
 {
     let mut lines = Vec::new(alloc);
     for line in manifest.lines() {
-        lines.push(line_again(line)?)?;
+        lines.push(copy_line(line)?)?;
     }
     Ok(Manifest::from_lines(lines))
 }
 
 /// The same row again.
-pub(crate) fn row_again(alloc: Global, row: &EquivRow) -> Result<EquivRow, Mem>
+pub(crate) fn copy_row(alloc: Global, row: &EquivRow) -> Result<EquivRow, Mem>
     ensures { IfOk result (λ made. made ≡ row.now) }
 {
     Ok(EquivRow {
@@ -37,7 +37,7 @@ pub(crate) fn row_again(alloc: Global, row: &EquivRow) -> Result<EquivRow, Mem>
         pn: row.pn.copy()?,
         task: row.task.copy()?,
         sig: row.sig.copy()?,
-        manifest: manifest_again(alloc, &row.manifest)?,
+        manifest: copy_manifest(alloc, &row.manifest)?,
         unihash: row.unihash,
     })
 }

@@ -7,7 +7,7 @@ ghost use Rattle.store_model.specs.Rows.{row_at, first_for, is_row_for, manifest
 ghost use Rattle.hash_equiv.specs.Index.{IsNameIn, rows_at};
 ghost use Rattle.hash_equiv.specs.Added.{IsEquivFault, IsDifference};
 
-use crate::copies::row_again;
+use crate::copies::copy_row;
 use crate::equal::equal_manifests;
 use crate::places::{places_for, put_place};
 use indexmap::IndexMap;
@@ -70,19 +70,12 @@ impl Model for Index {
     ghost invariant = { λ s. IsIndex s.rows.entries s.of_pn };
 }
 
-/// Whether two byte strings are the same.
-fn same_bytes(one: &Bytes, other: &Bytes) -> bool
-    ensures { IsTrue result ↔ (one.now ≡ other.now) }
-{
-    one == other
-}
-
 /// What a row says to that of the same name: nothing where both are the same.
 fn compared(alloc: Global, held: &EquivRow, given: EquivRow) -> Result<(), EquivFault>
     ensures ok { OnOk result ((held.now.sig ≡ given.sig) × (held.now.manifest ≡ given.manifest)) }
     ensures err { IfErr result (IsDifference held.now given) }
 {
-    if !same_bytes(&held.sig, &given.sig) {
+    if held.sig != given.sig {
         let held = held.sig.copy()?;
         let given = given.sig;
         return Err(EquivFault::Collision { held, given });
@@ -90,7 +83,7 @@ fn compared(alloc: Global, held: &EquivRow, given: EquivRow) -> Result<(), Equiv
     if equal_manifests(held.manifest.lines(), given.manifest.lines()) {
         return Ok(());
     }
-    let held = row_again(alloc, held)?;
+    let held = copy_row(alloc, held)?;
     Err(EquivFault::Unsteady { held, given })
 }
 

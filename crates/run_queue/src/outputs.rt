@@ -60,7 +60,7 @@ fn job_over(
     match layout(alloc, plan, number, outputs)? {
         Some(layout) => {
             let task = &plan.tasks.as_slice()[number as usize];
-            Ok(Some(job_of_task(alloc, number, task, layout)?))
+            Ok(Some(job_of_task(number, task, layout)?))
         }
         None => Ok(None),
     }

@@ -6,11 +6,11 @@ ghost use Rattle.task_model.specs.Scripts.{value_at};
 ghost use Rattle.script_gen.specs.Index.{IsIndex};
 
 use crate::sight::Sight;
-use meta_model::{Key, KeyLine, Resolved};
+use meta_model::{Key, KeyLine, Resolved, copy_value};
 use name_walk::place_of;
 use std::alloc::Global;
 use tree_model::{Mem, Text, Texts};
-use var_deps::{copy_resolved, flag_of, unless_bare};
+use var_deps::{flag_of, unless_bare};
 use var_expand::{ExpandFault, Lookup};
 
 /// The lines of a key as a task sees them, and their names where these ascend, as those of a key do: then a line is found in
@@ -72,16 +72,6 @@ fn found_at<'a>(lines: &'a [KeyLine], names: &[Text], name: &str) -> Option<&'a 
     }
 }
 
-/// The same value again, where there is one.
-fn copied(alloc: Global, found: Option<&Resolved>) -> Result<Option<Resolved>, Mem>
-    ensures { IfOk result (λ made. made ≡ option_copied found.entry) }
-{
-    match found {
-        Some(found) => Ok(Some(copy_resolved(alloc, found)?)),
-        None => Ok(None),
-    }
-}
-
 impl OfKey<'_> {
     /// The lines of a key for a task.
     pub(crate) fn new<'a>(alloc: Global, key: &'a Key, task: &'a str) -> Result<OfKey<'a>, Mem>
@@ -115,7 +105,7 @@ impl Lookup for OfKey<'_> {
     ghost finds = { λ s. seen_by s.task.now (λ name. Ok (value_at s.lines.now name)) };
 
     fn find(&self, alloc: Global, name: &str) -> Result<Option<Resolved>, ExpandFault> {
-        let found = copied(alloc, self.value_of(name))?;
+        let found = copy_value(self.value_of(name))?;
         Ok(unless_bare(found, name == self.task))
     }
 }

@@ -43,7 +43,9 @@ asked_first says view unihashes known before set avail swept wide right = record
   bound = omega arith;
 }
 
-pub asked_next : (says : Says) (view : View) (unihashes : List Hash) (known : List Bool) (before : ℕ) (set new : List Bool) (avail next : List Avail) (asked then : ℕ) (place : ℕ) → AreOrdered view.plan.tasks → place < length view.plan.tasks → IsAsked says view unihashes known before set avail asked (suc place) → Adds (IsBelow view.plan.tasks next set place) set new → (IsIn set place → IsKnown says view unihashes place (slice_get next place)) → length next ≡ length avail → ((t : ℕ) → t ≢ place → slice_get next t ≡ slice_get avail t) → then ≤ asked + asks_once (slice_get set place) (slice_get known place) → IsAsked says view unihashes known before new next then place
+pub asked_next : (says : Says) (view : View) (unihashes : List Hash) (known : List Bool) (before : ℕ) (set new : List Bool) (avail next : List Avail) (asked then : ℕ) (place : ℕ) → AreOrdered view.plan.tasks → place < length view.plan.tasks → IsAsked says view unihashes known before set avail asked (suc place)
+    → Adds (IsBelow view.plan.tasks next set place) set new → (IsIn set place → IsKnown says view unihashes place (slice_get next place)) → length next ≡ length avail
+    → ((t : ℕ) → t ≢ place → slice_get next t ≡ slice_get avail t) → then ≤ asked + asks_once (slice_get set place) (slice_get known place) → IsAsked says view unihashes known before new next then place
 asked_next says view unihashes known before set new avail next asked then place ordered lt is adds here wide elsewhere rise = record {
   swept = swept_next view.plan avail next set new place ordered is.swept elsewhere adds;
   wide = wide ∙ is.wide;
@@ -203,7 +205,8 @@ all_asked_first says view unihashes need tasks place avail told le others = reco
   told_all = λ t. inr refl;
 }
 
-pub all_asked_next : (says : Says) (view : View) (unihashes : List Hash) (need : List Bool) (tasks : List ℕ) (place task : ℕ) (avail mid next : List Avail) (told more : List ℕ) (turned : Bool) → place < length tasks → get_or tasks place 0 ≡ task → AsksAll says view unihashes need tasks (suc place) avail mid told → AsksOne says view unihashes need task mid next told more turned → AsksAll says view unihashes need tasks place avail next more
+pub all_asked_next : (says : Says) (view : View) (unihashes : List Hash) (need : List Bool) (tasks : List ℕ) (place task : ℕ) (avail mid next : List Avail) (told more : List ℕ) (turned : Bool)
+    → place < length tasks → get_or tasks place 0 ≡ task → AsksAll says view unihashes need tasks (suc place) avail mid told → AsksOne says view unihashes need task mid next told more turned → AsksAll says view unihashes need tasks place avail next more
 all_asked_next says view unihashes need tasks place task avail mid next told more turned lt at all one = record {
   right = λ t member. elim (cases_eq t task) [
     | inl same ↦ inr (subst (λ x. IsKnown says view unihashes x (slice_get next x)) (sym same) (one.here (subst (IsIn need) same member)))
@@ -260,7 +263,8 @@ either_asks old new (t ∷ ts) (suc place) = omega (arith, either_new (slice_get
 pub whole : {X : Type 0} (new old : List X) (n : ℕ) → length new ≡ n → take n (new ++ drop (length new) old) ≡ new
 whole new old n e = take_at new (drop (length new) old) n e
 
-pub none_needs : (says : Says) (view : View) (unihashes : List Hash) (need read : List Bool) (avail given next : List Avail) (tasks told : List ℕ) (turned : Option ℕ) → IsNeed view.plan avail need → length next ≡ length view.plan.tasks → read ≡ need → given ≡ avail → turned ≡ None → (turned ≡ None → SameMissing given next) → AsksAll says view unihashes read tasks (unwrap_or turned 0) given next told → AreNeeds says view unihashes need next
+pub none_needs : (says : Says) (view : View) (unihashes : List Hash) (need read : List Bool) (avail given next : List Avail) (tasks told : List ℕ) (turned : Option ℕ)
+    → IsNeed view.plan avail need → length next ≡ length view.plan.tasks → read ≡ need → given ≡ avail → turned ≡ None → (turned ≡ None → SameMissing given next) → AsksAll says view unihashes read tasks (unwrap_or turned 0) given next told → AreNeeds says view unihashes need next
 none_needs says view unihashes need read avail given next tasks told turned is long r a none same asks = still_needs says view unihashes need avail next tasks told is long
     (subst (λ xs. SameMissing xs next) a (same none))
     (subst (λ xs. AsksAll says view unihashes need tasks 0 xs next told) a (subst (λ ns. AsksAll says view unihashes ns tasks 0 given next told) r (subst (λ o. AsksAll says view unihashes read tasks (unwrap_or o 0) given next told) none asks)))
@@ -281,7 +285,8 @@ none_told need avail given next written told a w first t = elim (first t) [
   | inr still ↦ inr (refl, ap (λ (xs : List Avail). slice_get xs t) w ∙ still ∙ ap (λ (xs : List Avail). slice_get xs t) a)
 ]
 
-pub some_told : (need new : List Bool) (avail given next written final : List Avail) (told more slice all : List ℕ) → given ≡ avail → written ≡ next → slice ≡ more → all ≡ told ++ slice → ((t : ℕ) → Contains told t ⊎ (slice_get next t ≡ slice_get given t)) → ((t : ℕ) → Contains more t ⊎ SameAt need new written final t) → (t : ℕ) → Contains all t ⊎ SameAt need new avail final t
+pub some_told : (need new : List Bool) (avail given next written final : List Avail) (told more slice all : List ℕ)
+    → given ≡ avail → written ≡ next → slice ≡ more → all ≡ told ++ slice → ((t : ℕ) → Contains told t ⊎ (slice_get next t ≡ slice_get given t)) → ((t : ℕ) → Contains more t ⊎ SameAt need new written final t) → (t : ℕ) → Contains all t ⊎ SameAt need new avail final t
 some_told need new avail given next written final told more slice all a w m e first second t = elim (second t) [
   | inl held ↦ inl (subst (λ xs. Contains xs t) (sym joined) (Contains-append_right told more t held))
   | inr same ↦ elim (first t) [
@@ -293,7 +298,8 @@ some_told need new avail given next written final told more slice all a w m e fi
     joined : all ≡ told ++ more
     joined = e ∙ ap (λ xs. told ++ xs) m
 
-pub some_others : (says : Says) (view now : View) (unihashes : List Hash) (need read : List Bool) (given next written : List Avail) (tasks told : List ℕ) (turned : Option ℕ) (left : ℕ) → read ≡ need → written ≡ next → turned ≡ Some left → now ≡ view → AsksAll says view unihashes read tasks (unwrap_or turned 0) given next told → (t : ℕ) → IsIn need t → Contains (take left tasks) t ⊎ IsKnown says now unihashes t (slice_get written t)
+pub some_others : (says : Says) (view now : View) (unihashes : List Hash) (need read : List Bool) (given next written : List Avail) (tasks told : List ℕ) (turned : Option ℕ) (left : ℕ)
+    → read ≡ need → written ≡ next → turned ≡ Some left → now ≡ view → AsksAll says view unihashes read tasks (unwrap_or turned 0) given next told → (t : ℕ) → IsIn need t → Contains (take left tasks) t ⊎ IsKnown says now unihashes t (slice_get written t)
 some_others says view now unihashes need read given next written tasks told turned left r w some n asks t member = elim (asks.right t (subst (λ ns. IsIn ns t) (sym r) member)) [
   | inl held ↦ inl (subst (λ o. Contains (take (unwrap_or o 0) tasks) t) some held)
   | inr known ↦ inr (subst (λ (v : View). IsKnown says v unihashes t (slice_get written t)) (sym n) (subst (λ xs. IsKnown says view unihashes t (slice_get xs t)) (sym w) known))

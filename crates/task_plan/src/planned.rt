@@ -16,7 +16,7 @@ use crate::parts::{Parts, parts_of};
 use crate::shell::Shell;
 use crate::texts::texts_of;
 use datastore::Datastore;
-use meta_model::{Node, PlanTask, TaskId};
+use meta_model::{Node, PlanTask};
 use outside_traits::Layers;
 use recipe_set::RecipeSet;
 use std::alloc::Global;
@@ -48,22 +48,11 @@ pub(crate) fn copy_numbers(alloc: Global, numbers: &[u32]) -> Result<ListOf<u32>
     Ok(made)
 }
 
-/// The same task again.
-fn copy_id(id: &TaskId) -> Result<TaskId, Mem>
-    ensures { IfOk result (λ made. made ≡ id.now) }
-{
-    Ok(TaskId {
-        mc: id.mc.copy()?,
-        pn: id.pn.copy()?,
-        task: id.task.copy()?,
-    })
-}
-
 /// A node with what is worked out for its task.
 fn with_parts(alloc: Global, node: &Node, parts: Parts) -> Result<PlanTask, Mem>
     ensures { IfOk result (λ made. made ≡ plans.with_parts node.now (parts_meant parts)) }
 {
-    let id = copy_id(&node.id)?;
+    let id = node.id.copy()?;
     let deps = copy_numbers(alloc, node.deps.as_slice())?;
     let Parts {
         key,

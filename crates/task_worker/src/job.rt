@@ -11,10 +11,10 @@ ghost use Rattle.task_worker.specs.OneTask.{job_of};
 use crate::given::{Given, Job, Placing, WorkFault};
 use crate::laying::lay_over;
 use crate::running::{Left, is_fit, ran};
-use meta_model::{PlanTask, TaskId};
+use meta_model::PlanTask;
 use outside_traits::{Bench, BenchFault};
 use std::alloc::Global;
-use tree_model::{ListOf, Mem, Text, Tree, TreeFault, manifest_of};
+use tree_model::{Mem, Text, Tree, TreeFault, manifest_of};
 
 /// What stands under a folder of the work tree, under the folder of the output to which it goes.
 ///
@@ -90,34 +90,13 @@ fn placed(alloc: Global, left: Left, placing: &Placing) -> Result<Given, Mem>
     }
 }
 
-/// The same places again.
-fn copy_places(alloc: Global, places: &[(Text, Text)]) -> Result<ListOf<(Text, Text)>, Mem>
-    ensures { IfOk result (λ made. made ≡ places.now) }
-{
-    let mut made = ListOf::new(alloc);
-    for place in places {
-        made.push((place.0.copy()?, place.1.copy()?))?;
-    }
-    Ok(made)
-}
-
-/// The same name of a task again.
-fn copy_id(id: &TaskId) -> Result<TaskId, Mem>
-    ensures { IfOk result (λ made. made ≡ id.now) }
-{
-    let mc = id.mc.copy()?;
-    let pn = id.pn.copy()?;
-    let task = id.task.copy()?;
-    Ok(TaskId { mc, pn, task })
-}
-
 /// The job of a task of a plan over its layout.
-pub fn job_over(alloc: Global, number: u32, task: &PlanTask, layout: Tree) -> Result<Job, Mem>
+pub fn job_over(number: u32, task: &PlanTask, layout: Tree) -> Result<Job, Mem>
     ensures { IfOk result (λ job. job ≡ job_of number task.now layout) }
 {
     let script = task.script.copy()?;
-    let places = copy_places(alloc, task.places.as_slice())?;
-    let id = copy_id(&task.id)?;
+    let places = task.places.copy()?;
+    let id = task.id.copy()?;
     let placing = Placing {
         id,
         sstate: task.sstate,

@@ -19,4 +19,3 @@ mod table;
 
 pub use keys::{StoreKeys, key};
 pub use seen::{flag_of, found_by, is_function, unless_bare};
-pub use table::copy_resolved;

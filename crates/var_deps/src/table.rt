@@ -19,8 +19,8 @@ use crate::exports::Exports;
 use crate::led::{Led, all_of, push_all, without, words_of_flag};
 use crate::line::{Known, Line, know};
 use crate::seen::Seen;
-use datastore::put_value;
-use meta_model::{Key, KeyLine, Resolved};
+use datastore::{copy_fault, put_value};
+use meta_model::{Key, KeyLine, copy_value};
 use name_walk::{Leading, holds, least_of, reach};
 use std::alloc::Global;
 use std::collections::BTreeMap;
@@ -126,11 +126,11 @@ impl Shared<'_> {
         ensures err { IfErr result (λ fault. IsFaultOf fault (read_line (shared_view self.old) false name.now)) }
     {
         if let Some(known) = self.known.get(name.as_str()) {
-            return push_line(alloc, key, name, &known.line);
+            return push_line(key, name, &known.line);
         }
         self.learn(alloc, name.as_str())?;
         match self.known.get(name.as_str()) {
-            Some(known) => push_line(alloc, key, name, &known.line),
+            Some(known) => push_line(key, name, &known.line),
             None => Ok(()),
         }
     }
@@ -163,56 +163,8 @@ impl Leading for Table<'_> {
     }
 }
 
-/// The same fault again, or want of memory.
-fn again(fault: &ExpandFault) -> Result<ExpandFault, Mem>
-    ensures { IfOk result (λ made. made ≡ fault.now) }
-{
-    Ok(match fault {
-        ExpandFault::ValueCycle { name } => ExpandFault::ValueCycle { name: name.copy()? },
-        ExpandFault::TooDeep { name } => ExpandFault::TooDeep { name: name.copy()? },
-        ExpandFault::TooLong { name } => ExpandFault::TooLong { name: name.copy()? },
-        ExpandFault::Unstable { before, last } => ExpandFault::Unstable {
-            before: before.copy()?,
-            last: last.copy()?,
-        },
-        ExpandFault::Memory => ExpandFault::Memory,
-    })
-}
-
-/// The same flags again.
-fn copy_flags(alloc: Global, flags: &[(Text, Text)]) -> Result<ListOf<(Text, Text)>, Mem>
-    ensures { IfOk result (λ made. made ≡ flags.now) }
-{
-    let mut made = ListOf::new(alloc);
-    for (flag, text) in flags {
-        made.push((flag.copy()?, text.copy()?))?;
-    }
-    Ok(made)
-}
-
-/// The same resolved value again.
-pub fn copy_resolved(alloc: Global, found: &Resolved) -> Result<Resolved, Mem>
-    ensures { IfOk result (λ made. made ≡ found.now) }
-{
-    Ok(Resolved {
-        text: found.text.copy()?,
-        removes: found.removes.copy()?,
-        flags: copy_flags(alloc, found.flags.as_slice())?,
-    })
-}
-
-/// The same value again, where there is one.
-fn copy_value(alloc: Global, value: &Option<Resolved>) -> Result<Option<Resolved>, Mem>
-    ensures { IfOk result (λ made. made ≡ value.now) }
-{
-    match value {
-        Some(found) => Ok(Some(copy_resolved(alloc, found)?)),
-        None => Ok(None),
-    }
-}
-
 /// Puts the line of a name at the end of a key, or tells why there is none.
-fn push_line(alloc: Global, key: &mut Key, name: &Text, line: &Line) -> Result<(), ExpandFault>
+fn push_line(key: &mut Key, name: &Text, line: &Line) -> Result<(), ExpandFault>
     ensures ok { (meant : Result Told Refusal) → IsLine line.now name.now meant
         → OnOk result (key_behind key.old (one_line meant) ≡ Ok key.new) }
     ensures err { (meant : Result Told Refusal) → IsLine line.now name.now meant
@@ -220,7 +172,7 @@ fn push_line(alloc: Global, key: &mut Key, name: &Text, line: &Line) -> Result<(
 {
     match line {
         Line::Told { value, left_out } => {
-            let value = copy_value(alloc, value)?;
+            let value = copy_value(value.as_ref())?;
             key.lines.push(KeyLine {
                 name: name.copy()?,
                 value,
@@ -228,7 +180,7 @@ fn push_line(alloc: Global, key: &mut Key, name: &Text, line: &Line) -> Result<(
             key.excluded = key.excluded || *left_out;
             Ok(())
         }
-        Line::Refused(fault) => Err(again(fault)?),
+        Line::Refused(fault) => Err(copy_fault(fault)?),
     }
 }
 
@@ -242,7 +194,7 @@ impl Table<'_> {
         ensures err { IfErr result (λ fault. IsFaultOf fault (line_of (task_view self.old) name.now)) }
     {
         if name.as_str() == self.task.as_str() {
-            return push_line(alloc, key, name, &self.own.line);
+            return push_line(key, name, &self.own.line);
         }
         self.shared.push_name(alloc, key, name)
     }

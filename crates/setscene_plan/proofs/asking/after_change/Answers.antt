@@ -27,7 +27,9 @@ returns-in-None-clause-told g c =
     none_told c.args.needs.now.need.items c.args.needs.now.avail.items c.deref_mut.result.now c.ask_again.new.avail _ c.ask_again.new.told.items c.deref_mut.ensures.value (whole c.ask_again.new.avail c.args.needs.now.avail.items c.args.needs.now.avail.len (omega (arith, long))) c.in_ok-ask_again.ensures.all.told_all
 
 pub returns-in_ok-extend_from_slice-in-Some-clause-asked : goal.returns-in_ok-extend_from_slice-in-Some-clause-asked
-returns-in_ok-extend_from_slice-in-Some-clause-asked g c = some_asked c.args.needs.now.need.items c.as_slice.result.now c.sweep_again.new.needs.need.items c.args.changed.now c.in_ok-ask_again.field-0 c.in-Some.left (g.P.Probe.asked c.args.probe.now) (g.P.Probe.asked c.ask_again.new.probe) (g.P.Probe.asked c.sweep_again.new.probe) (members_beyond c.sweep_again.new.needs.need.items c.args.needs.now.need.items) c.as_slice.ensures.value c.in-Some.is c.in_ok-ask_again.ensures.asked c.in_ok-more-in-Some.ensures.asked
+returns-in_ok-extend_from_slice-in-Some-clause-asked g c =
+    some_asked c.args.needs.now.need.items c.as_slice.result.now c.sweep_again.new.needs.need.items c.args.changed.now c.in_ok-ask_again.field-0 c.in-Some.left
+    (g.P.Probe.asked c.args.probe.now) (g.P.Probe.asked c.ask_again.new.probe) (g.P.Probe.asked c.sweep_again.new.probe) (members_beyond c.sweep_again.new.needs.need.items c.args.needs.now.need.items) c.as_slice.ensures.value c.in-Some.is c.in_ok-ask_again.ensures.asked c.in_ok-more-in-Some.ensures.asked
 
 pub returns-in_ok-extend_from_slice-in-Some-clause-told :
     goal.returns-in_ok-extend_from_slice-in-Some-clause-told
@@ -43,4 +45,5 @@ sweep_again-requires-clause-others g c =
     let now = g.P.Probe.view c.ask_again.new.probe in
     let long : length c.ask_again.new.avail ≡ length c.args.needs.now.avail.items = c.ask_again.auto.avail ∙ ap (λ (xs : List Avail). length xs) c.deref_mut.ensures.value in
     others_follow says (g.P.Probe.says c.ask_again.new.probe) now c.args.unihashes.now c.args.needs.now.need.items _ (take c.in-Some.left c.args.changed.now) (g.met.P.Probe.says_still c.args.probe.now c.ask_again.new.probe c.ask_again.ensures.stays)
-    (some_others says view now c.args.unihashes.now c.args.needs.now.need.items c.as_slice.result.now c.deref_mut.result.now c.ask_again.new.avail _ c.args.changed.now c.ask_again.new.told.items c.in_ok-ask_again.field-0 c.in-Some.left c.as_slice.ensures.value (whole c.ask_again.new.avail c.args.needs.now.avail.items c.args.needs.now.avail.len (omega (arith, long))) c.in-Some.is c.ask_again.ensures.same c.in_ok-ask_again.ensures.all)
+    (some_others says view now c.args.unihashes.now c.args.needs.now.need.items c.as_slice.result.now c.deref_mut.result.now c.ask_again.new.avail _ c.args.changed.now c.ask_again.new.told.items c.in_ok-ask_again.field-0 c.in-Some.left
+    c.as_slice.ensures.value (whole c.ask_again.new.avail c.args.needs.now.avail.items c.args.needs.now.avail.len (omega (arith, long))) c.in-Some.is c.ask_again.ensures.same c.in_ok-ask_again.ensures.all)

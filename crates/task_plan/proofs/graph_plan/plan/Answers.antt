@@ -22,4 +22,5 @@ pub returns-in-Err-clause-err : goal.returns-in-Err-clause-err
 returns-in-Err-clause-err g c = λ told.
     let files = g.L.Layers.files c.args.layers.now in
     let graph = c.args.graph.now in
-    plan_same c.in-Err.fault (plan_of files c.args.set.now graph c.args.threads) _ (plan_is files c.args.set.now graph c.args.threads) (plan_on c.in-Err.fault (forced_tasks files c.args.set.now no_sums 0 [] graph.nodes) (λ tasks. Ok (plan_made graph c.args.threads tasks)) (subst (λ ns. IsPlanFault c.in-Err.fault (forced_tasks files c.args.set.now no_sums 0 [] ns)) c.as_slice-nodes.ensures (c.in-Err.ensures.err told)))
+    plan_same c.in-Err.fault (plan_of files c.args.set.now graph c.args.threads) _ (plan_is files c.args.set.now graph c.args.threads)
+    (plan_on c.in-Err.fault (forced_tasks files c.args.set.now no_sums 0 [] graph.nodes) (λ tasks. Ok (plan_made graph c.args.threads tasks)) (subst (λ ns. IsPlanFault c.in-Err.fault (forced_tasks files c.args.set.now no_sums 0 [] ns)) c.as_slice-nodes.ensures (c.in-Err.ensures.err told)))

@@ -22,4 +22,5 @@ loop-place-preserved c =
     let store = c.args.seen.now.store.now in
     let find = seen_with store c.args.seen.now.task in
     let get = flag store c.args.task.now in
-    one_turn (λ f. flag_looked_up find (get f)) (λ fs. all_looked_up find (filter_map get fs)) (flags_in_turn find get) (behind c.args.list.now.items (all_looked_up find (filter_map get read_flags))) c.loop-place.list.items c.push_flag.new.list.items read_flags c.loop-place.place c.read_flag.result.now (c.read_flag.ensures c.read_flag.result.now) c.loop-place-test.true c.loop-place.invariant c.in_ok-push_flag.ensures.ok
+    one_turn (λ f. flag_looked_up find (get f)) (λ fs. all_looked_up find (filter_map get fs)) (flags_in_turn find get)
+    (behind c.args.list.now.items (all_looked_up find (filter_map get read_flags))) c.loop-place.list.items c.push_flag.new.list.items read_flags c.loop-place.place c.read_flag.result.now (c.read_flag.ensures c.read_flag.result.now) c.loop-place-test.true c.loop-place.invariant c.in_ok-push_flag.ensures.ok

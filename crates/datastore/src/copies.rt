@@ -13,7 +13,7 @@ use std::collections::BTreeMap;
 use tree_model::{Mem, Text};
 
 /// The same text again, where there is one.
-fn text_again(text: &Option<Text>) -> Result<Option<Text>, Mem>
+fn copy_text(text: &Option<Text>) -> Result<Option<Text>, Mem>
     ensures { IfOk result (λ made. made ≡ text.now) }
 {
     match text {
@@ -27,8 +27,8 @@ impl Kept {
     fn copy(&self) -> Result<Kept, Mem>
         ensures { IfOk result (λ made. slot_of made ≡ slot_of self.now) }
     {
-        let value = text_again(&self.value)?;
-        let weak = text_again(&self.weak)?;
+        let value = copy_text(&self.value)?;
+        let weak = copy_text(&self.weak)?;
         Ok(Kept {
             value,
             weak,
@@ -51,7 +51,7 @@ fn push_late(made: &mut Vec<LateLine>, late: &LateLine) -> Result<(), Mem>
 }
 
 /// The same late entries again.
-fn lates_again(alloc: Global, lates: &[LateLine]) -> Result<Vec<LateLine>, Mem>
+fn copy_lates(alloc: Global, lates: &[LateLine]) -> Result<Vec<LateLine>, Mem>
     ensures { IfOk result (λ made. made.items ≡ lates.now) }
 {
     let mut made = Vec::new(alloc);
@@ -85,7 +85,7 @@ fn put_flag(
 }
 
 /// The same flags again.
-fn flags_again(alloc: Global, flags: &BTreeMap<String, Kept>) -> Result<BTreeMap<String, Kept>, Mem>
+fn copy_flags(alloc: Global, flags: &BTreeMap<String, Kept>) -> Result<BTreeMap<String, Kept>, Mem>
     ensures { IfOk result (λ made. (f : List ℕ) → flag_kept (get_by_text made f)
         ≡ flag_kept (get_by_text flags.now f)) }
 {
@@ -103,8 +103,8 @@ impl Named {
         ensures { IfOk result (λ made. IsAlike (Some self.now) (Some made)) }
     {
         let kept = self.kept.copy()?;
-        let lates = lates_again(alloc, self.lates.as_slice())?;
-        let flags = flags_again(alloc, &self.flags)?;
+        let lates = copy_lates(alloc, self.lates.as_slice())?;
+        let flags = copy_flags(alloc, &self.flags)?;
         Ok(Named { kept, lates, flags })
     }
 

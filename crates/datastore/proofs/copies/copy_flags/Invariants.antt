@@ -3,7 +3,7 @@ use Rattle.std.specs.BTreeMap.{get_by_text}
 use Rattle.meta_model.specs.Text.{is_in}
 use Rattle.meta_model.specs.Slot.{nothing}
 use Rattle.datastore.specs.Kept.{flag_kept}
-use Rattle.datastore.proofs.again.flags_again.Given as goal
+use Rattle.datastore.proofs.copies.copy_flags.Given as goal
 
 -- the flags whose names are gone through
 abbrev pub invariant-loop-name : goal.invariant-loop-name

@@ -4,7 +4,7 @@ use Rattle.std.specs.Map.{update}
 use Rattle.std.proofs.lemmas.Result.{on_ok_weaker}
 use Rattle.datastore.specs.Kept.{flag_kept}
 use Rattle.datastore.proofs.Flags.{flag_put}
-use Rattle.datastore.proofs.again.put_flag.Goals as goal
+use Rattle.datastore.proofs.copies.put_flag.Goals as goal
 
 pub returns-in_ok-kept-in-Some : goal.returns-in_ok-kept-in-Some
 returns-in_ok-kept-in-Some c =

@@ -3,7 +3,7 @@ use Rattle.std.specs.BTreeMap.{get_by_text}
 use Rattle.std.proofs.lemmas.List.{take_all}
 use Rattle.datastore.specs.Kept.{flag_kept}
 use Rattle.datastore.proofs.Flags.{flags_turn, flags_all}
-use Rattle.datastore.proofs.again.flags_again.Goals as goal
+use Rattle.datastore.proofs.copies.copy_flags.Goals as goal
 
 pub loop-name-preserved : goal.loop-name-preserved
 loop-name-preserved c = λ f.
