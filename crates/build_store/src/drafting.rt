@@ -18,38 +18,15 @@ ghost use Rattle.store_model.specs.Spelled.{IsSpelled};
 use crate::comparing::compare_row;
 use crate::fault::StoreFault;
 use crate::naming::{Named, name_of_sig};
-use hash_equiv::{Index, equal_manifests};
+use hash_equiv::{Index, copy_manifest, equal_manifests};
 use meta_model::PlanTask;
 use sig_gen::{SigFault, decode, encode_stored};
 use std::alloc::Global;
 use store_model::{EquivRow, SigRecord, StoredSig};
-use tree_model::{Bytes, Entry, Hash, Manifest, ManifestLine, Mem};
-
-/// The same line again.
-fn line_again(line: &ManifestLine) -> Result<ManifestLine, Mem>
-    ensures { IfOk result (λ made. made ≡ line.now) }
-{
-    Ok(ManifestLine {
-        path: line.path.copy()?,
-        kind: line.kind,
-        length: line.length,
-        hash: line.hash,
-    })
-}
-
-/// The same manifest again.
-pub(crate) fn manifest_again(alloc: Global, manifest: &Manifest) -> Result<Manifest, Mem>
-    ensures { IfOk result (λ made. made ≡ manifest.now) }
-{
-    let mut lines = Vec::new(alloc);
-    for line in manifest.lines() {
-        lines.push(line_again(line)?)?;
-    }
-    Ok(Manifest::from_lines(lines))
-}
+use tree_model::{Bytes, Entry, Hash, Manifest, Mem};
 
 /// The same signature again, read from its bytes.
-fn signature_again(alloc: Global, sig: &SigRecord, bytes: &[u8]) -> Result<SigRecord, Mem>
+fn copy_signature(alloc: Global, sig: &SigRecord, bytes: &[u8]) -> Result<SigRecord, Mem>
     requires { Spells bytes.now sig.now }
     ensures { IfOk result (λ made. made ≡ sig.now) }
 {
@@ -72,8 +49,8 @@ fn unsteady(
     Ok(StoreFault::Unsteady {
         pn: task.id.pn.copy()?,
         task: task.id.task.copy()?,
-        held: manifest_again(alloc, &row.manifest)?,
-        given: manifest_again(alloc, manifest)?,
+        held: copy_manifest(alloc, &row.manifest)?,
+        given: copy_manifest(alloc, manifest)?,
     })
 }
 
@@ -165,8 +142,8 @@ fn new_record(
         (new_stored index.now sig.now manifest.now)) }
 {
     let unihash = new_unihash(index, sig, &own.name, manifest);
-    let manifest = manifest_again(alloc, manifest)?;
-    let sig = signature_again(alloc, sig, own.bytes.as_slice())?;
+    let manifest = copy_manifest(alloc, manifest)?;
+    let sig = copy_signature(alloc, sig, own.bytes.as_slice())?;
     record_of(
         alloc,
         own,

@@ -7,11 +7,10 @@ ghost use Rattle.store_model.specs.Opened.{rows_at};
 ghost use Rattle.store_model.specs.Readable.{row_of_stored};
 ghost use Rattle.build_store.specs.Survey.{DoomsUnbelieved, IsGood, IsSurveyOf};
 
-use crate::drafting::manifest_again;
 use crate::publishing::add_new;
 use crate::records::found_among;
 use crate::survey::{doom_unmarked, marks_of};
-use hash_equiv::Index;
+use hash_equiv::{Index, copy_manifest};
 use record_belief::{ascend, believed};
 use sig_gen::encode;
 use std::alloc::Global;
@@ -29,7 +28,7 @@ fn row_of(alloc: Global, candidate: &Candidate) -> Result<EquivRow, Mem>
         pn: stored.sig.pn.copy()?,
         task: stored.sig.task.copy()?,
         sig: encode(alloc, &stored.sig)?,
-        manifest: manifest_again(alloc, &stored.manifest)?,
+        manifest: copy_manifest(alloc, &stored.manifest)?,
         unihash: stored.unihash,
     })
 }

@@ -1,4 +1,4 @@
-// Rows again, for faults that carry one of the index.
+// Copies of manifests, and of rows for faults that carry one of the index.
 ghost use Rattle.std.specs.Prelude.{◌≡◌, IfOk};
 
 use std::alloc::Global;
@@ -18,7 +18,7 @@ fn copy_line(line: &ManifestLine) -> Result<ManifestLine, Mem>
 }
 
 /// The same manifest again.
-fn copy_manifest(alloc: Global, manifest: &Manifest) -> Result<Manifest, Mem>
+pub fn copy_manifest(alloc: Global, manifest: &Manifest) -> Result<Manifest, Mem>
     ensures { IfOk result (λ made. made ≡ manifest.now) }
 {
     let mut lines = Vec::new(alloc);

@@ -17,5 +17,6 @@ mod equal;
 mod index;
 mod places;
 
+pub use copies::copy_manifest;
 pub use equal::equal_manifests;
 pub use index::{EquivFault, Index};
