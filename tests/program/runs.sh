@@ -82,3 +82,23 @@ holds "what the library gives" test "$(cat build/work/greet/do_populate_sysroot/
 holds "a link of it" test "$(readlink build/work/greet/do_populate_sysroot/usr/lib/libgreet.txt)" = libgreet.txt.1
 holds "what the application made of it" test "$(cat build/work/app/do_install/image/usr/share/out.txt)" = "hello world"
 holds "what it gives" test "$(cat build/work/app/do_build/usr/share/out.txt)" = "hello world"
+
+# Each line is printed when its event comes about: while the second task sleeps, its start and the first one's end stand there, and no more.
+project lines_come
+recipe a 'echo a > a.txt'
+printf 'do_build() {\n    sleep 3\n}\naddtask build\ndo_build[depends] = "a:do_build"\n' >recipes/b.bb
+"$bitbake" b >"$room/coming" 2>/dev/null </dev/null &
+running=$!
+turns=0
+while [ "$turns" -lt 200 ] && ! grep -q '^started b:do_build$' "$room/coming"; do
+    sleep 0.05
+    turns=$((turns + 1))
+done
+cp "$room/coming" "$room/text"
+kill -0 "$running" 2>/dev/null
+status=$?
+wants "lines while a task runs" 0 "plan 2 tasks, 4 threads
+started a:do_build
+ended a:do_build
+started b:do_build"
+wait "$running"

@@ -1,5 +1,5 @@
 -- From the marks of a whole walk to depths, and from a path that meets itself to a cycle.
-use Rattle.std.proofs.Common.{◌≡◌, sym, ◌∙◌, ap, subst, refl, arith, ℕ, zero, suc, ◌+◌, ◌-◌, ◌<◌, ◌≤◌, max, List, [], ◌∷◌, length, drop, map, get_or, fold, ◌⊎◌, inl, inr, All}
+use Rattle.std.proofs.Common.{◌≡◌, sym, ◌∙◌, ap, subst, refl, arith, ℕ, zero, suc, ◌+◌, ◌-◌, ◌<◌, ◌≤◌, max, true, false, Bool, List, [], ◌∷◌, length, drop, map, get_or, fold, ◌⊎◌, inl, inr, All, Contains}
 use Rattle.std.proofs.lemmas.Bool.{cases_eq, cases_lt}
 use Rattle.std.proofs.lemmas.List.{get_or_past, get_or-drop, length-drop, length-map, get_or-map, get_or_default}
 use Rattle.std.proofs.lemmas.List.Elements.{All-drop, All-map}
@@ -7,15 +7,16 @@ use Rattle.std.proofs.lemmas.Option.{get_or_from_slice_get}
 use Rattle.meta_model.specs.Walks.{Walk, IsDepth, IsCycle, ClosesAt as ClosesTo}
 use Rattle.graph_walk.specs.declared.marks.Mark.{Mark}
 use Rattle.graph_walk.specs.declared.marks.Mark.TheVariants.{New, Open, Done}
-use Rattle.graph_walk.specs.Depths.{AreWithin, edges_from, HasEdge, mark_at, above, depth_over, depth_at, IsDone, IsWalk, ClosesAt}
+use Rattle.graph_walk.specs.Edges.{AreWithin, edges_from, HasEdge}
+use Rattle.graph_walk.specs.Marks.{mark_at, above, depth_over, depth_at, IsDone, IsMet, IsWalk, ClosesAt}
 use Rattle.graph_walk.specs.Found.{HasDepths, HasCycle}
 
 -- past all nodes nothing is marked
 pub mark_past : (marks : List Mark) (v : ℕ) → length marks ≤ v → mark_at marks v ≡ New
 mark_past marks v le = get_or_past marks v New le
 
-pub depths_small : (edges : List (List ℕ)) (marks : List Mark) (left path : List ℕ) → IsWalk edges marks left path → (most : ℕ) → length edges < most → (v depth : ℕ) → mark_at marks v ≡ Done depth → depth < most
-depths_small edges marks left path walk most few v depth is = by_place (cases_lt v (length edges))
+pub depths_small : (edges : List (List ℕ)) (rings : Bool) (marks : List Mark) (left path : List ℕ) → IsWalk edges rings marks left path → (most : ℕ) → length edges < most → (v depth : ℕ) → mark_at marks v ≡ Done depth → depth < most
+depths_small edges rings marks left path walk most few v depth is = by_place (cases_lt v (length edges))
   where
     by_place : (v < length edges) ⊎ (length edges ≤ v) → depth < most
     by_place (inl lt) = omega (arith, walk.small v depth lt is, few)
@@ -39,12 +40,12 @@ from_start : (marks : List Mark) (start : ℕ) (ws : List ℕ) → start ≤ fol
 from_start marks start [] = omega arith
 from_start marks start (w ∷ ws) = omega (arith, from_start marks (max start (above (mark_at marks w))) ws)
 
-at_least : (marks : List Mark) (start : ℕ) (ws : List ℕ) (k : ℕ) → k < length ws → above (mark_at marks (get_or ws k 0)) ≤ fold (λ depth w. max depth (above (mark_at marks w))) start ws
+pub at_least : (marks : List Mark) (start : ℕ) (ws : List ℕ) (k : ℕ) → k < length ws → above (mark_at marks (get_or ws k 0)) ≤ fold (λ depth w. max depth (above (mark_at marks w))) start ws
 at_least marks start [] k lt = absurd (omega arith)
 at_least marks start (w ∷ ws) zero lt = omega (arith, from_start marks (max start (above (mark_at marks w))) ws)
 at_least marks start (w ∷ ws) (suc k) lt = at_least marks (max start (above (mark_at marks w))) ws k (omega (arith, lt))
 
-module _ (edges : List (List ℕ)) (marks : List Mark) (left path : List ℕ) (within : AreWithin edges) (walk : IsWalk edges marks left path) (all : (v : ℕ) → v < length edges → IsDone marks v) where
+module _ (edges : List (List ℕ)) (rings : Bool) (marks : List Mark) (left path : List ℕ) (within : AreWithin edges) (walk : IsWalk edges rings marks left path) (all : (v : ℕ) → v < length edges → IsDone marks v) where
   node_depth : ℕ → ℕ
   node_depth v = depth_at (mark_at marks v)
 
@@ -102,12 +103,16 @@ module _ (edges : List (List ℕ)) (marks : List Mark) (left path : List ℕ) (w
       small_here (Done depth) k d lt e = omega (arith, walk.small k depth (omega (arith, lt, walk.marked)) (get_or_default marks k New d lt ∙ e))
 
 -- a whole walk without a path has done all nodes
-pub all_done : (edges : List (List ℕ)) (marks : List Mark) (left path : List ℕ) → IsWalk edges marks left path → path ≡ [] → ((v : ℕ) → v < length edges → mark_at marks v ≡ New → ⊥) → (v : ℕ) → v < length edges → IsDone marks v
-all_done edges marks left path walk empty met v lt = by_mark (mark_at marks v) refl
+pub all_done : (edges : List (List ℕ)) (rings : Bool) (marks : List Mark) (left path : List ℕ) → IsWalk edges rings marks left path → rings ≡ false → path ≡ [] → ((v : ℕ) → v < length edges → mark_at marks v ≡ New → ⊥) → (v : ℕ) → v < length edges → IsDone marks v
+all_done edges rings marks left path walk none empty met v lt = by_mark (mark_at marks v) refl
   where
+    not_open : IsMet edges rings path v → ⊥
+    not_open (inl held) = omega (arith, held.1, ap (length {A = ℕ}) empty)
+    not_open (inr ring) = let e : true ≡ false = sym ring.0 ∙ none in cc
+
     by_mark : (m : Mark) → mark_at marks v ≡ m → IsDone marks v
     by_mark New is = absurd (met v lt is)
-    by_mark Open is = let held = walk.opened v lt is in absurd (omega (arith, held.1, ap (length {A = ℕ}) empty))
+    by_mark Open is = absurd (not_open (walk.opened v lt is))
     by_mark (Done depth) is = (depth, is)
 
 -- nodes of which each leads to the next, and the last one to a given one
@@ -125,9 +130,17 @@ cycle_of : {T : Type 0} (R : T → T → Type 0) (d : T) (xs : List T) → 0 < l
 cycle_of R d [] lt chain last = absurd (omega arith)
 cycle_of R d (a ∷ rest) lt chain last = closes R a d (a ∷ rest) lt chain last
 
+-- where the walk has given up no path, the path has the open node that its last node needs
+pub on_path : (edges : List (List ℕ)) (rings : Bool) (path : List ℕ) (w : ℕ) → ClosesAt edges rings path w → rings ≡ false → Contains path w
+on_path edges rings path w closes none = held closes.met
+  where
+    held : IsMet edges rings path w → Contains path w
+    held (inl at) = at
+    held (inr ring) = absurd (let e : true ≡ false = sym ring.0 ∙ none in cc)
+
 -- the path from a node on that its last node needs
-pub cycle_from : (edges : List (List ℕ)) (marks : List Mark) (left path : List ℕ) → IsWalk edges marks left path → (w place : ℕ) → ClosesAt edges path w → place < length path → get_or path place 0 ≡ w → HasCycle edges (drop place path)
-cycle_from edges marks left path walk w place met lt at =
+pub cycle_from : (edges : List (List ℕ)) (rings : Bool) (marks : List Mark) (left path : List ℕ) → IsWalk edges rings marks left path → (w place : ℕ) → ClosesAt edges rings path w → place < length path → get_or path place 0 ≡ w → HasCycle edges (drop place path)
+cycle_from edges rings marks left path walk w place met lt at =
     let cut = drop place path in
     let long : length cut ≡ length path - place = length-drop place path in
     let here : (i : ℕ) → get_or cut i 0 ≡ get_or path (place + i) 0 = λ i. get_or-drop place path i 0 in

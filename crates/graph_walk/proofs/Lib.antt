@@ -1,5 +1,6 @@
 pub mod Walking
 pub mod Deepest
+pub mod Rounding
 pub mod Finding
 pub mod Searching
 pub mod Maps

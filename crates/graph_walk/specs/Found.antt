@@ -3,7 +3,7 @@ use Rattle.std.specs.Prelude.{◌≡◌, ℕ, ◌<◌, List, All, length, slice_
 use Rattle.meta_model.specs.Walks.{IsDepth, IsCycle}
 use Rattle.graph_walk.specs.declared.depth.Depths.{Depths}
 use Rattle.graph_walk.specs.declared.depth.Depths.TheVariants.{Found, Cycle}
-use Rattle.graph_walk.specs.Depths.{HasEdge}
+use Rattle.graph_walk.specs.Edges.{HasEdge}
 
 -- each node's depth, by its number
 pub record HasDepths (edges : List (List ℕ)) (depths : List ℕ) : Type 0 where

@@ -1,3 +1,5 @@
-pub mod Depths
+pub mod Edges
+pub mod Rounds
+pub mod Marks
 pub mod Found
 pub mod Frontier

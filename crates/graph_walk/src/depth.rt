@@ -1,6 +1,7 @@
 // How deep the nodes of a graph stand.
 ghost use Rattle.std.specs.Prelude.{◌≡◌, ◌<◌, ◌≤◌, ◌^◌, IfOk, All, length, map, drop, ℕ, Contains, slice_index_or};
-ghost use Rattle.graph_walk.specs.Depths.{AreWithin, mark_at, depth_at};
+ghost use Rattle.graph_walk.specs.Edges.{AreWithin};
+ghost use Rattle.graph_walk.specs.Marks.{mark_at, depth_at};
 ghost use Rattle.graph_walk.specs.Found.{AreDepths};
 
 use crate::marks::{Mark, Walk};
@@ -17,7 +18,7 @@ pub enum Depths {
 }
 
 /// The depths of all nodes, given each one's dependencies; or a cycle.
-pub fn depths_of(alloc: Global, edges: &[ListOf<u32>]) -> Result<Depths, Mem>
+pub fn depths_of(alloc: Global, edges: &[ListOf<usize>]) -> Result<Depths, Mem>
     requires within { AreWithin edges.now }
     requires few { length edges.now < 2 ^ 32 }
     ensures { IfOk result (AreDepths edges.now) }

@@ -1,19 +1,15 @@
 -- Plans of which nothing was left out are blind.
-use Rattle.std.proofs.Common.{◌≡◌, ◌∙◌, sym, ap, refl, subst, ℕ, zero, List, [], ◌∷◌, length, Bool, false, Some, Result, Ok, Err, All, get_or, codes, slice_get}
+use Rattle.std.proofs.Common.{◌≡◌, ◌∙◌, ◌<◌, sym, ap, subst, ℕ, zero, List, [], ◌∷◌, Bool, false, Some, Ok, All, get_or, codes, slice_get}
 use Rattle.std.specs.Prelude.{slice_index_or}
 use Rattle.std.specs.Result.{result_ok}
 use Rattle.std.proofs.lemmas.Option.{slice_get-get_or, slice_get_within, get_or_from_slice_get}
-use Rattle.outside_traits.specs.Store.{Store}
 use Rattle.meta_model.specs.declared.entry.EntryLine.{EntryLine}
 use Rattle.meta_model.specs.declared.facts.Node.{Node}
-use Rattle.meta_model.specs.declared.facts.Graph.{Graph}
 use Rattle.meta_model.specs.declared.value.Key.{Key}
-use Rattle.meta_model.specs.declared.plan.Plan.{Plan}
 use Rattle.meta_model.specs.declared.plan.PlanTask.{PlanTask}
-use Rattle.meta_model.specs.CleanBuild.{Entries, Gives}
+use Rattle.meta_model.specs.CleanBuild.{Gives}
 use Rattle.meta_model.specs.Refusal.{Refusal}
 use Rattle.meta_model.specs.Text.{is_in}
-use Rattle.load_model.specs.LoadRefusal.{◌>>=◌}
 use Rattle.load_model.specs.Facts.{RecipeSet}
 use Rattle.task_model.specs.Leads.{value_words}
 use Rattle.task_model.specs.Keys.{key}
@@ -22,14 +18,12 @@ use Rattle.task_model.proofs.StoreLaw.{script_is, places_are}
 use Rattle.task_model.proofs.KeyNames.{sstate_is}
 use Rattle.store_model.specs.Origins.{Book, Line, Reading}
 use Rattle.store_model.specs.Valid.{StandsIn}
-use Rattle.store_model.specs.Premises.{AgreeOnTrees, IsBlind, HasNoClash}
-use Rattle.store_model.specs.Reuse.{MayReuse}
+use Rattle.store_model.specs.Premises.{AgreeOnTrees, IsBlind}
 use Rattle.store_model.proofs.Soundness.{sound_plan_is_sound}
 use Rattle.plan_model.specs.Inputs.{Files}
-use Rattle.plan_model.specs.Plans.{is_shared, plan_of, file_at, forced, forced_from}
-use Rattle.plan_model.specs.Sound.{IsSound}
-use Rattle.plan_model.specs.Blind.{key_reading, IsWhole, WholeIsBlind, ForcedIsBlind, ForcedIsWhole, FirstMayReuse}
-use Rattle.plan_model.proofs.Planning.{HasParts, IsOfNode, node_of, of_graph, ok_parts, same_ok}
+use Rattle.plan_model.specs.Plans.{is_shared, forced}
+use Rattle.plan_model.specs.Blind.{key_reading, WholeIsBlind, ForcedIsBlind, ForcedIsWhole, FirstMayReuse}
+use Rattle.plan_model.proofs.Planning.{IsOfNode, node_of, of_graph, ok_parts, same_ok}
 use Rattle.plan_model.proofs.Soundness.{IsForced, forced_at, forced_many}
 use Rattle.plan_model.proofs.Meets.{sound_meets}
 

@@ -1,5 +1,5 @@
 -- Plans of which nothing was left out: their keys alone decide what their tasks give.
-use Rattle.std.specs.Prelude.{◌≡◌, ℕ, false, List, [], All, Ok}
+use Rattle.std.specs.Prelude.{◌≡◌, ℕ, false, [], All, Ok}
 use Rattle.std.specs.Result.{result_ok}
 use Rattle.meta_model.specs.declared.facts.Graph.{Graph}
 use Rattle.meta_model.specs.declared.plan.Plan.{Plan}

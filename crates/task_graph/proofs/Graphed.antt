@@ -16,7 +16,7 @@ use Rattle.meta_model.specs.Walks.{IsDepth, IsCycle}
 use Rattle.meta_model.specs.Needs.{Task, Needs}
 use Rattle.meta_model.specs.GraphRefusal.{target_task}
 use Rattle.meta_model.specs.TaskGraph.{IsReached, id_of, node_task, node_at, node_cmp, HasDependencies, IsGraph, HasNoRefusal}
-use Rattle.graph_walk.specs.Depths.{edges_from}
+use Rattle.graph_walk.specs.Edges.{edges_from}
 use Rattle.graph_walk.specs.Frontier.{Has}
 use Rattle.graph_walk.proofs.Finding.{place_within}
 use Rattle.task_graph.specs.declared.order.Draft.{Draft}

@@ -10,7 +10,7 @@ use Rattle.meta_model.specs.TaskGraph.{IsReached}
 use Rattle.task_graph.specs.declared.table.TaskTable.{TaskTable}
 use Rattle.graph_walk.specs.Frontier.{Has}
 use Rattle.task_graph.specs.Table.{IsTable}
-use Rattle.graph_walk.specs.Depths.{AreWithin, HasEdge, edges_from}
+use Rattle.graph_walk.specs.Edges.{AreWithin, HasEdge, edges_from}
 use Rattle.graph_walk.specs.declared.depth.Depths.{Depths}
 use Rattle.graph_walk.specs.declared.depth.Depths.TheVariants.{Found, Cycle}
 use Rattle.task_graph.specs.Levels.{AreLevels}

@@ -94,10 +94,6 @@ zip_join P Q R to (x ∷ xs) (y ∷ ys) (z ∷ zs) g h = (to x y z g.0 h.0, zip_
 pub all_from_has : {A : Type 0} (P : A → Type 0) (xs : List A) → ((x : A) → Has xs x → P x) → All P xs
 all_from_has P xs h k d lt = h (get_or xs k d) (k, slice_get-get_or xs k d lt)
 
--- the places of nodes stand within what is found
-pub places_within : (found nodes places : List ℕ) → AllZip (λ n p. slice_get found p ≡ Some n) nodes places → All (λ p. p < length found) places
-places_within found nodes places zip = all_from_has (λ p. p < length found) places (λ p h. let at = zip_right (λ n q. slice_get found q ≡ Some n) nodes places h.0 p zip h.1 in place_within found p at.0 at.2)
-
 pub all_weaker : (P Q : ℕ → Type 0) (xs : List ℕ) → ((x : ℕ) → P x → Q x) → All P xs → All Q xs
 all_weaker P Q xs to all k d lt = to (get_or xs k d) (all k d lt)
 

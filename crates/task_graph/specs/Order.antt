@@ -11,7 +11,7 @@ use Rattle.meta_model.specs.declared.facts.Node.{Node}
 use Rattle.meta_model.specs.declared.facts.Graph.{Graph}
 use Rattle.meta_model.specs.Needs.{Task}
 use Rattle.meta_model.specs.TaskGraph.{id_of, id_cmp}
-use Rattle.graph_walk.specs.Depths.{edges_from}
+use Rattle.graph_walk.specs.Edges.{edges_from}
 use Rattle.graph_walk.specs.Frontier.{Has}
 use Rattle.task_graph.specs.declared.order.Draft.{Draft}
 use Rattle.task_graph.specs.declared.table.TaskTable.{TaskTable}

@@ -1,7 +1,7 @@
 // The nodes of a graph, with the numbers of their dependencies.
 ghost use Rattle.std.specs.Prelude.{◌≡◌, ◌<◌, ◌≤◌, ◌^◌, IfOk, All, length, map, slice_index};
 ghost use Rattle.std.specs.List.{AllZip};
-ghost use Rattle.graph_walk.specs.Depths.{AreWithin};
+ghost use Rattle.graph_walk.specs.Edges.{AreWithin};
 ghost use Rattle.task_graph.specs.Table.{IsTable};
 ghost use Rattle.task_graph.specs.Edges.{IsNumbered};
 ghost use Rattle.task_graph.specs.Order.{AreAllPlaces, AreRanks, AreNumbers, IsNodeOf, IsEmitted, place_of};
@@ -27,19 +27,19 @@ fn ranks_of(alloc: Global, drafts: &[Draft]) -> Result<Vec<u32>, Mem>
 }
 
 /// The numbers of places.
-fn ranked(alloc: Global, ranks: &[u32], places: &[u32]) -> Result<Vec<u32>, Mem>
+fn ranked(alloc: Global, ranks: &[u32], places: &[usize]) -> Result<Vec<u32>, Mem>
     requires { All (λ place. place < length ranks.now) places.now }
     ensures { IfOk result (λ made. made.items ≡ map (slice_index ranks.now) places.now) }
 {
     let mut made = Vec::with_capacity(alloc, places.len())?;
     for place in places {
-        made.push(ranks[*place as usize])?;
+        made.push(ranks[*place])?;
     }
     Ok(made)
 }
 
 /// The numbers of places, ascending and each once.
-fn numbers_of(alloc: Global, ranks: &[u32], places: &[u32]) -> Result<ListOf<u32>, Mem>
+fn numbers_of(alloc: Global, ranks: &[u32], places: &[usize]) -> Result<ListOf<u32>, Mem>
     requires { All (λ place. place < length ranks.now) places.now }
     ensures { IfOk result (AreNumbers ranks.now places.now) }
 {
@@ -50,7 +50,7 @@ fn numbers_of(alloc: Global, ranks: &[u32], places: &[u32]) -> Result<ListOf<u32
 }
 
 /// The node of a draft.
-fn node_of(alloc: Global, ranks: &[u32], edges: &[ListOf<u32>], draft: Draft) -> Result<Node, Mem>
+fn node_of(alloc: Global, ranks: &[u32], edges: &[ListOf<usize>], draft: Draft) -> Result<Node, Mem>
     requires edges { AreWithin edges.now }
     requires ranks { length ranks.now ≡ length edges.now }
     requires placed { draft.place < length edges.now }
@@ -70,7 +70,7 @@ fn node_of(alloc: Global, ranks: &[u32], edges: &[ListOf<u32>], draft: Draft) ->
 fn nodes_of(
     alloc: Global,
     ranks: &[u32],
-    edges: &[ListOf<u32>],
+    edges: &[ListOf<usize>],
     drafts: Vec<Draft>,
 ) -> Result<ListOf<Node>, Mem>
     requires edges { AreWithin edges.now }

@@ -25,15 +25,15 @@ const TASK_LIMIT: usize = 65_536;
 #[derive(Drop)]
 pub(crate) struct Reached {
     pub(crate) tasks: Vec<usize>,
-    pub(crate) edges: Vec<ListOf<u32>>,
-    pub(crate) ends: ListOf<u32>,
+    pub(crate) edges: Vec<ListOf<usize>>,
+    pub(crate) ends: ListOf<usize>,
 }
 
 /// The targets' tasks, which are found, and their places.
 #[derive(Drop)]
 struct Begun {
     frontier: Frontier,
-    ends: ListOf<u32>,
+    ends: ListOf<usize>,
 }
 
 /// Refuses more tasks than a graph may have.
@@ -45,18 +45,6 @@ fn check_limit(count: usize) -> Result<(), GraphFault>
         return Err(GraphFault::Tasks);
     }
     Ok(())
-}
-
-/// Places as the graph writes them.
-fn as_places(alloc: Global, places: &[usize]) -> Result<ListOf<u32>, Mem>
-    requires { All (λ place. place < 2 ^ 32) places.now }
-    ensures { IfOk result (λ made. made ≡ places.now) }
-{
-    let mut made = ListOf::new(alloc);
-    for place in places {
-        made.push(*place as u32)?;
-    }
-    Ok(made)
 }
 
 /// The numbers of the tasks that targets stand for.
@@ -94,7 +82,7 @@ fn find_next(
     context: &Context,
     frontier: &mut Frontier,
     number: usize,
-) -> Result<ListOf<u32>, GraphFault>
+) -> Result<ListOf<usize>, GraphFault>
     requires few { length facts.now.recipes < 2 ^ 32 }
     requires context { IsContext facts.now context.now }
     requires numbered { IsNumbered context.now.table number }
@@ -113,7 +101,7 @@ fn find_next(
     let needed = edges_of(alloc, facts, context, number)?;
     let places = frontier.add_all(alloc, needed.as_slice())?;
     check_limit(frontier.found.len())?;
-    Ok(as_places(alloc, places.as_slice())?)
+    Ok(ListOf::from_vec(places))
 }
 
 /// Finds the tasks of the targets; answers their places.
@@ -134,8 +122,10 @@ fn find_targets(
     let mut frontier = Frontier::new(alloc, context.table.spots.len())?;
     let places = frontier.add_all(alloc, starts.as_slice())?;
     check_limit(frontier.found.len())?;
-    let ends = as_places(alloc, places.as_slice())?;
-    Ok(Begun { frontier, ends })
+    Ok(Begun {
+        frontier,
+        ends: ListOf::from_vec(places),
+    })
 }
 
 /// The tasks that targets reach.

@@ -1,4 +1,4 @@
-use Rattle.graph_walk.specs.Depths.{depth_at}
+use Rattle.graph_walk.specs.Marks.{depth_at}
 use Rattle.graph_walk.proofs.Maps.{map_end}
 use Rattle.graph_walk.proofs.depth.depths_in.Goals as goal
 

@@ -1,5 +1,5 @@
 use Rattle.std.proofs.Common.{◌≡◌, take, map}
-use Rattle.graph_walk.specs.Depths.{depth_at}
+use Rattle.graph_walk.specs.Marks.{depth_at}
 use Rattle.graph_walk.proofs.depth.depths_in.Given as goal
 
 abbrev pub invariant-loop-mark : goal.invariant-loop-mark

@@ -1,5 +1,5 @@
 use Rattle.std.proofs.Common.{◌≡◌, take}
-use Rattle.graph_walk.specs.Depths.{depth_over}
+use Rattle.graph_walk.specs.Marks.{depth_over}
 use Rattle.graph_walk.proofs.marks.depth_of.Given as goal
 
 abbrev pub invariant-loop-node : goal.invariant-loop-node

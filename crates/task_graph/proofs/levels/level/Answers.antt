@@ -1,5 +1,5 @@
 use Rattle.std.proofs.Common.{arith, length, sym, subst, List, ℕ, ap}
-use Rattle.graph_walk.specs.Depths.{AreWithin}
+use Rattle.graph_walk.specs.Edges.{AreWithin}
 use Rattle.task_graph.proofs.Placed.{edges_within, levels_are}
 use Rattle.task_graph.proofs.levels.level.Goals as goal
 

@@ -4,5 +4,6 @@ use Rattle.graph_walk.proofs.marks.Walk.turn.Goals as goal
 
 pub returns-else-is_open-clause-walk : goal.returns-else-is_open-clause-walk
 returns-else-is_open-clause-walk c =
-    rw (ap (λ v. v.items) c.leave.ensures.marks, ap (λ v. v.items) c.leave.ensures.left, c.leave.ensures.path)
-    (dropped c.args.edges.now c.args.self.now.marks.items c.args.self.now.left.items c.args.self.now.path.items c.requires.within c.requires.walk c.args.node c.requires.last (λ is. let t = c.is_open.ensures.1 is in cc))
+    let walk = c.args.self.now in
+    rw (ap (λ v. v.items) c.leave.ensures.marks, ap (λ v. v.items) c.leave.ensures.left, c.leave.ensures.path, c.leave.ensures.rings)
+    (dropped c.args.edges.now walk.rings walk.marks.items walk.left.items walk.path.items c.requires.within c.requires.walk c.args.node c.requires.last (λ is. let t = c.is_open.ensures.1 is in cc))
