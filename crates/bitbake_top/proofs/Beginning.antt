@@ -50,7 +50,7 @@ use Rattle.bitbake_top.specs.Worked.{chain_plan, hello_left}
 -- ---- a first run
 
 first_run : (plan_tasks : MayReuse shell hello_reading nothing [] hello_plan.tasks) → MayBegin shell hello_reading [] nothing hello_plan
-first_run may = record { valid = empty_is_valid shell hello_reading; readable = tt; folders = record { work = refl; objects = refl; parts = λ part one. refl }; may = may }
+first_run may = record { valid = empty_is_valid shell hello_reading; readable = tt; folders = record { work = refl; objects = refl; parts = λ part one. refl }; may = λ none. may }
 
 pub hello_begins : MayBegin shell hello_reading [] nothing hello_plan
 hello_begins = first_run hello_is_recorded.before
@@ -130,7 +130,7 @@ chain_may = record {
 }
 
 pub chain_begins : MayBegin shell chain_reading [] nothing chain_plan
-chain_begins = record { valid = empty_is_valid shell chain_reading; readable = tt; folders = record { work = refl; objects = refl; parts = λ part one. refl }; may = chain_may }
+chain_begins = record { valid = empty_is_valid shell chain_reading; readable = tt; folders = record { work = refl; objects = refl; parts = λ part one. refl }; may = λ none. chain_may }
 
 -- ---- a second run
 
@@ -332,4 +332,4 @@ again_may = record {
 }
 
 pub hello_begins_again : MayBegin shell hello_reading hello_book hello_left hello_plan
-hello_begins_again = record { valid = left_valid; readable = (line_readable, tt); folders = left_folders; may = again_may }
+hello_begins_again = record { valid = left_valid; readable = (line_readable, tt); folders = left_folders; may = λ none. again_may }

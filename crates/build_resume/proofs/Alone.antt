@@ -19,7 +19,7 @@ use Rattle.meta_model.specs.CleanBuild.{Gives}
 use Rattle.meta_model.proofs.Bools.{either_way}
 use Rattle.store_model.specs.declared.signature.EquivRow.{EquivRow}
 use Rattle.store_model.specs.Available.{IsAvailable, object_folder, stamp_path, work_folder}
-use Rattle.store_model.specs.Origins.{Book, rows_of}
+use Rattle.store_model.specs.Origins.{Book, Line, rows_of}
 use Rattle.store_model.specs.Signatures.{Signed, signatures}
 use Rattle.build_store.specs.Opening.{Clears}
 use Rattle.store_model.specs.Opened.{IsElsewhere, IsOpened}
@@ -30,13 +30,13 @@ use Rattle.run_model.specs.Books.{book_after}
 use Rattle.run_queue.specs.declared.fault.RunFault.{RunFault}
 use Rattle.run_queue.specs.Keeps.{WasThere}
 use Rattle.run_model.specs.Opening.{Opening}
-use Rattle.run_model.specs.Own.{IsAside}
+use Rattle.run_model.specs.Own.{IsAside, IsObjectOfNone}
 use Rattle.run_queue.specs.Seen.{IsBegun}
-use Rattle.run_model.specs.Stands.{HasStarted}
-use Rattle.run_queue.specs.Stands.{IsAsBegun}
-use Rattle.run_queue.proofs.Enduring.{signed_task}
+use Rattle.run_queue.specs.Stands.{IsAsBegun, IsPublishing}
+use Rattle.run_queue.proofs.Found.{signed_task_at}
 use Rattle.run_queue.proofs.Placing.{has_place}
-use Rattle.run_model.specs.Build.{IsLeftAlone, LeavesOthers, MayTouch}
+use Rattle.run_queue.proofs.Touched.{none_less}
+use Rattle.run_model.specs.Build.{IsLeftAlone, LeavesOthers, MayPublish, MayTouch}
 use Rattle.run_model.specs.Ends.{is_faultless}
 use Rattle.build_resume.specs.Outcome.{KeptTo}
 use Rattle.build_resume.proofs.Outcomes.{fresh_image}
@@ -93,6 +93,9 @@ module _ (o : Opening) (book : Book) (before : Store) (rows : List EquivRow) (op
   abbrev Touched : ℕ → Type 0
   Touched = MayTouch o.gives o.book before k.last.plan k.last.options k.last.tale s k.run.halted
 
+  abbrev Published : ℕ → Type 0
+  Published = MayPublish o.gives o.book before k.last.plan k.last.options k.last.tale s k.run.halted
+
   -- a fault is kept only under the status of one
   faulty : IsSome k.last.fault → is_faultless s ≡ false
   faulty some = elim (either_way (is_faultless s)) [
@@ -105,28 +108,31 @@ module _ (o : Opening) (book : Book) (before : Store) (rows : List EquivRow) (op
       none_some (Some f) e is = let n : Some f ≡ None = e in cc
 
   -- what was there as an object in the opened store was so before
-  had_object : (t : ℕ) (task : PlanTask) → slice_get k.last.plan.tasks t ≡ Some task → WasThere o k.last t Object → (sg : Signed) → slice_get (signatures (rows_of (book_after o.gives k.last.plan o.book k.last.tale)) k.last.plan.tasks) t ≡ Some sg
+  had_object : (t : ℕ) → WasThere o k.last t Object → (sg : Signed) → slice_get (signatures (rows_of (book_after o.gives k.last.plan o.book k.last.tale)) k.last.plan.tasks) t ≡ Some sg
       → IsAvailable before (rows_of (book_after o.gives k.last.plan o.book k.last.tale)) k.last.options.setscene sg Object
-  had_object t task at was sg is =
+  had_object t was sg is =
       let Rows : List EquivRow = rows_of (book_after o.gives k.last.plan o.book k.last.tale) in
       let here = subst (λ (r : List EquivRow). slice_get (signatures r k.last.plan.tasks) t ≡ Some sg) (sym k.run.rows) is in
       let object = subst (λ (r : List EquivRow). IsAvailable o.story.held r k.last.options.setscene sg Object) k.run.rows (was sg here) in
-      let own = signed_task (rows_of (book_after o.gives k.last.plan o.book k.last.tale)) k.last.plan.tasks t sg task is at in
-      let place = has_place k.last.plan t sg.task k.run.may.sound (at ∙ ap (λ (y : PlanTask). Some y) (sym own)) in
+      let place = has_place k.last.plan t sg.task k.run.may.sound (signed_task_at (rows_of (book_after o.gives k.last.plan o.book k.last.tale)) k.last.plan.tasks t sg is) in
       (opened_stays before o.story.held rows opened Rows k.last.options.setscene sg Object place).1 object
 
   -- the run may have touched what was begun
-  touched : (t : ℕ) (task : PlanTask) → slice_get k.last.plan.tasks t ≡ Some task → IsBegun k.last t → Touched t
-  touched t task at b = elim (k.run.told t b) [
+  touched : (t : ℕ) → IsBegun k.last t → Touched t
+  touched t b = elim (k.run.told t b) [
     | inl up ↦ inl up
     | inr rest ↦ elim rest [
-      | inl it ↦ elim (k.run.tried t b) [
-        | inl started ↦ inl (inl started)
-        | inr was ↦ inr (it.1, record { faulty = faulty it.0; object = had_object t task at was })
-      ]
+      | inl it ↦ inr (it.1, record { faulty = faulty it.0; begun = elim it.2 [ inl broken ↦ inl broken | inr was ↦ inr (had_object t was) ] })
       | inr never ↦ absurd never
     ]
   ]
+
+  -- and it may have published what it began to publish
+  published : (t : ℕ) → IsPublishing k.last t → Published t
+  published t b = (touched t b.0, b.1)
+
+  none_published : (line : Line) → IsObjectOfNone o.gives k.last.plan o.book k.last.tale Published line → IsObjectOfNone o.gives k.last.plan o.book k.last.tale (IsPublishing k.last) line
+  none_published line = none_less o.gives k.last.plan o.book k.last.tale k.last.tale (IsPublishing k.last) Published line published (λ n. (n, refl))
 
   begun_alone : (image : Store) (of : PlanTask) → IsAsBegun o.book o.story.held image of → IsLeftAlone book before image of
   begun_alone image of was = record {
@@ -136,8 +142,8 @@ module _ (o : Opening) (book : Book) (before : Store) (rows : List EquivRow) (op
   }
 
   -- what is aside of what may have been touched is aside of what was begun
-  begun_aside : (q : List ℕ) → IsAside k.last.plan Touched (HasStarted k.last.tale) q → IsAside k.last.plan (IsBegun k.last) (HasStarted k.last.tale) q
-  begun_aside q is = record { temporary = is.temporary; folder = λ t task at b own. is.folder t task at (touched t task at b) own; output = is.output }
+  begun_aside : (q : List ℕ) → IsAside k.last.plan Touched Published q → IsAside k.last.plan (IsBegun k.last) (IsPublishing k.last) q
+  begun_aside q is = record { temporary = is.temporary; folder = λ t task at b own. is.folder t task at (touched t b) own; output = λ t b shared. is.output t (published t b) shared }
 
   last_others : ((image : Store) → IsImageSince o.story 0 image → Clears before before image) → LeavesOthers o.gives book before k.last.plan k.last.options k.last.tale s k.last.story
   last_others early = record {
@@ -146,11 +152,11 @@ module _ (o : Opening) (book : Book) (before : Store) (rows : List EquivRow) (op
     halted = k.run.halted;
     others = λ image since t task at untouched. elim (k.run.images 0 image (omega arith) since) [
       | inl was ↦ cleared_alone book before image task (early image was)
-      | inr left ↦ begun_alone image task (left.others t task at (λ b. untouched (touched t task at b)))
+      | inr left ↦ begun_alone image task (left.others t task at (λ b. untouched (touched t b)))
     ];
     objects = λ image since line has none q below. elim (k.run.images 0 image (omega arith) since) [
       | inl was ↦ (early image was).left q (inl (object_elsewhere line.unihash q below))
-      | inr left ↦ left.objects line (same.whole has.0 line has.1) none q below ∙ opened.left q (inl (object_elsewhere line.unihash q below))
+      | inr left ↦ left.objects line (same.whole has.0 line has.1) (none_published line none) q below ∙ opened.left q (inl (object_elsewhere line.unihash q below))
     ];
     paths = λ image since q left_alone aside. elim (k.run.images 0 image (omega arith) since) [
       | inl was ↦ (early image was).left q left_alone

@@ -1,5 +1,5 @@
 -- What a run leaves of a disk on which it began, over a book.
-use Rattle.std.proofs.Common.{◌≡◌, sym, subst, refl, ℕ, ◌+◌, ◌-◌, ◌^◌, ◌<◌, false, List, [], ◌++◌, take, slice_get, Some, arith, inl, inr}
+use Rattle.std.proofs.Common.{◌≡◌, ◌∙◌, sym, subst, refl, ℕ, ◌+◌, ◌-◌, ◌^◌, ◌<◌, false, List, [], ◌++◌, take, slice_get, Some, arith, inl, inr}
 use Rattle.std.specs.Prelude.{◌≢◌, ◌⊎◌, Contains}
 use Rattle.std.proofs.lemmas.List.Elements.{All-cons, All-nil}
 use Rattle.outside_traits.specs.Passes.{EachNow, Passes}
@@ -18,7 +18,7 @@ use Rattle.store_model.specs.declared.signature.EquivRow.{EquivRow}
 use Rattle.build_store.specs.Opening.{Clears}
 use Rattle.store_model.specs.Opened.{IsOpened}
 use Rattle.build_store.specs.Reopened.{IsBookAgain}
-use Rattle.build_store.proofs.Reopened.{opened_is_valid}
+use Rattle.build_store.proofs.Reopened.{cleared_is_valid, opened_is_valid}
 use Rattle.run_model.specs.Books.{book_after}
 use Rattle.run_model.specs.Courses.{IsLegalTale}
 use Rattle.run_queue.specs.Keeps.{IsOpening}
@@ -27,7 +27,7 @@ use Rattle.run_model.specs.Opening.{Opening}
 use Rattle.run_model.specs.Stands.{AllStand}
 use Rattle.run_model.specs.Runs.{Runs}
 use Rattle.run_model.specs.Benches.{AtSeats}
-use Rattle.run_model.specs.Build.{AllClean, FailsClean, HasRun, HasTargets, IsCrash, IsEachFailureTold, IsLeftByRun, LeavesOthers, RanStarted, failed_in, is_unsteady}
+use Rattle.run_model.specs.Build.{AllClean, FailsClean, HasRun, HasTargets, IsCrash, IsEachFailureTold, IsLeftByOpening, IsLeftByRun, LeavesOthers, RanStarted, failed_in, is_unsteady}
 use Rattle.build_resume.specs.Build.{IsEntry, Leaves}
 use Rattle.run_model.specs.Outcome.{EndsAs}
 use Rattle.build_resume.specs.Outcome.{KeptTo}
@@ -74,6 +74,15 @@ module _ (gives : Gives) (reading : Reading) (book : Book) (plan : Plan) (option
     as_kept P is =
         subst (P plan options tale) k.story_is (subst (λ (l : List Logged). P plan options l k.last.story) k.tale_is (subst (λ (x : Options). P plan x k.last.tale k.last.story) k.options_are (subst (λ (p : Plan). P p k.last.options k.last.tale k.last.story) k.plan_is is)))
 
+    -- a crash while the store was opened left the book of entry, in the opening's order, and what opening leaves alone
+    left_by_opening : (image : Store) → IsImageSince opening.story 0 image → IsLeftByOpening opening before.held image
+    left_by_opening image since =
+        let early = opening_clears before after image was.fresh was.clears since in
+        record {
+          valid = cleared_is_valid before.held after.held image (record { left = λ q left. early.left q left ∙ sym (was.opened.left q left) }) gives reading book entry.valid entry.readable again.again again.valid;
+          left = early.left;
+        }
+
     -- a crash since the run began left what the opening did, or what the run leaves
     left_by_run : (image : Store) → IsImageSince k.last.story 0 image → IsImageSince opening.story 0 image ⊎ IsLeftByRun opening k.last.plan (k.run.lines ++ k.run.last) image
     left_by_run image since = elim (k.run.images 0 image (omega arith) since) [
@@ -92,8 +101,10 @@ module _ (gives : Gives) (reading : Reading) (book : Book) (plan : Plan) (option
       lines = k.run.lines;
       grown = as_kept (λ p x l st. book_after gives p opening.book l ≡ opening.book ++ k.run.lines) k.run.grown;
       last = k.run.last;
+      few_last = k.run.few_last;
       none_last = λ is. k.run.none_last (k.faultless is);
       recorded = λ is. as_kept (λ p x l st. EachNow st (λ image. IsValid gives reading image (opening.book ++ k.run.lines))) (k.run.durable (k.faultless is));
+      early = left_by_opening;
       images = as_kept (λ p x l st. (image : Store) → IsImageSince st 0 image → IsImageSince opening.story 0 image ⊎ IsLeftByRun opening p (k.run.lines ++ k.run.last) image) left_by_run;
       stands = as_kept (λ p x l st. EachNow st (AllStand opening p l)) k.run.stands;
       since = as_kept

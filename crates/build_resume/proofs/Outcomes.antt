@@ -29,7 +29,8 @@ use Rattle.store_model.specs.Lines.{HaveSameLines}
 use Rattle.build_store.specs.Reopened.{IsBookAgain}
 use Rattle.store_model.specs.Readable.{IsReadable}
 use Rattle.build_store.proofs.Reopened.{cleared_is_valid, opened_holds_no_more}
-use Rattle.build_store.proofs.Reused.{reuse_again}
+use Rattle.build_store.proofs.Reused.{no_collision, reuse_again}
+use Rattle.build_store.proofs.SameLines.{other_lines}
 use Rattle.run_model.specs.Report.{has_failure, is_failure}
 use Rattle.run_model.specs.Opening.{HasFolders, Opening}
 use Rattle.run_queue.specs.Opening.{MayRun}
@@ -239,7 +240,10 @@ pub opened_may_run : (gives : Gives) (reading : Reading) (book : Book) (plan : P
 opened_may_run gives reading book plan before story rows again entry opened durable = record {
   sound = entry.sound;
   valid = again.valid;
-  may = reuse_again gives reading before story.held book again.again plan.tasks entry.may again.same again.valid.lines (opened_holds_no_more before story.held rows opened);
+  may = λ none.
+      reuse_again gives reading before story.held book again.again plan.tasks
+      (entry.may (no_collision gives reading again.again book plan.tasks again.valid.lines entry.valid.lines (other_lines book again.again again.same) none))
+      again.same again.valid.lines (opened_holds_no_more before story.held rows opened);
   durable = durable;
   folders = left_folders before story.held (λ q none. opened.left q (inr (inr (inr none)))) entry.folders;
   readable = again.readable;

@@ -67,10 +67,14 @@ module _ (gives : Gives) (reading : Reading) (held less : Store) (book again : B
   no_clash : HasNoClash gives reading held book tasks → HasNoClash gives reading less again tasks
   no_clash none a b x y e = none a b (content_was a x) (content_was b y) e
 
+-- ---- signatures under one name
+
+module _ (gives : Gives) (reading : Reading) (book again : Book) (tasks : List PlanTask) (valid : IsValidBook gives reading book) (valid' : IsValidBook gives reading again) (same : HaveSameLines book again) where
   one_signature : (s : Signed) → HasOneSignature book s → HasOneSignature again s
   one_signature s one before line t name = let b = same.only before line t in one b.0 line b.1 name
 
-  no_collision : HasNoCollision book (rows_of book) tasks → HasNoCollision again (rows_of again) tasks
+  -- where no line has the name of a task and another signature, none of the other book has
+  pub no_collision : HasNoCollision book (rows_of book) tasks → HasNoCollision again (rows_of again) tasks
   no_collision none =
       let signed = signatures_same (rows_of book) (rows_of again) (same_rows gives reading book again valid valid' same) tasks in
       All-from_recursion (HasOneSignature again) (signatures (rows_of again) tasks)
@@ -82,5 +86,5 @@ reuse_again gives reading held less book again tasks may same valid fewer = reco
   sound = may.sound;
   blind = may.blind;
   no_clash = no_clash gives reading held less book again tasks may.valid valid same fewer may.no_clash;
-  no_collision = no_collision gives reading held less book again tasks may.valid valid same fewer may.no_collision;
+  no_collision = no_collision gives reading book again tasks may.valid valid same may.no_collision;
 }

@@ -1,5 +1,5 @@
 -- What a run of a plan leaves.
-use Rattle.std.specs.Prelude.{◌≡◌, ◌≢◌, ◌⊎◌, ◌<◌, ◌+◌, ◌-◌, ◌^◌, ℕ, Bool, true, false, List, [], ◌∷◌, ◌++◌, take, Contains, Option, Some, Ok, Err}
+use Rattle.std.specs.Prelude.{◌≡◌, ◌≢◌, ◌⊎◌, ◌<◌, ◌≤◌, ◌+◌, ◌-◌, ◌^◌, ℕ, Bool, true, false, List, [], ◌∷◌, ◌++◌, length, take, Contains, Option, Some, Ok, Err}
 use Rattle.std.specs.List.{slice_get, AllByRecursion}
 use Rattle.sha2.specs.Sha256.{sha256}
 use Rattle.tree_model.specs.Path.{IsAtOrBelow}
@@ -29,8 +29,8 @@ use Rattle.run_model.specs.Books.{book_after}
 use Rattle.run_model.specs.Causes.{IsClashOf, IsUnsteadyOf}
 use Rattle.run_model.specs.Courses.{IsLegalTale}
 use Rattle.run_model.specs.Opening.{HasFolders, Opening}
-use Rattle.run_model.specs.Own.{IsAside, IsOfNone}
-use Rattle.run_model.specs.Stands.{AllStand, HasStarted, IsHonest, IsTakenUp}
+use Rattle.run_model.specs.Own.{IsAside, IsObjectOfNone}
+use Rattle.run_model.specs.Stands.{AllStand, HasBroken, HasStarted, IsHonest, IsPlaced}
 use Rattle.run_model.specs.Runs.{RanScripts, Runs}
 use Rattle.run_model.specs.Seats.{own}
 use Rattle.run_model.specs.Seats as worked
@@ -55,6 +55,12 @@ pub record IsCrash (gives : Gives) (reading : Reading) (book : Book) (image : St
   pub readable : AllByRecursion IsReadable (again ++ lines)
   pub folders : HasFolders image
 
+-- A crash while the store was opened left it valid with the opening's book, and all that opening leaves alone as it was at entry, so each stamp
+-- and each work folder.
+pub record IsLeftByOpening (opening : Opening) (held image : Store) : Type 0 where
+  pub valid : IsValid opening.gives opening.reading image opening.book
+  pub left : (q : List ℕ) → IsLeft held q → image q ≡ held q
+
 -- A crash behind the opening left the store valid with the first of these lines behind the opening's, and no stamp of a task of the plan lies:
 -- its stamp and its work folder are as they were opened, or it has no stamp, or what its stamp tells of is there.
 pub record IsLeftByRun (opening : Opening) (plan : Plan) (lines : Book) (image : Store) : Type 0 where
@@ -63,7 +69,7 @@ pub record IsLeftByRun (opening : Opening) (plan : Plan) (lines : Book) (image :
   pub honest : (t : ℕ) (task : PlanTask) → slice_get plan.tasks t ≡ Some task → IsHonest opening.story.held image task
 
 -- A tale that is legal over the store as it was opened, with the lines of the entry's book in its own order. Behind these the run recorded
--- the lines of what ended, and where it met a fault maybe one more. Each settled task stands to the end, and since the moment of its event.
+-- the lines of what ended, and where it met a fault one more at most. Each settled task stands to the end, and since the moment of its event.
 pub record HasRun (gives : Gives) (reading : Reading) (book : Book) (held : Store) (plan : Plan) (options : Options) (tale : List Logged) (s : Status) (now : Story) : Type 0 where
   pub opening : Opening
   pub same_gives : opening.gives ≡ gives
@@ -74,8 +80,10 @@ pub record HasRun (gives : Gives) (reading : Reading) (book : Book) (held : Stor
   pub lines : Book
   pub grown : book_after gives plan opening.book tale ≡ opening.book ++ lines
   pub last : Book
+  pub few_last : length last ≤ 1
   pub none_last : is_faultless s ≡ true → last ≡ []
   pub recorded : is_faultless s ≡ true → EachNow now (λ image. IsValid gives reading image (opening.book ++ lines))
+  pub early : (image : Store) → IsImageSince opening.story 0 image → IsLeftByOpening opening held image
   pub images : (image : Store) → IsImageSince now 0 image → IsImageSince opening.story 0 image ⊎ IsLeftByRun opening plan (lines ++ last) image
   pub stands : EachNow now (AllStand opening plan tale)
   pub since : (k : ℕ) (entry : Logged) → slice_get tale k ≡ Some entry → entry.moment < 2 ^ 64 - 1 → (image : Store) → IsImageSince now entry.moment image → AllStand opening plan (take (k + 1) tale) image
@@ -115,28 +123,33 @@ pub record IsLeftAlone (book : Book) (held image : Store) (of : PlanTask) : Type
   pub objects : (line : Line) → HasLine book line → line.sig.pn ≡ of.id.pn → line.sig.task ≡ of.id.task → (q : List ℕ) → IsAtOrBelow (object_folder line.unihash) q → image q ≡ held q
   pub stamp : IsLeft held (stamp_path of) → image (stamp_path of) ≡ held (stamp_path of)
 
--- The run was halted while it restored the task: it met a fault, so its status isn't one of those that come without; and the task had an
--- object to be restored from, by its signature over the lines of the book and those that the tale puts behind them.
+-- The run was halted while it published or restored the task: it met a fault, so its status isn't one of those that come without; and the tale
+-- breaks the task off by that, or the task had an object to be restored from, by its signature over the lines of the book and those that the
+-- tale puts behind them.
 pub record WasHalted (gives : Gives) (book : Book) (held : Store) (plan : Plan) (options : Options) (tale : List Logged) (s : Status) (t : ℕ) : Type 0 where
   pub faulty : is_faultless s ≡ false
-  pub object : (sg : Signed) → slice_get (signatures (rows_of (book_after gives plan book tale)) plan.tasks) t ≡ Some sg → IsAvailable held (rows_of (book_after gives plan book tale)) options.setscene sg Object
+  pub begun : HasBroken tale t ⊎ ((sg : Signed) → slice_get (signatures (rows_of (book_after gives plan book tale)) plan.tasks) t ≡ Some sg → IsAvailable held (rows_of (book_after gives plan book tale)) options.setscene sg Object)
 
--- The run may have touched the task: the tale starts it or restores it, or it is the one at which the run was halted.
+-- The run may have touched the task: it ended in the tale, or the tale restores it, or it is the one at which the run was halted.
 abbrev pub MayTouch : Gives → Book → Store → Plan → Options → List Logged → Status → ℕ → ℕ → Type 0
-MayTouch gives book held plan options tale s halted t = IsTakenUp tale t ⊎ ((t ≡ halted) × WasHalted gives book held plan options tale s t)
+MayTouch gives book held plan options tale s halted t = IsPlaced tale t ⊎ ((t ≡ halted) × WasHalted gives book held plan options tale s t)
+
+-- ... and that by publishing its output, since the tale starts it
+abbrev pub MayPublish : Gives → Book → Store → Plan → Options → List Logged → Status → ℕ → ℕ → Type 0
+MayPublish gives book held plan options tale s halted t = MayTouch gives book held plan options tale s halted t × HasStarted tale t
 
 -- Whatever a crash leaves since the run began, all else is left alone: each task of the plan that the run can't have touched, with the objects
--- of the book's lines of it; the object of each line of the book of which the tale starts no task; and, be it of a task of the plan or not, each
--- path that opening the store leaves alone, that isn't under `tmp/`, that is neither the stamp nor at or under the work folder of a task which the
--- run may have touched, and, where the tale starts a task, not at or under `rec` or `obj`. (What is under `rec` there, `IsCrash` says.) The lines
--- of the book have some order.
+-- of the book's lines of it; the object of each line of the book, unless a task of the line's PN and name was published with the line's unihash;
+-- and, be it of a task of the plan or not, each path that opening the store leaves alone, that isn't under `tmp/`, that is neither the stamp nor
+-- at or under the work folder of a task which the run may have touched, and, where the run may have published one, not at or under `rec` or
+-- `obj`. (What is under `rec` there, `IsCrash` says.) The lines of the book have some order.
 pub record LeavesOthers (gives : Gives) (book : Book) (held : Store) (plan : Plan) (options : Options) (tale : List Logged) (s : Status) (story : Story) : Type 0 where
   pub again : Book
   pub same : HaveSameLines book again
   pub halted : ℕ
   pub others : (image : Store) → IsImageSince story 0 image → (t : ℕ) (task : PlanTask) → slice_get plan.tasks t ≡ Some task → (MayTouch gives again held plan options tale s halted t → ⊥) → IsLeftAlone book held image task
-  pub objects : (image : Store) → IsImageSince story 0 image → (line : Line) → HasLine book line → IsOfNone plan (HasStarted tale) line.sig.pn line.sig.task → (q : List ℕ) → IsAtOrBelow (object_folder line.unihash) q → image q ≡ held q
-  pub paths : (image : Store) → IsImageSince story 0 image → (q : List ℕ) → IsLeft held q → IsAside plan (MayTouch gives again held plan options tale s halted) (HasStarted tale) q → image q ≡ held q
+  pub objects : (image : Store) → IsImageSince story 0 image → (line : Line) → HasLine book line → IsObjectOfNone gives plan again tale (MayPublish gives again held plan options tale s halted) line → (q : List ℕ) → IsAtOrBelow (object_folder line.unihash) q → image q ≡ held q
+  pub paths : (image : Store) → IsImageSince story 0 image → (q : List ℕ) → IsLeft held q → IsAside plan (MayTouch gives again held plan options tale s halted) (MayPublish gives again held plan options tale s halted) q → image q ≡ held q
 
 -- ---- failed tasks
 

@@ -10,11 +10,11 @@ use Rattle.meta_model.specs.declared.plan.Options.{Options}
 use Rattle.meta_model.specs.declared.plan.Plan.{Plan}
 use Rattle.meta_model.specs.CleanBuild.{Gives}
 use Rattle.store_model.specs.Origins.{Book, Reading}
-use Rattle.store_model.specs.Reuse.{MayReuse}
 use Rattle.store_model.specs.Valid.{IsValid}
 use Rattle.run_model.specs.Runs.{Runs}
 use Rattle.run_model.specs.Build.{HasTargets}
 use Rattle.run_model.specs.Headline.{Keeps, MayBegin, nothing}
+use Rattle.run_model.specs.Opening.{MayTake}
 
 -- A call of the program: its plan, how it was to go on, what it told, how it ended, the disk at its end, and what the benches had run
 -- before it and behind it. Between two calls the project may be edited in any way, so each has a plan of its own.
@@ -32,9 +32,9 @@ abbrev pub IsPromised : Gives → Reading → Store → Call → Type 0
 IsPromised gives reading held call =
     (book : Book) → MayBegin gives reading book held call.plan → Keeps gives reading book held call.plan call.options call.tales call.status call.story call.before call.now
 
--- the plan may reuse whatever book is valid there
+-- the plan may take what it wants of whatever book is valid there
 abbrev pub MayReuseAny : Gives → Reading → Store → Plan → Type 0
-MayReuseAny gives reading held plan = (book : Book) → IsValid gives reading held book → MayReuse gives reading held book plan.tasks
+MayReuseAny gives reading held plan = (book : Book) → IsValid gives reading held book → MayTake gives reading held book plan.tasks
 
 -- What a disk holds in an era: nothing; or what an interruption at any moment of a call left, or its end, where the call was made on what the
 -- disk held in the era, and its plan might reuse that.
@@ -42,11 +42,11 @@ pub data IsOfEra (gives : Gives) (reading : Reading) : Store → Type 0 where
   begins : IsOfEra gives reading nothing
   goes_on : (held : Store) (call : Call) (image : Store) → IsOfEra gives reading held → MayReuseAny gives reading held call.plan → IsPromised gives reading held call → IsImageSince call.story 0 image → IsOfEra gives reading image
 
--- There is a book by which what is held is valid, and by which a run of any plan that may reuse it may begin.
+-- There is a book by which what is held is valid, and by which a run of any plan that may take of it may begin.
 pub record HasBook (gives : Gives) (reading : Reading) (held : Store) : Type 0 where
   pub book : Book
   pub valid : IsValid gives reading held book
-  pub begins : (plan : Plan) → MayReuse gives reading held book plan.tasks → MayBegin gives reading book held plan
+  pub begins : (plan : Plan) → MayTake gives reading held book plan.tasks → MayBegin gives reading book held plan
 
 -- *Whatever came before*: in each era a run may begin.
 abbrev pub ErasGoOn : Type 0

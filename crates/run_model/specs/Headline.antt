@@ -11,11 +11,10 @@ use Rattle.meta_model.specs.declared.plan.Options.{Options}
 use Rattle.meta_model.specs.declared.plan.Plan.{Plan}
 use Rattle.meta_model.specs.CleanBuild.{Gives}
 use Rattle.store_model.specs.Origins.{Book, Reading}
-use Rattle.store_model.specs.Reuse.{MayReuse}
 use Rattle.store_model.specs.Valid.{IsValid}
 use Rattle.store_model.specs.Readable.{IsReadable}
 use Rattle.plan_model.specs.Sound.{AreWanted}
-use Rattle.run_model.specs.Opening.{HasFolders}
+use Rattle.run_model.specs.Opening.{HasFolders, MayTake}
 use Rattle.run_model.specs.Runs.{Runs}
 use Rattle.run_model.specs.Benches.{AtSeats}
 use Rattle.run_model.specs.Build.{FailsClean, HasRun, HasTargets, IsCrash, IsEachFailureTold, LeavesOthers, RanStarted, failed_in, is_unsteady}
@@ -25,12 +24,12 @@ abbrev pub nothing : Store
 nothing path = None
 
 -- What is asked of a run beside its devices: what the disk holds is valid with a book of lines that can be read again, and has folders
--- where the store keeps them; and the plan may reuse of the book what it wants.
+-- where the store keeps them; and the plan may take of the book what it wants.
 pub record MayBegin (gives : Gives) (reading : Reading) (book : Book) (held : Store) (plan : Plan) : Type 0 where
   pub valid : IsValid gives reading held book
   pub readable : AllByRecursion IsReadable book
   pub folders : HasFolders held
-  pub may : MayReuse gives reading held book plan.tasks
+  pub may : MayTake gives reading held book plan.tasks
 
 -- Each bench ran what its seat started in the tale, each over the clean outputs of what it needs; without a tale none ran anything.
 abbrev pub RanTales : Gives → Plan → List (List Logged) → List Runs → List Runs → Type 0
@@ -49,8 +48,8 @@ pub record Keeps (gives : Gives) (reading : Reading) (book : Book) (held : Store
   pub real : All (λ tale. (t : ℕ) → Contains (failed_in tale) t → FailsClean gives plan t) tales
   -- and with `-k` each task that fails by itself in the clean build is told
   pub all_told : AreWanted plan → s ≡ status.TaskFailed → options.keep_going ≡ true → All (IsEachFailureTold gives plan) tales
-  -- each crash since the call began leaves alone what isn't the own of tasks that the tale starts or restores, but for `tmp/` and, where one
-  -- is started, for folders of `obj/` that are no line's object; under the status of a fault one task more may have been touched
+  -- each crash since the call began leaves alone what isn't the own of tasks that ended or that the tale restores, but for `tmp/` and, where one
+  -- ended, for folders of `obj/` that are no line's object; under the status of a fault one task more may have been touched
   pub others : All (λ tale. LeavesOthers gives book held plan options tale s story) tales
   -- no output is found to differ from one run to another
   pub steady : is_unsteady s ≡ false
@@ -61,8 +60,8 @@ pub record Keeps (gives : Gives) (reading : Reading) (book : Book) (held : Store
 
 -- A run may begin on an empty disk.
 abbrev pub BeginsFirst : Type 0
-BeginsFirst = (gives : Gives) (reading : Reading) (plan : Plan) → MayReuse gives reading nothing [] plan.tasks → MayBegin gives reading [] nothing plan
+BeginsFirst = (gives : Gives) (reading : Reading) (plan : Plan) → MayTake gives reading nothing [] plan.tasks → MayBegin gives reading [] nothing plan
 
--- A run of any plan may begin on what a crash of any run left, where the plan may reuse the book that the crash left.
+-- A run of any plan may begin on what a crash of any run left, where the plan may take of the book that the crash left.
 abbrev pub BeginsAgain : Type 0
-BeginsAgain = (gives : Gives) (reading : Reading) (book : Book) (image : Store) (crash : IsCrash gives reading book image) (plan : Plan) → MayReuse gives reading image (crash.again ++ crash.lines) plan.tasks → MayBegin gives reading (crash.again ++ crash.lines) image plan
+BeginsAgain = (gives : Gives) (reading : Reading) (book : Book) (image : Store) (crash : IsCrash gives reading book image) (plan : Plan) → MayTake gives reading image (crash.again ++ crash.lines) plan.tasks → MayBegin gives reading (crash.again ++ crash.lines) image plan

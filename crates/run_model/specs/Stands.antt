@@ -1,9 +1,11 @@
 -- What stands of a run in what a crash leaves.
-use Rattle.std.specs.Prelude.{◌≡◌, ◌⊎◌, ℕ, true, false, List, length, Some, None}
+use Rattle.std.specs.Prelude.{◌≡◌, ◌≢◌, ◌⊎◌, ℕ, true, false, List, length, Some, None}
 use Rattle.std.specs.List.{slice_get}
 use Rattle.tree_model.specs.Path.{inside}
 use Rattle.tree_model.specs.Tree.{IsTree, entry_at}
 use Rattle.outside_traits.specs.Store.{Store}
+use Rattle.meta_model.specs.declared.event.Cut.{Cut}
+use Rattle.meta_model.specs.declared.event.Cut.TheVariants as cuts
 use Rattle.meta_model.specs.declared.event.Event.TheVariants as events
 use Rattle.meta_model.specs.declared.event.Logged.{Logged}
 use Rattle.meta_model.specs.declared.plan.Plan.{Plan}
@@ -52,9 +54,25 @@ pub record HasRestored (tale : List Logged) (t : ℕ) : Type 0 where
   pub is_entry : slice_get tale place ≡ Some entry
   pub restores : entry.event ≡ events.Restored t
 
--- the tale starts or restores the task
-abbrev pub IsTakenUp : List Logged → ℕ → Type 0
-IsTakenUp tale t = HasStarted tale t ⊎ HasRestored tale t
+-- the tale breaks the task off, by a fault or for want of memory
+pub record HasBroken (tale : List Logged) (t : ℕ) : Type 0 where
+  pub place : ℕ
+  pub entry : Logged
+  pub is_entry : slice_get tale place ≡ Some entry
+  pub cut : Cut
+  pub breaks : entry.event ≡ events.Broke t cut
+  pub not_bench : cut ≢ cuts.Bench
+
+-- the tale says that the task ended
+pub record HasFinished (tale : List Logged) (t : ℕ) : Type 0 where
+  pub place : ℕ
+  pub entry : Logged
+  pub is_entry : slice_get tale place ≡ Some entry
+  pub ends : entry.event ≡ events.Ended t
+
+-- the task's output was put in place: it was published as the task ended, or restored
+abbrev pub IsPlaced : List Logged → ℕ → Type 0
+IsPlaced tale t = HasFinished tale t ⊎ HasRestored tale t
 
 -- a task ended in a tale
 abbrev pub HasEnded : Plan → List Logged → ℕ → Type 0

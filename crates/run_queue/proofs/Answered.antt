@@ -35,7 +35,7 @@ use Rattle.setscene_plan.specs.View.{Says, View}
 use Rattle.setscene_plan.specs.Replans.{IsCurrent, avail_in, names_in, need_in, unihashes_in}
 use Rattle.run_queue.specs.Asking.{Means, answered_of, flat, if_row, meant}
 use Rattle.run_model.specs.Opening.{Opening}
-use Rattle.run_queue.specs.Keeps.{IsRun, IsUpToDate, WasThere}
+use Rattle.run_queue.specs.Keeps.{IsRun, IsUpToDate, MayBeHalted, WasThere, nobody}
 use Rattle.run_queue.specs.Seen.{IsBegun, Known, Seen, known_in}
 use Rattle.run_model.specs.Stands.{HasEnded}
 use Rattle.run_queue.specs.Stands.{IsAsBegun, IsLeft}
@@ -43,6 +43,7 @@ use Rattle.run_queue.proofs.Clearing.{clear_is_no_collision, unihashes_are}
 use Rattle.run_queue.proofs.Known.{own_signature, own_task, sound_ordered, up_to_date}
 use Rattle.run_queue.proofs.FoldersAbove.{above_object, above_work, unihash_is_name}
 use Rattle.run_queue.proofs.Passed.{left_since}
+use Rattle.run_queue.proofs.Touched.{halted_as, told_by}
 use Rattle.run_queue.proofs.Placing.{has_place}
 
 -- ---- a task of which nothing changed
@@ -252,6 +253,7 @@ known_run o s k run there = record {
   own = run.own;
   readable = run.readable;
   last = run.last;
+  few_last = run.few_last;
   none_last = run.none_last;
   valid = run.valid;
   durable = run.durable;
@@ -265,9 +267,9 @@ known_run o s k run there = record {
   there = there;
   answered = run.answered;
   met = run.met;
-  tried = λ u b. elim (run.tried u b) [ inl started ↦ inl started | inr was ↦ inr was ];
   halted = run.halted;
-  told = run.told;
+  told = told_by s.begun s.begun s.tale s.tale s.fault s.fault run.halted (MayBeHalted o s) (MayBeHalted o (record s { known = Some k })) nobody (λ u b. inl b) (λ u up. up) (λ none. none)
+      (halted_as o s (record s { known = Some k }) (λ u broken. broken) (λ u was x here. was x here)) (λ u never. absurd never) run.told;
   images = λ t image le since. elim (run.images t image le since) [
     | inl before ↦ inl before
     | inr l ↦ inr (record { count = l.count; valid = l.valid; honest = l.honest; others = l.others; paths = l.paths; objects = l.objects; folders = l.folders })

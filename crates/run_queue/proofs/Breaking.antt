@@ -8,7 +8,7 @@ use Rattle.tale_model.specs.declared.fate.Fate.{Fate}
 use Rattle.tale_model.specs.declared.fate.Fate.TheVariants as fate
 use Rattle.tale_model.specs.Fates.{fate_at, fates_told, is_settled}
 use Rattle.run_model.specs.Opening.{Opening}
-use Rattle.run_queue.specs.Keeps.{IsRun}
+use Rattle.run_queue.specs.Keeps.{IsRun, nobody}
 use Rattle.run_queue.specs.declared.fault.RunFault.{RunFault}
 use Rattle.run_queue.specs.Seen.{Seen}
 use Rattle.run_queue.proofs.Unsettled.{behind, unsettled_run}
@@ -22,8 +22,8 @@ pub broke_run : (o : Opening) (s : Seen) (t seat : ℕ) (cut : Cut) (failed : Bo
     → (fault ≡ None → s.fault ≡ None)
     → IsRun o (behind s seat (events.Broke t cut) failed fault written)
 broke_run o s t seat cut failed fault written runs run faultless =
-    unsettled_run o s seat (events.Broke t cut) failed fault written
+    unsettled_run o s nobody seat (events.Broke t cut) failed fault written
     (record { within = running_within (fates_told (length s.plan.tasks) s.tale) t seat runs; before = ap is_settled runs; after = refl; book = λ b. refl })
-    run faultless
+    run (λ u never. absurd never) faultless
     (λ course same is. subst (λ (p : Plan). fate_at (fates_told (length p.tasks) s.tale) t ≡ fate.Running seat) (sym same) runs)
     tt

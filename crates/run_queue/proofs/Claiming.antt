@@ -31,7 +31,8 @@ agree_waiting need other avail others fates a = record {
 }
 
 -- the same is marked over two views that agree
-marked_across : (options : Options) (tasks : List PlanTask) (need other : List Bool) (avail others : List Avail) (fates : List Fate) (clean cleans : ℕ → Clean) (seat : ℕ) (event : Event) (answer : Next) → Agree need other avail others fates → ((t : ℕ) → cleans t ≡ clean t) → MayAnswer options tasks need avail fates answer → marked_for avail clean seat answer ≡ Some event → marked_for others cleans seat answer ≡ Some event
+marked_across : (options : Options) (tasks : List PlanTask) (need other : List Bool) (avail others : List Avail) (fates : List Fate) (clean cleans : ℕ → Clean) (seat : ℕ) (event : Event) (answer : Next)
+    → Agree need other avail others fates → ((t : ℕ) → cleans t ≡ clean t) → MayAnswer options tasks need avail fates answer → marked_for avail clean seat answer ≡ Some event → marked_for others cleans seat answer ≡ Some event
 marked_across options tasks need other avail others fates clean cleans seat event (next.Settle t) a c may is = ap (settled_as t) (sym (a.available t may.0.waits may.0.needed)) ∙ is
 marked_across options tasks need other avail others fates clean cleans seat event (next.Start t) a c may is = ap (λ x. Some (started_as seat t x)) (c t) ∙ is
 marked_across options tasks need other avail others fates clean cleans seat event next.Wait a c may is = is

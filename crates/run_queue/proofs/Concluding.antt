@@ -51,34 +51,40 @@ use Rattle.setscene_plan.specs.View.{Says}
 use Rattle.run_model.specs.Opening.{Opening}
 use Rattle.run_queue.specs.Asking.{WasKept, earlier_in, kept_or_meant, meant}
 use Rattle.run_model.specs.Books.{book_after, book_by, rows_after, signed_after}
+use Rattle.run_model.specs.CleanOutputs.{Has}
 use Rattle.run_model.specs.Courses.{IsCourse}
 use Rattle.run_queue.specs.Courses.{IsReal}
 use Rattle.run_queue.specs.declared.fault.RunFault.{RunFault}
-use Rattle.run_queue.specs.Keeps.{IsRun, WasThere, nobody}
+use Rattle.run_queue.specs.Keeps.{IsRun, IsRunBut, MayBeHalted, WasThere}
 use Rattle.run_queue.specs.Seen.{IsBegun, Known, Seen, known_in, no_meaning}
 use Rattle.run_model.specs.Stands.{AllStand, HasEnded, HasOwnRow, HasStarted, IsSettledIn, IsStanding}
-use Rattle.run_queue.specs.Stands.{KeepObjects}
+use Rattle.run_queue.specs.Stands.{IsPublishing, KeepObjects}
 use Rattle.run_queue.proofs.Answered.{means_there, one_signature, own_name, own_pn}
 use Rattle.run_queue.proofs.Known.{own_signature, own_task, sound_ordered, up_to_date}
 use Rattle.run_queue.proofs.Enduring.{differ_at, same_signed, row_on, signed_at, signed_task, standing_grown, keeps_object}
 use Rattle.run_queue.proofs.Growing.{book_grows, ended_grows, legal_grows}
 use Rattle.run_queue.proofs.Notes.{set_other, set_same}
-use Rattle.run_queue.proofs.Putting.{Begins, book_now, durable_after, left_after, more_begun, own_after, readable_after, stand_now, stand_since}
+use Rattle.run_queue.proofs.Putting.{Begins, book_now, durable_after, few_more, left_after, more_begun, own_after, readable_after, stand_now, stand_since}
 use Rattle.run_queue.proofs.Recorded.{IsPut, which}
-use Rattle.run_queue.proofs.Touched.{Told, Tried, aside_less, aside_on, none_on, running_started, started_on, told_on, told_started, tried_as, tried_besides}
+use Rattle.run_queue.proofs.Touched.{aside_less, aside_on, broken_on, halted_as, none_besides, none_on, running_started, told_ended, told_halted}
 use Rattle.run_queue.proofs.Unsettled.{if_some_on}
 
 -- ---- with a fault
 
--- A fault that is kept leaves what a run keeps, where the store wasn't touched; more tasks may be begun.
-pub fault_run : (o : Opening) (s : Seen) (begun : List (Option Avail)) (kept : List KeptSig) (f : RunFault) → ((u : ℕ) → IsBegun s u → IsBegun (record s { begun = begun }) u) → Tried o s begun → (run : IsRun o s) → Told begun s.tale (Some f) run.halted nobody → IsRun o (record s { begun = begun; kept = kept; fault = Some f })
-fault_run o s begun kept f more tried run told = record {
+-- All that a run keeps but that the task isn't told of yet at which it is halted.
+abbrev pub HaltsAt : Opening → Seen → ℕ → Type 0
+HaltsAt o s t = (run : IsRunBut o s (λ u. u ≡ t)) × (run.halted ≡ t)
+
+-- A fault that is kept as a task is begun leaves what a run keeps, where the store wasn't touched.
+pub fault_run : (o : Opening) (s : Seen) (begun : List (Option Avail)) (kept : List KeptSig) (f : RunFault) (t : ℕ) → s.fault ≡ None → Begins s.begun begun t → (run : IsRun o s) → HaltsAt o (record s { begun = begun; kept = kept; fault = Some f }) t
+fault_run o s begun kept f t faultless begins run = (record {
   may = run.may;
   rows = run.rows;
   lines = run.lines;
   grown = run.grown;
   own = λ l has u other at pn name. more u (run.own l has u other at pn name);
   last = run.last;
+  few_last = run.few_last;
   none_last = λ none. absurd (cc);
   readable = run.readable;
   valid = λ none. absurd (cc);
@@ -95,16 +101,26 @@ fault_run o s begun kept f more tried run told = record {
       (λ k h u a member not_yet is. h u a member not_yet is) run.there;
   answered = λ none. absurd (cc);
   met = λ u settled not_yet. let m = run.met u settled not_yet in (m.0, m.1, m.2);
-  tried = tried_as o s (record s { begun = begun; kept = kept; fault = Some f }) begun (λ u started. started) (λ u was x here. was x here) tried;
-  halted = run.halted;
-  told = told;
+  halted = t;
+  told = told_halted s.begun begun t s.tale s.fault (Some f) run.halted (MayBeHalted o s) (MayBeHalted o (record s { begun = begun; kept = kept; fault = Some f })) (λ u. u ≡ t) begins.others faultless (inr refl) run.told;
   images = λ from image le since. elim (run.images from image le since) [
     | inl before ↦ inl before
-    | inr l ↦ inr (record { count = l.count; valid = l.valid; honest = l.honest; others = λ u other at_u not_begun. l.others u other at_u (λ b. not_begun (more u b)); paths = λ q aside. l.paths q (aside_less s.plan (IsBegun s) (IsBegun (record s { begun = begun })) (HasStarted s.tale) (HasStarted s.tale) q more (λ u b. b) aside); objects = l.objects; folders = l.folders })
+    | inr l ↦ inr (record {
+      count = l.count;
+      valid = l.valid;
+      honest = l.honest;
+      others = λ u other at_u not_begun. l.others u other at_u (λ b. not_begun (more u b));
+      paths = λ q aside. l.paths q (aside_less s.plan (IsBegun s) (IsBegun (record s { begun = begun })) (IsPublishing s) (IsPublishing (record s { begun = begun })) q more (λ u b. (more u b.0, b.1)) aside);
+      objects = λ line has none. l.objects line has (none_besides o.gives s.plan o.book s.tale s.begun begun line more none);
+      folders = l.folders;
+    })
   ];
   stands = run.stands;
   settled = run.settled;
-}
+}, refl)
+  where
+    more : (u : ℕ) → IsBegun s u → IsBegun (record s { begun = begun }) u
+    more = more_begun s begun t begins
 
 -- a longer list of moments
 pub later_moment : (a b c : ℕ) → a ≤ b → b ≤ c → a ≤ c
@@ -176,18 +192,16 @@ module _ (o : Opening) (s : Seen) (run : IsRun o s) (faultless : s.fault ≡ Non
   started : HasStarted s.tale t
   started = running_started (length s.plan.tasks) s.tale t seat runs
 
-  tried_now : Tried o s begun
-  tried_now = tried_besides o s begun t begins.others run.tried (inl started)
-
   -- A publication in which a fault was met leaves what a run keeps, with that fault.
-  pub faulty_run : (kept : List KeptSig) (f : RunFault) → AllByRecursion IsReadable put.more → IsRun o (record s { story = later; begun = begun; kept = kept; fault = Some f })
-  faulty_run kept f readable = record {
+  pub faulty_run : (kept : List KeptSig) (f : RunFault) → Has o.gives s.plan.tasks t (Ok tree) → AllByRecursion IsReadable put.more → HaltsAt o (record s { story = later; begun = begun; kept = kept; fault = Some f }) t
+  faulty_run kept f output readable = (record {
     may = run.may;
     rows = run.rows;
     lines = run.lines;
     grown = run.grown;
     own = λ l has u other at_u pn name. more_begun s begun t begins u (run.own l has u other at_u pn name);
     last = put.more;
+    few_last = few_more o s run faultless orderly may t sg at is_sg tree put rests later sound pass aside;
     none_last = λ none. absurd (cc);
     readable = readable_after o s run faultless orderly may t sg at is_sg tree put rests later sound pass aside readable;
     valid = λ none. absurd (cc);
@@ -204,16 +218,15 @@ module _ (o : Opening) (s : Seen) (run : IsRun o s) (faultless : s.fault ≡ Non
         (λ k h u a member not_yet is. h u a member not_yet is) run.there;
     answered = λ none. absurd (cc);
     met = λ u settled not_yet. let m = run.met u settled not_yet in (m.0, m.1, m.2);
-    tried = tried_as o s (record s { story = later; begun = begun; kept = kept; fault = Some f }) begun (λ u started. started) (λ u was x here. was x here) tried_now;
-    halted = run.halted;
-    told = told_started s.begun begun t s.tale s.fault (Some f) run.halted begins.others started (λ e. faultless) run.told;
-    images = λ from image le since. elim (left_after o s run faultless orderly may t sg at is_sg tree put rests later sound pass aside begun begins started from image le since) [
+    halted = t;
+    told = told_halted s.begun begun t s.tale s.fault (Some f) run.halted (MayBeHalted o s) (MayBeHalted o (record s { story = later; begun = begun; kept = kept; fault = Some f })) (λ u. u ≡ t) begins.others faultless (inr refl) run.told;
+    images = λ from image le since. elim (left_after o s run faultless orderly may t sg at is_sg tree put rests later sound pass aside begun begins started output from image le since) [
       | inl before ↦ inl before
       | inr l ↦ inr (record { count = l.count; valid = l.valid; honest = l.honest; others = l.others; paths = l.paths; objects = l.objects; folders = l.folders })
     ];
     stands = stand_now o s run faultless orderly may t sg at is_sg tree put rests later sound pass aside;
     settled = stand_since o s run faultless orderly may t sg at is_sg tree put rests later sound pass aside;
-  }
+  }, refl)
 
   -- ---- the task has ended
 
@@ -408,6 +421,7 @@ module _ (o : Opening) (s : Seen) (run : IsRun o s) (faultless : s.fault ≡ Non
         → ((course : Course) → course.plan ≡ s.plan → IsCourse o s.options (s.tale ++ record { event = events.Ended t; seat = seat; moment = min (moment later) (2 ^ 64 - 1) } ∷ []) course → MayCome course s.tale (record { event = events.Ended t; seat = seat; moment = min (moment later) (2 ^ 64 - 1) }))
         → IsRun o (ended_as rows kept known failed fault written)
     ended_run rows kept known failed fault written rows_are there may_come =
+        let also = halted_as o s (ended_as rows kept known failed fault written) (broken_on s.tale entry) (λ u was. was_on o s put.more rows run.rows rows_are may u avail.Object (λ n. let e : avail.Object ≡ avail.Missing = n in cc) was) in
         let durable = durable_after o s run faultless orderly may t sg at is_sg tree put rests later sound pass aside published in
         let none = append-nil (run.lines ++ put.more) in
         record {
@@ -417,6 +431,7 @@ module _ (o : Opening) (s : Seen) (run : IsRun o s) (faultless : s.fault ≡ Non
           grown = book_longer ∙ ap (λ (b : Book). b ++ put.more) run.grown ∙ append_assoc o.book run.lines put.more;
           own = λ l has u other at_u pn name. own_after o s run faultless orderly may t sg at is_sg tree put rests later sound pass aside begun begins l has u other at_u pn name;
           last = [];
+          few_last = omega arith;
           none_last = λ n. refl;
           readable = subst (λ (b : Book). AllByRecursion IsReadable (o.book ++ b)) (sym none) (readable_after o s run faultless orderly may t sg at is_sg tree put rests later sound pass aside readable);
           valid = λ n. durable later.held (held-image later later_sound);
@@ -447,12 +462,11 @@ module _ (o : Opening) (s : Seen) (run : IsRun o s) (faultless : s.fault ≡ Non
               let b = open_before u not_yet in
               let m = run.met u (settled_back u b.0 settled) b.1 in
               (m.0, was_on o s put.more rows run.rows rows_are may u m.0 m.2 m.1, m.2);
-          tried = tried_as o s (ended_as rows kept known failed fault written) begun (λ u. started_on s.tale entry u) (λ u was. was_on o s put.more rows run.rows rows_are may u avail.Object (λ n. let e : avail.Object ≡ avail.Missing = n in cc) was) tried_now;
           halted = run.halted;
-          told = told_on begun s.tale entry s.fault fault run.halted nobody (λ e. faultless) (λ u never. absurd never) (told_started s.begun begun t s.tale s.fault s.fault run.halted begins.others started (λ e. e) run.told);
-          images = λ from image le since. elim (left_after o s run faultless orderly may t sg at is_sg tree put rests later sound pass aside begun begins started from image le since) [
+          told = told_ended s.begun begun t s.tale entry s.fault fault run.halted (MayBeHalted o s) (MayBeHalted o (ended_as rows kept known failed fault written)) begins.others refl (λ e. faultless) also run.told;
+          images = λ from image le since. elim (left_after o s run faultless orderly may t sg at is_sg tree put rests later sound pass aside begun begins started (built, is_built, clean) from image le since) [
             | inl before ↦ inl before
-            | inr l ↦ inr (record { count = l.count; valid = subst (λ (b : Book). IsValid o.gives o.reading image (o.book ++ take l.count b)) (sym none) l.valid; honest = l.honest; others = l.others; paths = λ q is. l.paths q (aside_on s.plan begun s.tale entry q is); objects = λ line has none. l.objects line has (none_on s.plan s.tale entry line.sig.pn line.sig.task none); folders = l.folders })
+            | inr l ↦ inr (record { count = l.count; valid = subst (λ (b : Book). IsValid o.gives o.reading image (o.book ++ take l.count b)) (sym none) l.valid; honest = l.honest; others = l.others; paths = λ q is. l.paths q (aside_on s.plan begun s.tale entry q is); objects = λ line has none. l.objects line has (none_on o.gives s.plan o.book begun s.tale entry line none); folders = l.folders })
           ];
           stands = λ image is. stands_longer image is;
           settled = λ k x here lt image since. settled_longer k x here lt image since;

@@ -95,7 +95,8 @@ noted_state count s e is order calm = record {
 }
 
 -- there is room behind one more entry
-pub noted_room : (capacity : ℕ) (tasks : List PlanTask) (tale : List Logged) (e : Logged) → task_of e.event < length (fates_told (length tasks) tale) → is_running (fate_at (fates_told (length tasks) tale) (task_of e.event)) ≡ true → is_running (fate_by e.event) ≡ false → HasRoom capacity (length tale) (fates_told (length tasks) tale) → HasRoom capacity (length (tale ++ e ∷ [])) (fates_told (length tasks) (tale ++ e ∷ []))
+pub noted_room : (capacity : ℕ) (tasks : List PlanTask) (tale : List Logged) (e : Logged)
+    → task_of e.event < length (fates_told (length tasks) tale) → is_running (fate_at (fates_told (length tasks) tale) (task_of e.event)) ≡ true → is_running (fate_by e.event) ≡ false → HasRoom capacity (length tale) (fates_told (length tasks) tale) → HasRoom capacity (length (tale ++ e ∷ [])) (fates_told (length tasks) (tale ++ e ∷ []))
 noted_room capacity tasks tale e lt runs rests room =
     subst (λ (l : List Fate). HasRoom capacity (length (tale ++ e ∷ [])) l) (sym (fates_next tasks tale e))
     (subst (λ (n : ℕ). HasRoom capacity n (set (fates_told (length tasks) tale) (task_of e.event) (fate_by e.event))) (sym (length-append tale (e ∷ [])))
@@ -138,7 +139,8 @@ room_behind capacity events fates t f lt rests room =
     let now = count_after fates t f (running_count fates) (running_count fates + runs_once f) lt refl (omega (arith, none)) in
     omega (arith, now, once_at_most f, room)
 
-pub behind_room : (capacity : ℕ) (tasks : List PlanTask) (tale : List Logged) (e : Logged) → task_of e.event < length (fates_told (length tasks) tale) → is_running (fate_at (fates_told (length tasks) tale) (task_of e.event)) ≡ false → length tale + (running_count (fates_told (length tasks) tale) + 2) ≤ capacity → HasRoom capacity (length (tale ++ e ∷ [])) (fates_told (length tasks) (tale ++ e ∷ []))
+pub behind_room : (capacity : ℕ) (tasks : List PlanTask) (tale : List Logged) (e : Logged)
+    → task_of e.event < length (fates_told (length tasks) tale) → is_running (fate_at (fates_told (length tasks) tale) (task_of e.event)) ≡ false → length tale + (running_count (fates_told (length tasks) tale) + 2) ≤ capacity → HasRoom capacity (length (tale ++ e ∷ [])) (fates_told (length tasks) (tale ++ e ∷ []))
 behind_room capacity tasks tale e lt rests room =
     subst (λ (l : List Fate). HasRoom capacity (length (tale ++ e ∷ [])) l) (sym (fates_next tasks tale e))
     (subst (λ (n : ℕ). HasRoom capacity n (set (fates_told (length tasks) tale) (task_of e.event) (fate_by e.event))) (sym (length-append tale (e ∷ [])))

@@ -7,12 +7,12 @@ use Rattle.outside_traits.specs.Story.{IsImage, IsImageSince, Story, moment}
 use Rattle.outside_traits.proofs.Images.{now-since, since-now}
 use Rattle.store_model.specs.Valid.{IsValid}
 use Rattle.run_model.specs.Opening.{Opening}
-use Rattle.run_queue.specs.Keeps.{IsRun, nobody}
+use Rattle.run_queue.specs.Keeps.{IsRun, MayBeHalted, nobody}
 use Rattle.run_queue.specs.declared.fault.RunFault.{RunFault}
 use Rattle.build_store.specs.View.{SameBooks, View}
 use Rattle.run_queue.specs.Seen.{RunView, Seen, seen}
 use Rattle.run_queue.specs.Stands.{IsLeft}
-use Rattle.run_queue.proofs.Touched.{told_by}
+use Rattle.run_queue.proofs.Touched.{halted_as, told_by}
 
 -- an image of now was one before
 pub same_now : (old new : Story) (image : Store) → Passes old new Same → IsImage new image → IsImage old image
@@ -34,6 +34,7 @@ passed_run o s story fault p faultless run = record {
   own = run.own;
   readable = run.readable;
   last = run.last;
+  few_last = run.few_last;
   none_last = λ none. run.none_last (faultless none);
   valid = λ none. subst (λ (h : Store). IsValid o.gives o.reading h (o.book ++ run.lines)) (sym p.held) (run.valid (faultless none));
   durable = λ none image is. run.durable (faultless none) image (same_now s.story story image p is);
@@ -47,9 +48,9 @@ passed_run o s story fault p faultless run = record {
   there = run.there;
   answered = λ none. run.answered (faultless none);
   met = run.met;
-  tried = λ u b. elim (run.tried u b) [ inl started ↦ inl started | inr was ↦ inr was ];
   halted = run.halted;
-  told = told_by s.begun s.begun s.tale s.tale s.fault fault run.halted nobody (λ u b. inl b) (λ u up. up) faultless (λ u never. absurd never) run.told;
+  told = told_by s.begun s.begun s.tale s.tale s.fault fault run.halted (MayBeHalted o s) (MayBeHalted o (record s { story = story; fault = fault })) nobody (λ u b. inl b) (λ u up. up) faultless
+      (halted_as o s (record s { story = story; fault = fault }) (λ u broken. broken) (λ u was x here. was x here)) (λ u never. absurd never) run.told;
   images = λ t image le since. elim (run.images t image le (same_since s.story story t image p (let a = run.later in omega (arith, a, le)) since)) [
     | inl before ↦ inl before
     | inr l ↦ inr (record { count = l.count; valid = l.valid; honest = l.honest; others = l.others; paths = l.paths; objects = l.objects; folders = l.folders })

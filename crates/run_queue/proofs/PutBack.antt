@@ -53,12 +53,12 @@ use Rattle.build_store.proofs.Validity.{published_is_valid}
 use Rattle.setscene_plan.proofs.Naming.{signed_count}
 use Rattle.run_model.specs.Opening.{HasFolders, Opening}
 use Rattle.run_queue.specs.declared.fault.RunFault.{RunFault}
-use Rattle.run_queue.specs.Keeps.{IsRun, IsRunBut, IsUpToDate, WasThere}
+use Rattle.run_queue.specs.Keeps.{IsRun, IsRunBut, IsUpToDate, MayBeHalted, WasThere}
 use Rattle.run_queue.specs.Seen.{IsBegun, Known, Seen}
-use Rattle.run_model.specs.Own.{IsAside}
-use Rattle.run_model.specs.Stands.{AllStand, HasEnded, HasStarted}
-use Rattle.run_queue.specs.Stands.{IsAsBegun, IsLeft, KeepObjects}
-use Rattle.run_queue.proofs.Touched.{aside_less, told_halted, tried_as, tried_besides}
+use Rattle.run_model.specs.Own.{IsAside, IsObjectOfNone}
+use Rattle.run_model.specs.Stands.{AllStand, HasEnded}
+use Rattle.run_queue.specs.Stands.{IsAsBegun, IsLeft, IsPublishing, KeepObjects}
+use Rattle.run_queue.proofs.Touched.{aside_less, none_besides, told_halted}
 use Rattle.run_queue.proofs.Agreement.{some_known}
 use Rattle.run_queue.proofs.Aside.{aside_stays, folders_on, honest_on, object_stays}
 use Rattle.run_queue.proofs.Concluding.{later_moment}
@@ -297,11 +297,15 @@ module _ (o : Opening) (s : Seen) (run : IsRun o s) (sound : story_of.IsSound s.
           }
 
       -- what is aside now was so before
-      aside_before : (q : List ℕ) → IsAside s.plan (IsBegun (record s { story = later; begun = begun; fault = fault })) (HasStarted s.tale) q → IsAside s.plan (IsBegun s) (HasStarted s.tale) q
-      aside_before q is = aside_less s.plan (IsBegun s) (IsBegun (record s { story = later; begun = begun; fault = fault })) (HasStarted s.tale) (HasStarted s.tale) q (more_begun s begun t begins) (λ u b. b) is
+      aside_before : (q : List ℕ) → IsAside s.plan (IsBegun (record s { story = later; begun = begun; fault = fault })) (IsPublishing (record s { story = later; begun = begun; fault = fault })) q → IsAside s.plan (IsBegun s) (IsPublishing s) q
+      aside_before q is = aside_less s.plan (IsBegun s) (IsBegun (record s { story = later; begun = begun; fault = fault })) (IsPublishing s) (IsPublishing (record s { story = later; begun = begun; fault = fault })) q (more_begun s begun t begins) (λ u b. (more_begun s begun t begins u b.0, b.1)) is
+
+      -- a line whose object none put is so before
+      none_before : (l : Line) → IsObjectOfNone o.gives s.plan o.book s.tale (IsPublishing (record s { story = later; begun = begun; fault = fault })) l → IsObjectOfNone o.gives s.plan o.book s.tale (IsPublishing s) l
+      none_before l none = none_besides o.gives s.plan o.book s.tale s.begun begun l (more_begun s begun t begins) none
 
       -- what is at a path that is none of the own ones of tasks that are begun
-      paths_put : (old new : Store) (q : List ℕ) → RestoresObject s.story.held s.rows signed.0 old new → HasFolders old → HasFolders new → IsAside s.plan (IsBegun (record s { story = later; begun = begun; fault = fault })) (HasStarted s.tale) q → new q ≡ old q
+      paths_put : (old new : Store) (q : List ℕ) → RestoresObject s.story.held s.rows signed.0 old new → HasFolders old → HasFolders new → IsAside s.plan (IsBegun (record s { story = later; begun = begun; fault = fault })) (IsPublishing (record s { story = later; begun = begun; fault = fault })) q → new q ≡ old q
       paths_put old new q r before folders is =
           aside_stays (restoration signed.0 r.row r.tree) signed.0.task old new q (has_place s.plan t signed.0.task run.may.sound at) refl r.publishes before folders is.temporary
           (λ own. is.folder t signed.0.task at (begins.there, begins.here) own)
@@ -309,7 +313,7 @@ module _ (o : Opening) (s : Seen) (run : IsRun o s) (sound : story_of.IsSound s.
           (λ unihash some. absurd (let n : None ≡ Some unihash = some in cc))
 
       left_was : (image : Store) → IsLeft o s (run.lines ++ run.last) image → IsLeft o (record s { story = later; begun = begun; fault = fault }) (run.lines ++ run.last) image
-      left_was image past = record { count = past.count; valid = past.valid; honest = past.honest; others = λ u other at_u not_begun. past.others u other at_u (was_not u not_begun).1; paths = λ q is. past.paths q (aside_before q is); objects = past.objects; folders = past.folders }
+      left_was image past = record { count = past.count; valid = past.valid; honest = past.honest; others = λ u other at_u not_begun. past.others u other at_u (was_not u not_begun).1; paths = λ q is. past.paths q (aside_before q is); objects = λ l has none. past.objects l has (none_before l none); folders = past.folders }
 
       left_put : (old new : Store) → IsImage s.story old → HasFolders new → RestoresObject s.story.held s.rows signed.0 old new → IsLeft o (record s { story = later; begun = begun; fault = fault }) (run.lines ++ run.last) new
       left_put old new is folders r =
@@ -322,7 +326,7 @@ module _ (o : Opening) (s : Seen) (run : IsRun o s) (sound : story_of.IsSound s.
             honest = λ u other at_u. honest_on (restoration signed.0 r.row r.tree) o.story.held old new signed.0.task other (has_place s.plan t signed.0.task run.may.sound at) (has_place s.plan u other run.may.sound at_u) refl (either_or u other at_u) r.publishes (λ new_one. not_new new_one) (past.honest u other at_u);
             others = λ u other at_u not_begun. let x = was_not u not_begun in as_begun old new r u other at_u x.0 (past.others u other at_u x.1);
             paths = λ q is. paths_put old new q r past.folders folders is ∙ past.paths q (aside_before q is);
-            objects = λ l has free q below. object_stays (restoration signed.0 r.row r.tree) old new l.unihash q r.publishes (λ own some. absurd (let n : None ≡ Some own = some in cc)) below ∙ past.objects l has free q below;
+            objects = λ l has free q below. object_stays (restoration signed.0 r.row r.tree) old new l.unihash q r.publishes (λ own some. absurd (let n : None ≡ Some own = some in cc)) below ∙ past.objects l has (none_before l free) q below;
             folders = folders;
           }
 
@@ -364,6 +368,7 @@ module _ (o : Opening) (s : Seen) (run : IsRun o s) (sound : story_of.IsSound s.
         grown = run.grown;
         own = λ l has u other at_u pn name. more_begun s begun t begins u (run.own l has u other at_u pn name);
         last = run.last;
+        few_last = run.few_last;
         none_last = λ e. run.none_last none;
         readable = run.readable;
         valid = λ e. subst (IsValid o.gives o.reading later.held) run.grown (valid_now later.held (held-image later later_sound));
@@ -385,9 +390,9 @@ module _ (o : Opening) (s : Seen) (run : IsRun o s) (sound : story_of.IsSound s.
           | inr ne ↦ let b = run.answered none u a (sym (begins.others u ne) ∙ is) not_yet in (λ x here. b.0 x here, b.1)
         ];
         met = λ u settled not_yet. let m = run.met u settled not_yet in (m.0, m.1, m.2);
-        tried = tried_as o s (record s { story = later; begun = begun; fault = fault }) begun (λ u started. started) (λ u there x here. there x here) (tried_besides o s begun t begins.others run.tried (inr (λ x here. was x here)));
         halted = t;
-        told = told_halted s.begun begun t s.tale s.fault fault run.halted but begins.others none spare run.told;
+        told = told_halted s.begun begun t s.tale s.fault fault run.halted (MayBeHalted o s) (MayBeHalted o (record s { story = later; begun = begun; fault = fault })) but begins.others none
+            (elim spare [ inl some ↦ inl (some, inr (λ x here. was x here)) | inr it ↦ inr it ]) run.told;
         images = λ from image le since. left_after from image le since;
         stands = λ image is. stand_now image is;
         settled = λ n entry here lt image since. stand_since n entry here lt image since;

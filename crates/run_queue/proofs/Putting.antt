@@ -1,5 +1,5 @@
 -- What a run keeps of its store while a task's output is published.
-use Rattle.std.proofs.Common.{◌≡◌, ◌≢◌, ◌∙◌, sym, ap, subst, refl, ℕ, ◌+◌, ◌<◌, ◌≤◌, ◌-◌, ◌^◌, ◌⊎◌, inl, inr, zero, suc, arith, true, false, List, [], ◌∷◌, ◌++◌, length, take, Some, None, append_assoc, append-nil}
+use Rattle.std.proofs.Common.{◌≡◌, ◌≢◌, ◌∙◌, sym, ap, subst, refl, ℕ, ◌+◌, ◌<◌, ◌≤◌, ◌-◌, ◌^◌, ◌⊎◌, inl, inr, zero, suc, arith, true, false, List, [], ◌∷◌, ◌++◌, length, take, Some, None, Ok, append_assoc, append-nil}
 use Rattle.std.specs.Prelude.{codes, Option}
 use Rattle.std.specs.List.{AllByRecursion, slice_get}
 use Rattle.std.proofs.lemmas.Bool.{cases_eq, false≢true}
@@ -12,6 +12,7 @@ use Rattle.outside_traits.specs.Store.{IsApart, Store}
 use Rattle.outside_traits.specs.Story.{IsImage, IsImageSince, Story, moment}
 use Rattle.outside_traits.specs.Story as story_of
 use Rattle.outside_traits.proofs.Images.{held-image, now-since}
+use Rattle.outside_traits.proofs.Puts.{path_cases}
 use Rattle.meta_model.specs.declared.event.Avail.{Avail}
 use Rattle.meta_model.specs.declared.event.Logged.{Logged}
 use Rattle.meta_model.specs.declared.plan.PlanTask.{PlanTask}
@@ -31,6 +32,8 @@ use Rattle.store_model.specs.Rows.{row_at, IsClear}
 use Rattle.store_model.specs.Signatures.{Signed, signatures}
 use Rattle.store_model.specs.Spelling.{name_of, signature_bytes}
 use Rattle.store_model.specs.Valid.{IsValid, IsValidBook, IsValidLine}
+use Rattle.store_model.specs.declared.signature.SigRecord.{SigRecord}
+use Rattle.store_model.proofs.Digests.{same_name_text}
 use Rattle.store_model.proofs.Ordered.{each_append}
 use Rattle.store_model.proofs.Standing.{split_last, stands_further}
 use Rattle.store_model.specs.Lines.{HasLine}
@@ -40,22 +43,24 @@ use Rattle.build_store.specs.Publication.{IsPublished, KeepsOthers, Publishes, l
 use Rattle.store_model.specs.Publication.{Publication}
 use Rattle.store_model.specs.Readable.{IsReadable}
 use Rattle.build_store.proofs.Clean.{name_is_name, name_slashes}
-use Rattle.build_store.proofs.Apart.{apart_under, apart_within}
+use Rattle.build_store.proofs.Apart.{apart_by_count, apart_under, apart_within}
 use Rattle.build_store.proofs.Others.{longer_valid, others_untouched, texts_apart}
 use Rattle.run_model.specs.Opening.{HasFolders, Opening}
 use Rattle.run_model.specs.Books.{book_after}
 use Rattle.run_queue.specs.Keeps.{IsRun}
 use Rattle.run_queue.specs.Seen.{IsBegun, Seen}
-use Rattle.run_model.specs.Own.{IsAside, IsOfNone}
+use Rattle.run_model.specs.CleanOutputs.{Has}
+use Rattle.run_model.specs.Own.{IsAside, IsObjectOfNone, IsUnihashOver}
 use Rattle.run_model.specs.Stands.{AllStand, HasStarted, IsSettledIn, IsStanding}
-use Rattle.run_queue.specs.Stands.{IsAsBegun, IsLeft}
+use Rattle.run_queue.specs.Stands.{IsAsBegun, IsLeft, IsPublishing}
 use Rattle.run_queue.proofs.Aside.{aside_stays, folders_on, honest_on, in_objects, object_stays}
 use Rattle.run_queue.proofs.Clearing.{clear_is_no_collision, unihashes_are}
 use Rattle.run_queue.proofs.Enduring.{differ_at, front_book, keeps_object, standing_on}
+use Rattle.run_queue.proofs.FoldersAbove.{unihash_is_name}
 use Rattle.run_queue.proofs.Passed.{left_since}
 use Rattle.run_queue.proofs.Placing.{has_place}
 use Rattle.run_queue.proofs.Recorded.{IsPut, either_valid, front_again, published_valid, unknown, which, whole_again}
-use Rattle.run_queue.proofs.Touched.{aside_less}
+use Rattle.run_queue.proofs.Touched.{aside_less, none_besides}
 
 -- ---- the book of a run in which no fault is kept
 
@@ -161,6 +166,19 @@ module _ (o : Opening) (s : Seen) (run : IsRun o s) (faultless : s.fault ≡ Non
         | inr like ↦ subst IsName (sym like.name) (name_is_name like.first.sig)
       ]
 
+  -- a publication puts one line behind the book at most
+  pub few_more : length put.more ≤ 1
+  few_more = elim put.stands [
+    | inl known ↦ subst (λ (b : Book). length b ≤ 1) (sym known.1) (omega arith)
+    | inr new ↦ subst (λ (b : Book). length b ≤ 1) (sym new.1) (omega arith)
+  ]
+
+  -- over the rows as they are now the output is published with the unihash of its line
+  own_unihash : Has o.gives s.plan.tasks t (Ok tree) → (unihash : Hash) → unihash ≡ put.line.unihash → IsUnihashOver o.gives s.plan (rows_of (book_after o.gives s.plan o.book (take (length s.tale) s.tale))) t unihash
+  own_unihash output unihash same =
+      subst (λ (l : List Logged). IsUnihashOver o.gives s.plan (rows_of (book_after o.gives s.plan o.book l)) t unihash) (sym (take_all (length s.tale) s.tale (omega arith)))
+      (record { signed = sg; is_signed = is_sg; tree = tree; clean = output; is = same ∙ put.unihash })
+
   -- ---- images
 
   module _ (begun : List (Option Avail)) (begins : Begins s.begun begun t) where
@@ -173,8 +191,12 @@ module _ (o : Opening) (s : Seen) (run : IsRun o s) (faultless : s.fault ≡ Non
         (ne, λ b. not_begun (b.0, begins.others u ne ∙ b.1))
 
     -- what is aside now was so before
-    aside_before : (q : List ℕ) → IsAside s.plan (IsBegun (record s { begun = begun })) (HasStarted s.tale) q → IsAside s.plan (IsBegun s) (HasStarted s.tale) q
-    aside_before q is = aside_less s.plan (IsBegun s) (IsBegun (record s { begun = begun })) (HasStarted s.tale) (HasStarted s.tale) q (more_begun s begun t begins) (λ u b. b) is
+    aside_before : (q : List ℕ) → IsAside s.plan (IsBegun (record s { begun = begun })) (IsPublishing (record s { begun = begun })) q → IsAside s.plan (IsBegun s) (IsPublishing s) q
+    aside_before q is = aside_less s.plan (IsBegun s) (IsBegun (record s { begun = begun })) (IsPublishing s) (IsPublishing (record s { begun = begun })) q (more_begun s begun t begins) (λ u b. (more_begun s begun t begins u b.0, b.1)) is
+
+    -- a line whose object none put is so before
+    none_before : (l : Line) → IsObjectOfNone o.gives s.plan o.book s.tale (IsPublishing (record s { begun = begun })) l → IsObjectOfNone o.gives s.plan o.book s.tale (IsPublishing s) l
+    none_before l none = none_besides o.gives s.plan o.book s.tale s.begun begun l (more_begun s begun t begins) none
 
     -- the objects of the opening's lines of a task that isn't begun
     as_begun : (u : ℕ) (other : PlanTask) → slice_get s.plan.tasks u ≡ Some other → (u ≡ t → ⊥) → (old new : Store) → Publishes (publication (rows_of (book_now o s)) sg tree) old new → IsAsBegun o.book o.story.held old other → IsAsBegun o.book o.story.held new other
@@ -198,39 +220,66 @@ module _ (o : Opening) (s : Seen) (run : IsRun o s) (faultless : s.fault ≡ Non
         by (inr v) = let l : List Line = run.lines ++ put.more in (length l, subst (IsValid o.gives o.reading new) (longer ∙ ap (λ (b : Book). o.book ++ b) (sym (take_all (length l) l (omega arith)))) v)
 
     -- what is at a path that is no own one of tasks that are begun
-    paths_put : (old new : Store) (q : List ℕ) → HasStarted s.tale t → HasFolders old → HasFolders new → Publishes (publication (rows_of (book_now o s)) sg tree) old new → IsAside s.plan (IsBegun (record s { begun = begun })) (HasStarted s.tale) q → new q ≡ old q
+    paths_put : (old new : Store) (q : List ℕ) → HasStarted s.tale t → HasFolders old → HasFolders new → Publishes (publication (rows_of (book_now o s)) sg tree) old new → IsAside s.plan (IsBegun (record s { begun = begun })) (IsPublishing (record s { begun = begun })) q → new q ≡ old q
     paths_put old new q started before folders publishes is =
         aside_stays p sg.task old new q (has_place s.plan t sg.task run.may.sound at) refl publishes before folders is.temporary
         (λ own. is.folder t sg.task at (begins.there, begins.here) own)
-        (λ new_one same. is.output t started (inl (inr (hash_text (name_of sg.sig), same))))
+        (λ new_one same. is.output t ((begins.there, begins.here), started) (inl (inr (hash_text (name_of sg.sig), same))))
         (λ unihash some. (
           name_slashes unihash (subst IsName (sym (put.of_task.object unihash some)) own_name),
-          λ below. is.output t started (inr (in_objects unihash q below)),
+          λ below. is.output t ((begins.there, begins.here), started) (inr (in_objects unihash q below)),
         ))
 
-    -- the object of a line of which no task was started
-    objects_put : (old new : Store) (l : Line) (q : List ℕ) → HasStarted s.tale t → Publishes (publication (rows_of (book_now o s)) sg tree) old new → HasLine o.book l → IsOfNone s.plan (HasStarted s.tale) l.sig.pn l.sig.task → IsAtOrBelow (object_folder l.unihash) q → new q ≡ old q
-    objects_put old new l q started publishes has none below = object_stays p old new l.unihash q publishes (λ own some. subst (λ (h : Hash). IsApart (object_folder h) q) (sym (put.of_task.object own some)) apart) below
+    -- the object of a line that none put
+    objects_put : (old new : Store) (l : Line) (q : List ℕ) → HasStarted s.tale t → Has o.gives s.plan.tasks t (Ok tree) → Publishes (publication (rows_of (book_now o s)) sg tree) old new → HasLine o.book l → IsObjectOfNone o.gives s.plan o.book s.tale (IsPublishing (record s { begun = begun })) l → IsAtOrBelow (object_folder l.unihash) q → new q ≡ old q
+    objects_put old new l q started output publishes has none below = object_stays p old new l.unihash q publishes (λ own some. subst (λ (h : Hash). IsApart (object_folder h) q) (sym (put.of_task.object own some)) apart) below
       where
         here : HasLine (book_now o s) l
         here = (has.0, stands_further (book_now o s) o.book run.lines has.0 l run.grown has.1)
 
-        other : l.sig.pn ≡ put.line.sig.pn → l.sig.task ≡ put.line.sig.task → ⊥
-        other a b = none t sg.task at started (a ∙ put.pn) (b ∙ put.task)
+        -- a line's unihash is the name of some signature
+        named : (before : Book) (x : Line) → IsValidLine o.gives o.reading before x → (sig : SigRecord) × (x.unihash ≡ name_of sig)
+        named before x is = elim is.named [ inl own ↦ (x.sig, own) | inr like ↦ (like.first.sig, like.name) ]
 
-        texts : IsApart (hash_text put.line.unihash) (hash_text l.unihash)
-        texts = elim (which o.gives o.reading (book_now o s) sg tree put) [
+        of_put : (sig : SigRecord) × (put.line.unihash ≡ name_of sig)
+        of_put = elim (which o.gives o.reading (book_now o s) sg tree put) [
+          | inl known ↦ named known.0 put.line (valid known.0 put.line known.1)
+          | inr behind ↦ named (book_now o s) put.line behind
+        ]
+
+        of_line : (sig : SigRecord) × (l.unihash ≡ name_of sig)
+        of_line = named here.0 l (valid here.0 l here.1)
+
+        same_unihash : hash_text l.unihash ≡ hash_text put.line.unihash → l.unihash ≡ put.line.unihash
+        same_unihash same = of_line.1 ∙ same_name_text of_line.0 of_put.0 (ap hash_text (sym of_line.1) ∙ same ∙ ap hash_text of_put.1) ∙ sym of_put.1
+
+        own_texts : l.sig.pn ≡ put.line.sig.pn → l.sig.task ≡ put.line.sig.task → IsApart (hash_text put.line.unihash) (hash_text l.unihash)
+        own_texts a b =
+            apart_by_count (hash_text put.line.unihash) (hash_text l.unihash)
+            (name_slashes put.line.unihash own_name ∙ sym (name_slashes l.unihash (unihash_is_name o.gives o.reading (book_now o s) here.0 l valid here.1)))
+            (λ same. none t sg.task at ((begins.there, begins.here), started) (a ∙ put.pn) (b ∙ put.task) (length s.tale) (own_unihash output l.unihash (same_unihash same)))
+
+        other_texts : (l.sig.pn ≡ put.line.sig.pn → l.sig.task ≡ put.line.sig.task → ⊥) → IsApart (hash_text put.line.unihash) (hash_text l.unihash)
+        other_texts other = elim (which o.gives o.reading (book_now o s) sg tree put) [
           | inl known ↦ texts_apart o.gives o.reading (book_now o s) valid put.line l known here other
           | inr behind ↦ texts_apart o.gives o.reading (book_now o s ++ put.line ∷ []) (longer_valid o.gives o.reading (book_now o s) put.line valid behind) put.line l
               (book_now o s, record { rest = []; is = refl }) (here.0, stands_further (book_now o s ++ put.line ∷ []) (book_now o s) (put.line ∷ []) here.0 l refl here.1) other
         ]
 
+        texts : IsApart (hash_text put.line.unihash) (hash_text l.unihash)
+        texts = by (path_cases l.sig.pn put.line.sig.pn) (path_cases l.sig.task put.line.sig.task)
+          where
+            by : (l.sig.pn ≡ put.line.sig.pn) ⊎ (l.sig.pn ≢ put.line.sig.pn) → (l.sig.task ≡ put.line.sig.task) ⊎ (l.sig.task ≢ put.line.sig.task) → IsApart (hash_text put.line.unihash) (hash_text l.unihash)
+            by (inl a) (inl b) = own_texts a b
+            by (inl a) (inr ne) = other_texts (λ x y. ne y)
+            by (inr ne) b = other_texts (λ x y. ne x)
+
         apart : IsApart (object_folder put.line.unihash) q
         apart = apart_within (object_folder put.line.unihash) (object_folder l.unihash) q (apart_under (codes "obj") (hash_text put.line.unihash) (hash_text l.unihash) texts) below
 
     -- what an image is that the publication made
-    left_put : (old new : Store) → HasStarted s.tale t → IsImage s.story old → HasFolders new → Publishes (publication (rows_of (book_now o s)) sg tree) old new → IsLeft o (record s { begun = begun }) (run.lines ++ put.more) new
-    left_put old new started is folders publishes =
+    left_put : (old new : Store) → HasStarted s.tale t → Has o.gives s.plan.tasks t (Ok tree) → IsImage s.story old → HasFolders new → Publishes (publication (rows_of (book_now o s)) sg tree) old new → IsLeft o (record s { begun = begun }) (run.lines ++ put.more) new
+    left_put old new started output is folders publishes =
         let was = left_since o s run old (now-since s.story (moment o.story) old run.later is) in
         let v = left_valid old new is publishes in
         record {
@@ -239,7 +288,7 @@ module _ (o : Opening) (s : Seen) (run : IsRun o s) (faultless : s.fault ≡ Non
           honest = λ u other at_u. honest_on p o.story.held old new sg.task other (has_place s.plan t sg.task run.may.sound at) (has_place s.plan u other run.may.sound at_u) refl (either_or u other at_u) publishes (new_name old is) (was.honest u other at_u);
           others = λ u other at_u not_begun. let w = was_not u not_begun in as_begun u other at_u w.0 old new publishes (was.others u other at_u w.1);
           paths = λ q aside. paths_put old new q started was.folders folders publishes aside ∙ was.paths q (aside_before q aside);
-          objects = λ l has none q below. objects_put old new l q started publishes has none below ∙ was.objects l has none q below;
+          objects = λ l has none q below. objects_put old new l q started output publishes has none below ∙ was.objects l has (none_before l none) q below;
           folders = folders;
         }
 
@@ -254,13 +303,13 @@ module _ (o : Opening) (s : Seen) (run : IsRun o s) (faultless : s.fault ≡ Non
           honest = was.honest;
           others = λ u other at_u not_begun. was.others u other at_u (was_not u not_begun).1;
           paths = λ q aside. was.paths q (aside_before q aside);
-          objects = was.objects;
+          objects = λ l has none. was.objects l has (none_before l none);
           folders = was.folders;
         }
 
     -- whatever a crash left by now
-    pub left_after : HasStarted s.tale t → (from : ℕ) (image : Store) → from ≤ moment o.story → IsImageSince later from image → IsImageSince o.story from image ⊎ IsLeft o (record s { begun = begun }) (run.lines ++ put.more) image
-    left_after started from image le since = by (pass.since from image come since) (aside.since from image come since)
+    pub left_after : HasStarted s.tale t → Has o.gives s.plan.tasks t (Ok tree) → (from : ℕ) (image : Store) → from ≤ moment o.story → IsImageSince later from image → IsImageSince o.story from image ⊎ IsLeft o (record s { begun = begun }) (run.lines ++ put.more) image
+    left_after started output from image le since = by (pass.since from image come since) (aside.since from image come since)
       where
         come : from ≤ moment s.story
         come = let a = run.later in omega (arith, a, le)
@@ -274,7 +323,7 @@ module _ (o : Opening) (s : Seen) (run : IsRun o s) (faultless : s.fault ≡ Non
 
         put_or : (made : (earlier : Store) × IsImage s.story earlier × Publishes (publication (rows_of (book_now o s)) sg tree) earlier image) → IsImageSince o.story from image ⊎ IsLeft o s (run.lines ++ run.last) image → IsImageSince o.story from image ⊎ IsLeft o (record s { begun = begun }) (run.lines ++ put.more) image
         put_or made (inl before) = inl before
-        put_or made (inr left) = inr (left_put made.0 image started made.1 left.folders made.2)
+        put_or made (inr left) = inr (left_put made.0 image started output made.1 left.folders made.2)
 
         by : IsImageSince s.story from image ⊎ ((earlier : Store) × IsImage s.story earlier × Publishes (publication (rows_of (book_now o s)) sg tree) earlier image)
             → IsImageSince s.story from image ⊎ ((earlier : Store) × IsImage s.story earlier × KeepsOthers (publication (rows_of (book_now o s)) sg tree).folder (publication (rows_of (book_now o s)) sg tree).object s.story.held earlier image)
@@ -282,7 +331,7 @@ module _ (o : Opening) (s : Seen) (run : IsRun o s) (faultless : s.fault ≡ Non
         by (inl was) other = old (run.images from image le was)
         by (inr made) (inl was) = put_or made (run.images from image le was)
         by (inr made) (inr kept) =
-            inr (left_put made.0 image started made.1
+            inr (left_put made.0 image started output made.1
             (folders_on p s.story.held kept.0 image sg.task (has_place s.plan t sg.task run.may.sound at) refl kept.2 (folders s.story.held held_now) (folders kept.0 kept.1)) made.2)
 
     -- the lines are of tasks that are begun

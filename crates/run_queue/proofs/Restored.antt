@@ -36,7 +36,7 @@ use Rattle.run_queue.specs.declared.fault.RunFault.{RunFault}
 use Rattle.run_queue.specs.Keeps.{IsRun, IsRunBut, IsUpToDate, nobody}
 use Rattle.run_queue.specs.Puts.{HasPutObject, IsSignedAt, PutsObject}
 use Rattle.run_queue.specs.Seen.{Known, RunView, Seen, seen}
-use Rattle.run_model.specs.Stands.{HasOwnRow, IsStanding, IsTakenUp}
+use Rattle.run_model.specs.Stands.{HasOwnRow, IsStanding, IsPlaced}
 use Rattle.run_queue.specs.Turns.{MarksAt, Notes}
 use Rattle.run_queue.proofs.Claiming.{claim_may_come}
 use Rattle.run_queue.proofs.Growing.{book_grows}
@@ -174,7 +174,7 @@ module _ {D W : Type 0} (story : D → Story) (written : W → List ℕ) (o : Op
         settled_view story written o (record old { store = store; begun = begun; fault = old.fault }) new (λ u. u ≡ t) seat (events.Restored t) notes marks stays
         (subst (λ (x : Seen). SettlesOne o x (logged_at x seat (events.Restored t))) (path old.fault) settles)
         (untold_view old.fault)
-        (λ u same. subst (IsTakenUp (old.tale ++ logged_at (seen story written (record old { store = store; begun = begun; fault = old.fault })) seat (events.Restored t) ∷ [])) (sym same)
+        (λ u same. subst (IsPlaced (old.tale ++ logged_at (seen story written (record old { store = store; begun = begun; fault = old.fault })) seat (events.Restored t) ∷ [])) (sym same)
         (restored_last old.tale (logged_at (seen story written (record old { store = store; begun = begun; fault = old.fault })) seat (events.Restored t)) t refl))
         may
         tt

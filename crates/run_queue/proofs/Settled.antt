@@ -31,13 +31,13 @@ use Rattle.run_model.specs.Opening.{Opening}
 use Rattle.run_model.specs.Books.{book_after, book_by, rows_after, signed_after}
 use Rattle.run_model.specs.Courses.{IsCourse}
 use Rattle.run_queue.specs.Courses.{IsReal}
-use Rattle.run_queue.specs.Keeps.{IsRun, IsRunBut, WasThere}
+use Rattle.run_queue.specs.Keeps.{IsRun, IsRunBut, MayBeHalted, WasThere}
 use Rattle.run_queue.specs.declared.fault.RunFault.{RunFault}
 use Rattle.run_queue.specs.Seen.{Known, RunView, Seen, seen}
-use Rattle.run_model.specs.Stands.{AllStand, HasEnded, HasOwnRow, IsSettledIn, IsStanding, IsTakenUp}
+use Rattle.run_model.specs.Stands.{AllStand, HasEnded, HasOwnRow, IsSettledIn, IsStanding, IsPlaced}
 use Rattle.run_queue.specs.Stands.{HasObjects}
 use Rattle.run_queue.specs.Turns.{MarksAt, Notes}
-use Rattle.run_queue.proofs.Touched.{aside_on, none_on, started_on, told_on, tried_as}
+use Rattle.run_queue.proofs.Touched.{aside_on, broken_on, halted_as, none_on, told_on}
 use Rattle.run_queue.proofs.Growing.{book_grows, legal_grows}
 use Rattle.run_queue.proofs.Notes.{set_other, set_same}
 use Rattle.run_queue.proofs.Unsettled.{behind, if_some_on, logged_at, was_none}
@@ -130,7 +130,7 @@ entry_moment m n lt = omega (arith, lt)
 
 -- A task that is settled may be told of only now.
 pub settled_run : (o : Opening) (s : Seen) (but : ℕ → Type 0) (seat : ℕ) (event : Event) (failed : Bool) (fault : Option RunFault) (written : List ℕ) → SettlesOne o s (logged_at s seat event) → IsRunBut o s but
-    → ((u : ℕ) → but u → IsTakenUp (s.tale ++ logged_at s seat event ∷ []) u)
+    → ((u : ℕ) → but u → IsPlaced (s.tale ++ logged_at s seat event ∷ []) u)
     → (fault ≡ None → s.fault ≡ None)
     → ((course : Course) → course.plan ≡ s.plan → IsCourse o s.options (s.tale ++ logged_at s seat event ∷ []) course → MayCome course s.tale (logged_at s seat event))
     → IsReal o.gives s.plan.tasks event
@@ -149,6 +149,7 @@ settled_run o s but seat event failed fault written settles run own faultless ma
       own = run.own;
       readable = run.readable;
       last = run.last;
+      few_last = run.few_last;
       none_last = λ none. run.none_last (faultless none);
       valid = λ none. run.valid (faultless none);
       durable = λ none. run.durable (faultless none);
@@ -178,10 +179,9 @@ settled_run o s but seat event failed fault written settles run own faultless ma
             let m = run.met u (settled_back o s e settles u ne settled) (λ ended. not_yet (ended_on o s e settles u ended)) in
             (m.0, m.1, m.2)
       ];
-      tried = tried_as o s later s.begun (λ u. started_on s.tale e u) (λ u was x here. was x here) run.tried;
       halted = run.halted;
-      told = told_on s.begun s.tale e s.fault fault run.halted but faultless own run.told;
-      images = λ t image le since. elim (run.images t image le since) [ inl before ↦ inl before | inr l ↦ inr (record { count = l.count; valid = l.valid; honest = l.honest; others = l.others; paths = λ q aside. l.paths q (aside_on s.plan s.begun s.tale e q aside); objects = λ line has none. l.objects line has (none_on s.plan s.tale e line.sig.pn line.sig.task none); folders = l.folders }) ];
+      told = told_on s.begun s.tale e s.fault fault run.halted (MayBeHalted o s) (MayBeHalted o later) but faultless (halted_as o s later (broken_on s.tale e) (λ u was x here. was x here)) (λ u b. inl (own u b)) run.told;
+      images = λ t image le since. elim (run.images t image le since) [ inl before ↦ inl before | inr l ↦ inr (record { count = l.count; valid = l.valid; honest = l.honest; others = l.others; paths = λ q aside. l.paths q (aside_on s.plan s.begun s.tale e q aside); objects = λ line has none. l.objects line has (none_on o.gives s.plan o.book s.begun s.tale e line none); folders = l.folders }) ];
       stands = λ image is. stands_on o s e settles image is (run.stands image is);
       settled = λ k x here lt image since. elim (front_at o s e settles k x here) [
         | inl f ↦ subst (λ (l : List Logged). AllStand o s.plan l image) (sym (take_front k s.tale e (slice_get_within s.tale k x f))) (run.settled k x f lt image since)
@@ -198,7 +198,7 @@ settled_run o s but seat event failed fault written settles run own faultless ma
 -- the same of views of a state
 pub settled_view : {D W : Type 0} (story : D → Story) (written : W → List ℕ) (o : Opening) (old new : RunView D W) (but : ℕ → Type 0) (seat : ℕ) (event : Event) → Notes seat event old new → MarksAt (story old.store.disk) seat event old.tale new.tale → (IsSome old.fault → new.fault ≡ old.fault)
     → SettlesOne o (seen story written old) (logged_at (seen story written old) seat event) → IsRunBut o (seen story written old) but
-    → ((u : ℕ) → but u → IsTakenUp (old.tale ++ logged_at (seen story written old) seat event ∷ []) u)
+    → ((u : ℕ) → but u → IsPlaced (old.tale ++ logged_at (seen story written old) seat event ∷ []) u)
     → ((course : Course) → course.plan ≡ old.plan → IsCourse o old.options (old.tale ++ logged_at (seen story written old) seat event ∷ []) course → MayCome course old.tale (logged_at (seen story written old) seat event))
     → IsReal o.gives old.plan.tasks event
     → IsRun o (seen story written new)

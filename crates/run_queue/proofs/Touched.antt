@@ -1,23 +1,29 @@
 -- Which tasks a run touches.
-use Rattle.std.proofs.Common.{◌≡◌, ◌∙◌, sym, ap, subst, refl, ℕ, zero, suc, ◌⊎◌, inl, inr, List, [], ◌∷◌, ◌++◌, length, map, replicate, set, Some}
+use Rattle.std.proofs.Common.{◌≡◌, ◌≢◌, ◌∙◌, sym, ap, subst, refl, ℕ, zero, suc, ◌⊎◌, inl, inr, List, [], ◌∷◌, ◌++◌, length, map, replicate, set, take, Some}
 use Rattle.std.specs.Prelude.{IsSome, None, Option, fold}
 use Rattle.std.specs.List.{slice_get}
 use Rattle.std.proofs.lemmas.Bool.{cases_eq, false≢true}
 use Rattle.meta_model.specs.declared.event.Avail.{Avail}
 use Rattle.meta_model.specs.declared.event.Avail.TheVariants as avail
+use Rattle.meta_model.specs.declared.event.Cut.{Cut}
+use Rattle.meta_model.specs.declared.event.Cut.TheVariants as cuts
 use Rattle.meta_model.specs.declared.event.Event.{Event}
 use Rattle.meta_model.specs.declared.event.Event.TheVariants as events
 use Rattle.meta_model.specs.declared.event.Logged.{Logged}
 use Rattle.tale_model.specs.declared.fate.Fate.{Fate}
 use Rattle.tale_model.specs.declared.fate.Fate.TheVariants as fate
 use Rattle.meta_model.specs.declared.plan.Plan.{Plan}
+use Rattle.meta_model.specs.CleanBuild.{Gives}
+use Rattle.store_model.specs.Origins.{Book, Line, rows_of}
 use Rattle.tale_model.specs.Fates.{fate_at, fate_by, fates_by, fates_told, task_of}
 use Rattle.run_queue.specs.declared.fault.RunFault.{RunFault}
-use Rattle.run_queue.specs.Keeps.{WasThere, nobody}
+use Rattle.run_queue.specs.Keeps.{MayBeHalted, WasThere, nobody}
 use Rattle.run_model.specs.Opening.{Opening}
-use Rattle.run_model.specs.Own.{IsAside, IsOfNone}
+use Rattle.run_model.specs.Own.{IsAside, IsObjectOfNone, IsUnihashOver}
 use Rattle.run_queue.specs.Seen.{Seen}
-use Rattle.run_model.specs.Stands.{HasStarted, IsTakenUp}
+use Rattle.run_model.specs.Books.{book_after}
+use Rattle.run_model.specs.Stands.{HasBroken, HasFinished, HasStarted, IsPlaced}
+use Rattle.run_queue.proofs.Recorded.{front_again}
 
 -- ---- a running task was started
 
@@ -71,38 +77,35 @@ front_get (z ∷ xs) (suc k) x y e = front_get xs k x y e
 pub started_on : (tale : List Logged) (e : Logged) (t : ℕ) → HasStarted tale t → HasStarted (tale ++ e ∷ []) t
 started_on tale e t s = record { place = s.place; entry = s.entry; is_entry = front_get tale s.place s.entry e s.is_entry; seat = s.seat; starts = s.starts }
 
-taken_on : (tale : List Logged) (e : Logged) (t : ℕ) → IsTakenUp tale t → IsTakenUp (tale ++ e ∷ []) t
-taken_on tale e t (inl s) = inl (started_on tale e t s)
-taken_on tale e t (inr r) = inr (record { place = r.place; entry = r.entry; is_entry = front_get tale r.place r.entry e r.is_entry; restores = r.restores })
+placed_on : (tale : List Logged) (e : Logged) (t : ℕ) → IsPlaced tale t → IsPlaced (tale ++ e ∷ []) t
+placed_on tale e t (inl f) = inl (record { place = f.place; entry = f.entry; is_entry = front_get tale f.place f.entry e f.is_entry; ends = f.ends })
+placed_on tale e t (inr r) = inr (record { place = r.place; entry = r.entry; is_entry = front_get tale r.place r.entry e r.is_entry; restores = r.restores })
 
 last_get : (xs : List Logged) (e : Logged) → slice_get (xs ++ e ∷ []) (length xs) ≡ Some e
 last_get [] e = refl
 last_get (x ∷ xs) e = last_get xs e
 
+pub broken_on : (tale : List Logged) (e : Logged) (t : ℕ) → HasBroken tale t → HasBroken (tale ++ e ∷ []) t
+broken_on tale e t b = record { place = b.place; entry = b.entry; is_entry = front_get tale b.place b.entry e b.is_entry; cut = b.cut; breaks = b.breaks; not_bench = b.not_bench }
+
+-- a task that the last entry breaks off
+pub broken_last : (tale : List Logged) (e : Logged) (t : ℕ) (cut : Cut) → e.event ≡ events.Broke t cut → cut ≢ cuts.Bench → HasBroken (tale ++ e ∷ []) t
+broken_last tale e t cut is other = record { place = length tale; entry = e; is_entry = last_get tale e; cut = cut; breaks = is; not_bench = other }
+
+-- a task that ended by the last entry
+finished_last : (tale : List Logged) (e : Logged) (t : ℕ) → e.event ≡ events.Ended t → HasFinished (tale ++ e ∷ []) t
+finished_last tale e t is = record { place = length tale; entry = e; is_entry = last_get tale e; ends = is }
+
 -- a task that the last entry restores
-pub restored_last : (tale : List Logged) (e : Logged) (t : ℕ) → e.event ≡ events.Restored t → IsTakenUp (tale ++ e ∷ []) t
+pub restored_last : (tale : List Logged) (e : Logged) (t : ℕ) → e.event ≡ events.Restored t → IsPlaced (tale ++ e ∷ []) t
 restored_last tale e t is = inr (record { place = length tale; entry = e; is_entry = last_get tale e; restores = is })
 
--- ---- with one more task begun
-
--- each begun task was started, or was there as an object
-abbrev pub Tried : Opening → Seen → List (Option Avail) → Type 0
-Tried o s begun = (u : ℕ) → (a : Avail) × (slice_get begun u ≡ Some (Some a)) → HasStarted s.tale u ⊎ WasThere o s u avail.Object
-
-pub tried_besides : (o : Opening) (s : Seen) (begun : List (Option Avail)) (t : ℕ) → ((u : ℕ) → (u ≡ t → ⊥) → slice_get begun u ≡ slice_get s.begun u) → Tried o s s.begun → HasStarted s.tale t ⊎ WasThere o s t avail.Object → Tried o s begun
-tried_besides o s begun t others old own u b = elim (cases_eq u t) [
-  | inl same ↦ subst (λ (v : ℕ). HasStarted s.tale v ⊎ WasThere o s v avail.Object) (sym same) own
-  | inr ne ↦ old u (b.0, sym (others u ne) ∙ b.1)
-]
+-- ---- what is told
 
 -- by views that say the same of what was there
-pub tried_as : (o : Opening) (s later : Seen) (begun : List (Option Avail)) → ((u : ℕ) → HasStarted s.tale u → HasStarted later.tale u) → ((u : ℕ) → WasThere o s u avail.Object → WasThere o later u avail.Object) → Tried o s begun → Tried o later begun
-tried_as o s later begun starts there old u b = elim (old u b) [
-  | inl started ↦ inl (starts u started)
-  | inr was ↦ inr (there u was)
-]
-
--- ---- what is told
+pub halted_as : (o : Opening) (s later : Seen) → ((u : ℕ) → HasBroken s.tale u → HasBroken later.tale u) → ((u : ℕ) → WasThere o s u avail.Object → WasThere o later u avail.Object) → (u : ℕ) → MayBeHalted o s u → MayBeHalted o later u
+halted_as o s later breaks there u (inl broken) = inl (breaks u broken)
+halted_as o s later breaks there u (inr was) = inr (there u was)
 
 -- where a fault is kept it stays, as long as none is kept now only where none was
 fault_stays : (old new : Option RunFault) → (new ≡ None → old ≡ None) → IsSome old → IsSome new
@@ -110,48 +113,48 @@ fault_stays old (Some f) stays is = refl
 fault_stays None None stays is = is
 fault_stays (Some f) None stays is = absurd (let n : Some f ≡ None = stays refl in cc)
 
--- each begun task is taken up in the tale, or it is the one that was halted, where a fault is kept, or one of these
-abbrev pub Told : List (Option Avail) → List Logged → Option RunFault → ℕ → (ℕ → Type 0) → Type 0
-Told begun tale fault halted but = (u : ℕ) → (a : Avail) × (slice_get begun u ≡ Some (Some a)) → IsTakenUp tale u ⊎ ((IsSome fault × (u ≡ halted)) ⊎ but u)
+-- each begun task is placed in the tale, or it is the one that was halted, where a fault is kept and it may have met it, or one of these
+abbrev pub Told : List (Option Avail) → List Logged → Option RunFault → ℕ → (ℕ → Type 0) → (ℕ → Type 0) → Type 0
+Told begun tale fault halted may but = (u : ℕ) → (a : Avail) × (slice_get begun u ≡ Some (Some a)) → IsPlaced tale u ⊎ ((IsSome fault × (u ≡ halted) × may u) ⊎ but u)
 
--- A fault stays, and what is begun besides, and what needn't have been told of, is taken up.
-pub told_by : (begun more : List (Option Avail)) (tale longer : List Logged) (fault later : Option RunFault) (halted : ℕ) (but : ℕ → Type 0)
-    → ((u : ℕ) → (a : Avail) × (slice_get more u ≡ Some (Some a)) → ((a : Avail) × (slice_get begun u ≡ Some (Some a))) ⊎ IsTakenUp longer u)
-    → ((u : ℕ) → IsTakenUp tale u → IsTakenUp longer u) → (later ≡ None → fault ≡ None) → ((u : ℕ) → but u → IsTakenUp longer u)
-    → Told begun tale fault halted but → Told more longer later halted nobody
-told_by begun more tale longer fault later halted but begins taken stays own told u b = elim (begins u b) [
+-- A fault stays, and what is begun besides is placed; what needn't have been told of is placed, or it is the one that was halted.
+pub told_by : (begun more : List (Option Avail)) (tale longer : List Logged) (fault later : Option RunFault) (halted : ℕ) (may then' but : ℕ → Type 0)
+    → ((u : ℕ) → (a : Avail) × (slice_get more u ≡ Some (Some a)) → ((a : Avail) × (slice_get begun u ≡ Some (Some a))) ⊎ IsPlaced longer u)
+    → ((u : ℕ) → IsPlaced tale u → IsPlaced longer u) → (later ≡ None → fault ≡ None) → ((u : ℕ) → may u → then' u) → ((u : ℕ) → but u → IsPlaced longer u ⊎ (IsSome later × (u ≡ halted) × then' u))
+    → Told begun tale fault halted may but → Told more longer later halted then' nobody
+told_by begun more tale longer fault later halted may then' but begins placed stays also own told u b = elim (begins u b) [
   | inl was ↦ elim (told u was) [
-    | inl up ↦ inl (taken u up)
+    | inl up ↦ inl (placed u up)
     | inr rest ↦ elim rest [
-      | inl it ↦ inr (inl (fault_stays fault later stays it.0, it.1))
-      | inr other ↦ inl (own u other)
+      | inl it ↦ inr (inl (fault_stays fault later stays it.0, it.1, also u it.2))
+      | inr other ↦ elim (own u other) [ inl up ↦ inl up | inr it ↦ inr (inl it) ]
     ]
   ]
   | inr now ↦ inl now
 ]
 
 -- behind one more entry
-pub told_on : (begun : List (Option Avail)) (tale : List Logged) (e : Logged) (fault later : Option RunFault) (halted : ℕ) (but : ℕ → Type 0) → (later ≡ None → fault ≡ None) → ((u : ℕ) → but u → IsTakenUp (tale ++ e ∷ []) u)
-    → Told begun tale fault halted but → Told begun (tale ++ e ∷ []) later halted nobody
-told_on begun tale e fault later halted but stays own told = told_by begun begun tale (tale ++ e ∷ []) fault later halted but (λ u b. inl b) (taken_on tale e) stays own told
+pub told_on : (begun : List (Option Avail)) (tale : List Logged) (e : Logged) (fault later : Option RunFault) (halted : ℕ) (may then' but : ℕ → Type 0) → (later ≡ None → fault ≡ None) → ((u : ℕ) → may u → then' u)
+    → ((u : ℕ) → but u → IsPlaced (tale ++ e ∷ []) u ⊎ (IsSome later × (u ≡ halted) × then' u)) → Told begun tale fault halted may but → Told begun (tale ++ e ∷ []) later halted then' nobody
+told_on begun tale e fault later halted may then' but stays also own told = told_by begun begun tale (tale ++ e ∷ []) fault later halted may then' but (λ u b. inl b) (placed_on tale e) stays also own told
 
--- with one more task begun, which was started
-pub told_started : (begun more : List (Option Avail)) (t : ℕ) (tale : List Logged) (fault later : Option RunFault) (halted : ℕ) → ((u : ℕ) → (u ≡ t → ⊥) → slice_get more u ≡ slice_get begun u) → HasStarted tale t → (later ≡ None → fault ≡ None)
-    → Told begun tale fault halted nobody → Told more tale later halted nobody
-told_started begun more t tale fault later halted others started stays told = told_by begun more tale tale fault later halted nobody begins (λ u up. up) stays (λ u never. absurd never) told
+-- behind one more entry, by which a task that is begun besides ended
+pub told_ended : (begun more : List (Option Avail)) (t : ℕ) (tale : List Logged) (e : Logged) (fault later : Option RunFault) (halted : ℕ) (may then' : ℕ → Type 0) → ((u : ℕ) → (u ≡ t → ⊥) → slice_get more u ≡ slice_get begun u) → e.event ≡ events.Ended t
+    → (later ≡ None → fault ≡ None) → ((u : ℕ) → may u → then' u) → Told begun tale fault halted may nobody → Told more (tale ++ e ∷ []) later halted then' nobody
+told_ended begun more t tale e fault later halted may then' others ends stays also told = told_by begun more tale (tale ++ e ∷ []) fault later halted may then' nobody begins (placed_on tale e) stays also (λ u never. absurd never) told
   where
-    begins : (u : ℕ) → (a : Avail) × (slice_get more u ≡ Some (Some a)) → ((a : Avail) × (slice_get begun u ≡ Some (Some a))) ⊎ IsTakenUp tale u
+    begins : (u : ℕ) → (a : Avail) × (slice_get more u ≡ Some (Some a)) → ((a : Avail) × (slice_get begun u ≡ Some (Some a))) ⊎ IsPlaced (tale ++ e ∷ []) u
     begins u b = elim (cases_eq u t) [
-      | inl same ↦ inr (inl (subst (HasStarted tale) (sym same) started))
+      | inl same ↦ inr (inl (subst (HasFinished (tale ++ e ∷ [])) (sym same) (finished_last tale e t ends)))
       | inr ne ↦ inl (b.0, sym (others u ne) ∙ b.1)
     ]
 
 -- with one more task begun, which is halted, or needn't be told of yet
-pub told_halted : (begun more : List (Option Avail)) (t : ℕ) (tale : List Logged) (fault later : Option RunFault) (halted : ℕ) (but : ℕ → Type 0) → ((u : ℕ) → (u ≡ t → ⊥) → slice_get more u ≡ slice_get begun u) → fault ≡ None → IsSome later ⊎ but t
-    → Told begun tale fault halted nobody → Told more tale later t but
-told_halted begun more t tale fault later halted but others none spare told u b = elim (cases_eq u t) [
+pub told_halted : (begun more : List (Option Avail)) (t : ℕ) (tale : List Logged) (fault later : Option RunFault) (halted : ℕ) (may then' but : ℕ → Type 0) → ((u : ℕ) → (u ≡ t → ⊥) → slice_get more u ≡ slice_get begun u) → fault ≡ None → (IsSome later × then' t) ⊎ but t
+    → Told begun tale fault halted may nobody → Told more tale later t then' but
+told_halted begun more t tale fault later halted may then' but others none spare told u b = elim (cases_eq u t) [
   | inl same ↦ elim spare [
-    | inl some ↦ inr (inl (some, same))
+    | inl some ↦ inr (inl (some.0, same, subst then' (sym same) some.1))
     | inr it ↦ inr (inr (subst but (sym same) it))
   ]
   | inr ne ↦ elim (told u (b.0, sym (others u ne) ∙ b.1)) [
@@ -170,17 +173,31 @@ told_halted begun more t tale fault later halted but others none spare told u b 
 -- ---- paths aside
 
 -- a path that is aside of more is aside of fewer
-pub aside_less : (plan : Plan) (touched more started others : ℕ → Type 0) (q : List ℕ) → ((t : ℕ) → touched t → more t) → ((t : ℕ) → started t → others t) → IsAside plan more others q → IsAside plan touched started q
-aside_less plan touched more started others q a b is = record {
+pub aside_less : (plan : Plan) (touched more published others : ℕ → Type 0) (q : List ℕ) → ((t : ℕ) → touched t → more t) → ((t : ℕ) → published t → others t) → IsAside plan more others q → IsAside plan touched published q
+aside_less plan touched more published others q a b is = record {
   temporary = is.temporary;
   folder = λ t task at was. is.folder t task at (a t was);
   output = λ t was. is.output t (b t was);
 }
 
--- of one behind one more entry what was aside is so
-pub aside_on : (plan : Plan) (begun : List (Option Avail)) (tale : List Logged) (e : Logged) (q : List ℕ) → IsAside plan (λ t. (a : Avail) × (slice_get begun t ≡ Some (Some a))) (HasStarted (tale ++ e ∷ [])) q → IsAside plan (λ t. (a : Avail) × (slice_get begun t ≡ Some (Some a))) (HasStarted tale) q
-aside_on plan begun tale e q is = aside_less plan (λ t. (a : Avail) × (slice_get begun t ≡ Some (Some a))) (λ t. (a : Avail) × (slice_get begun t ≡ Some (Some a))) (HasStarted tale) (HasStarted (tale ++ e ∷ [])) q (λ t b. b) (started_on tale e) is
+-- the tasks that these were begun of, and that the tale starts
+abbrev pub Publishing : List (Option Avail) → List Logged → ℕ → Type 0
+Publishing begun tale t = ((a : Avail) × (slice_get begun t ≡ Some (Some a))) × HasStarted tale t
 
--- behind one more entry what is of none was so before
-pub none_on : (plan : Plan) (tale : List Logged) (e : Logged) (pn name : List ℕ) → IsOfNone plan (HasStarted (tale ++ e ∷ [])) pn name → IsOfNone plan (HasStarted tale) pn name
-none_on plan tale e pn name none t task at started = none t task at (started_on tale e t started)
+-- what is aside behind one more entry was so before
+pub aside_on : (plan : Plan) (begun : List (Option Avail)) (tale : List Logged) (e : Logged) (q : List ℕ) → IsAside plan (λ t. (a : Avail) × (slice_get begun t ≡ Some (Some a))) (Publishing begun (tale ++ e ∷ [])) q → IsAside plan (λ t. (a : Avail) × (slice_get begun t ≡ Some (Some a))) (Publishing begun tale) q
+aside_on plan begun tale e q is = aside_less plan (λ t. (a : Avail) × (slice_get begun t ≡ Some (Some a))) (λ t. (a : Avail) × (slice_get begun t ≡ Some (Some a))) (Publishing begun tale) (Publishing begun (tale ++ e ∷ [])) q (λ t b. b) (λ t b. (b.0, started_on tale e t b.1)) is
+
+-- a line whose object none of more tasks put over more fronts is one whose object none of fewer put
+pub none_less : (gives : Gives) (plan : Plan) (book : Book) (tale longer : List Logged) (published more : ℕ → Type 0) (line : Line) → ((t : ℕ) → published t → more t) → ((k : ℕ) → (j : ℕ) × (take j longer ≡ take k tale)) → IsObjectOfNone gives plan book longer more line → IsObjectOfNone gives plan book tale published line
+none_less gives plan book tale longer published more line also fronts none t task at was pn name k over =
+    let f = fronts k in
+    none t task at (also t was) pn name f.0 (subst (λ (l : List Logged). IsUnihashOver gives plan (rows_of (book_after gives plan book l)) t line.unihash) (sym f.1) over)
+
+-- over one tale
+pub none_besides : (gives : Gives) (plan : Plan) (book : Book) (tale : List Logged) (begun more : List (Option Avail)) (line : Line) → ((t : ℕ) → (a : Avail) × (slice_get begun t ≡ Some (Some a)) → (a : Avail) × (slice_get more t ≡ Some (Some a))) → IsObjectOfNone gives plan book tale (Publishing more tale) line → IsObjectOfNone gives plan book tale (Publishing begun tale) line
+none_besides gives plan book tale begun more line also = none_less gives plan book tale tale (Publishing begun tale) (Publishing more tale) line (λ t b. (also t b.0, b.1)) (λ k. (k, refl))
+
+-- behind one more entry
+pub none_on : (gives : Gives) (plan : Plan) (book : Book) (begun : List (Option Avail)) (tale : List Logged) (e : Logged) (line : Line) → IsObjectOfNone gives plan book (tale ++ e ∷ []) (Publishing begun (tale ++ e ∷ [])) line → IsObjectOfNone gives plan book tale (Publishing begun tale) line
+none_on gives plan book begun tale e line = none_less gives plan book tale (tale ++ e ∷ []) (Publishing begun tale) (Publishing begun (tale ++ e ∷ [])) line (λ t b. (b.0, started_on tale e t b.1)) (λ k. front_again k tale (e ∷ []))

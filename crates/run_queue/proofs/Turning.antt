@@ -1,5 +1,5 @@
 -- What a turn that publishes a task's output leaves of a run, as views of its state.
-use Rattle.std.proofs.Common.{◌≡◌, ◌∙◌, sym, ap, subst, refl, ℕ, ◌<◌, ◌-◌, ◌^◌, ◌⊎◌, inl, inr, zero, suc, arith, min, true, false, List, [], ◌∷◌, ◌++◌, length, set, All, Some, None, Ok, Err, get_or}
+use Rattle.std.proofs.Common.{◌≡◌, ◌≢◌, ◌∙◌, sym, ap, subst, refl, ℕ, ◌<◌, ◌-◌, ◌^◌, ◌⊎◌, inl, inr, zero, suc, arith, min, true, false, List, [], ◌∷◌, ◌++◌, length, set, All, Some, None, Ok, Err, get_or}
 use Rattle.tree_model.specs.declared.manifest.ManifestLine.{ManifestLine}
 use Rattle.std.specs.Prelude.{IfSome, IsSome, Option}
 use Rattle.std.specs.Option.{option_map}
@@ -24,6 +24,7 @@ use Rattle.task_worker.specs.Jobs.{outcome_of}
 use Rattle.plan_model.specs.Sound.{IsSound}
 use Rattle.std.proofs.lemmas.List.Elements.{recursion_from_All}
 use Rattle.meta_model.specs.declared.event.Cut.{Cut}
+use Rattle.meta_model.specs.declared.event.Cut.TheVariants as cuts
 use Rattle.meta_model.specs.declared.event.Logged.{Logged}
 use Rattle.meta_model.specs.declared.plan.Plan.{Plan}
 use Rattle.meta_model.specs.declared.plan.PlanTask.{PlanTask}
@@ -53,20 +54,20 @@ use Rattle.run_queue.specs.Puts.{HasPut, IsCleanOutput, IsSignedAt, Puts}
 use Rattle.setscene_plan.specs.declared.replan.Replan.{Replan}
 use Rattle.setscene_plan.specs.Replans.{IsCurrent}
 use Rattle.run_queue.specs.Seen.{Known, RunView, Seen, known_in, no_meaning, seen}
-use Rattle.run_model.specs.Stands.{HasEnded}
+use Rattle.run_model.specs.Stands.{HasBroken, HasEnded}
 use Rattle.run_queue.specs.Turns.{IsCleanJob, IsGivenBy, MarksAt, Notes, closed_as}
 use Rattle.run_queue.proofs.Agreement.{running_over}
 use Rattle.run_queue.proofs.Breaking.{running_within}
-use Rattle.run_queue.proofs.Concluding.{ended_run, ended_there, fault_run, faulty_run}
+use Rattle.run_queue.proofs.Concluding.{HaltsAt, ended_run, ended_there, fault_run, faulty_run}
 use Rattle.run_queue.proofs.Enduring.{signed_task}
 use Rattle.run_queue.proofs.Growing.{course_of_front}
 use Rattle.run_queue.proofs.Jobs.{end_may_come, given_is_clean, says}
 use Rattle.setscene_plan.proofs.Naming.{signed_at}
 use Rattle.run_queue.proofs.Passed.{same_now}
-use Rattle.run_queue.proofs.Putting.{Begins, book_now, durable_now, may_now, more_begun, readable_more}
+use Rattle.run_queue.proofs.Putting.{Begins, book_now, durable_now, may_now, readable_more}
 use Rattle.run_queue.proofs.Recorded.{IsPut, put_line}
-use Rattle.run_queue.proofs.Touched.{Told, running_started, told_started, tried_besides}
-use Rattle.run_queue.proofs.Unsettled.{logged_at, noted_run}
+use Rattle.run_queue.proofs.Touched.{broken_last}
+use Rattle.run_queue.proofs.Unsettled.{logged_at, noted_but, noted_run}
 
 -- ---- what is there before a publication
 
@@ -152,34 +153,30 @@ module _ {D W : Type 0} (story : D → Story) (written : W → List ℕ) (o : Op
 
   -- ---- a fault
 
-  -- the task was started, so it is told
-  told_fault : (f : RunFault) → Told begun old.tale (Some f) run.halted nobody
-  told_fault f = told_started old.begun begun t old.tale old.fault (Some f) run.halted begins.others (running_started (length old.plan.tasks) old.tale t seat runs) (λ e. faultless) run.told
-
   fault_known : (f : RunFault) (k : Known) → IsUpToDate old.plan old.store.rows k → store.rows ≡ old.store.rows
       → ((x : Signed) → IsSignedAt old.store.rows old.plan.tasks t x → Puts (Unit {0}) (story old.store.disk) (story store.disk) (publication old.store.rows x tree))
       → ((x : Signed) → IsSignedAt old.store.rows old.plan.tasks t x → IsReadable (line_for old.store.rows x tree) ⊎ (store.disk ≡ old.store.disk))
-      → IsRun o (record (seen story written old) { story = story store.disk; begun = begun; kept = store.kept; fault = Some f })
+      → HaltsAt o (record (seen story written old) { story = story store.disk; begun = begun; kept = store.kept; fault = Some f }) t
   fault_known f k now same puts readable =
       let r = ready o (seen story written old) k t seat tree run faultless orderly now lt runs output in
       let p = images r (puts r.sg r.signed) in
       by r p (readable r.sg r.signed)
     where
       by : (r : IsReady o (seen story written old) t tree) → Puts (Unit {0}) (story old.store.disk) (story store.disk) (publication (rows_of (book_now o (seen story written old))) r.sg tree) → IsReadable (line_for old.store.rows r.sg tree) ⊎ (store.disk ≡ old.store.disk)
-          → IsRun o (record (seen story written old) { story = story store.disk; begun = begun; kept = store.kept; fault = Some f })
+          → HaltsAt o (record (seen story written old) { story = story store.disk; begun = begun; kept = store.kept; fault = Some f }) t
       by r p (inl is) =
-          faulty_run o (seen story written old) run faultless orderly r.may t r.sg r.at r.is_sg tree r.put seat runs (story store.disk) sound (p.images tt) (p.others tt) begun begins store.kept f
+          faulty_run o (seen story written old) run faultless orderly r.may t r.sg r.at r.is_sg tree r.put seat runs (story store.disk) sound (p.images tt) (p.others tt) begun begins store.kept f (r.built, r.is_built, r.clean)
           (readable_more o (seen story written old) run faultless orderly r.may t r.sg r.at r.is_sg tree r.put (ap is_settled runs) (story store.disk) sound (p.images tt) (p.others tt) (subst (λ (rows : List EquivRow). IsReadable (line_for rows r.sg tree)) run.rows is))
       by r p (inr disk) =
-          subst (λ (d : D). IsRun o (record (seen story written old) { story = story d; begun = begun; kept = store.kept; fault = Some f })) (sym disk)
-          (fault_run o (seen story written old) begun store.kept f (more_begun (seen story written old) begun t begins) (tried_besides o (seen story written old) begun t begins.others run.tried (inl (running_started (length old.plan.tasks) old.tale t seat runs))) run (told_fault f))
+          subst (λ (d : D). HaltsAt o (record (seen story written old) { story = story d; begun = begun; kept = store.kept; fault = Some f }) t) (sym disk)
+          (fault_run o (seen story written old) begun store.kept f t faultless begins run)
 
   -- A fault that was met leaves what a run keeps, with that fault.
   pub fault_seen : (f : RunFault) → IfSome old.known (IsUpToDate old.plan old.store.rows) → store.rows ≡ old.store.rows → (old.known ≡ None → store ≡ old.store)
       → ((x : Signed) → IsSignedAt old.store.rows old.plan.tasks t x → Puts (Unit {0}) (story old.store.disk) (story store.disk) (publication old.store.rows x tree))
       → ((x : Signed) → IsSignedAt old.store.rows old.plan.tasks t x → IsReadable (line_for old.store.rows x tree) ⊎ (store.disk ≡ old.store.disk))
-      → IsRun o (seen story written (record old { store = store; begun = begun; fault = Some f }))
-  fault_seen f current same unlooked puts readable = subst (IsRun o) one (by old.known refl current)
+      → HaltsAt o (seen story written (record old { store = store; begun = begun; fault = Some f })) t
+  fault_seen f current same unlooked puts readable = subst (λ (x : Seen). HaltsAt o x t) one (by old.known refl current)
     where
       one : record (seen story written old) { story = story store.disk; begun = begun; kept = store.kept; fault = Some f } ≡ seen story written (record old { store = store; begun = begun; fault = Some f })
       one = λ i. record {
@@ -196,11 +193,11 @@ module _ {D W : Type 0} (story : D → Story) (written : W → List ℕ) (o : Op
         written = written old.sink;
       }
 
-      by : (known : Option Known) → old.known ≡ known → IfSome known (IsUpToDate old.plan old.store.rows) → IsRun o (record (seen story written old) { story = story store.disk; begun = begun; kept = store.kept; fault = Some f })
+      by : (known : Option Known) → old.known ≡ known → IfSome known (IsUpToDate old.plan old.store.rows) → HaltsAt o (record (seen story written old) { story = story store.disk; begun = begun; kept = store.kept; fault = Some f }) t
       by (Some k) is now = fault_known f k now same puts readable
       by None is now =
-          subst (λ (v : View D). IsRun o (record (seen story written old) { story = story v.disk; begun = begun; kept = store.kept; fault = Some f })) (sym (unlooked is))
-          (fault_run o (seen story written old) begun store.kept f (more_begun (seen story written old) begun t begins) (tried_besides o (seen story written old) begun t begins.others run.tried (inl (running_started (length old.plan.tasks) old.tale t seat runs))) run (told_fault f))
+          subst (λ (v : View D). HaltsAt o (record (seen story written old) { story = story v.disk; begun = begun; kept = store.kept; fault = Some f }) t) (sym (unlooked is))
+          (fault_run o (seen story written old) begun store.kept f t faultless begins run)
 
   -- ---- the task has ended
 
@@ -232,7 +229,9 @@ module _ {D W : Type 0} (story : D → Story) (written : W → List ℕ) (o : Op
         published : IsPublished (publication (rows_of (book_now o (seen story written old))) x.sg tree) (story old.store.disk).held
         published = (has_put x).published tt (story old.store.disk).held (subst (λ (d : D). story_of.IsImage (story d) (story old.store.disk).held) (sym disk) (held-image (story old.store.disk) sound))
 
-        by : (Rattle.store_model.specs.Lines.HasLine (book_now o (seen story written old)) x.put.line × (x.put.more ≡ []) × ((publication (rows_of (book_now o (seen story written old))) x.sg tree).is_new ≡ false)) ⊎ (Rattle.store_model.specs.Valid.IsValidLine o.gives o.reading (book_now o (seen story written old)) x.put.line × (x.put.more ≡ x.put.line ∷ []) × (row_at (rows_of (book_now o (seen story written old))) (name_of x.sg.sig) ≡ None) × (x.put.line ≡ Rattle.store_model.specs.Recording.recorded (rows_of (book_now o (seen story written old))) x.sg tree)) → x.put.more ≡ []
+        by : (Rattle.store_model.specs.Lines.HasLine (book_now o (seen story written old)) x.put.line × (x.put.more ≡ []) × ((publication (rows_of (book_now o (seen story written old))) x.sg tree).is_new ≡ false))
+            ⊎ (Rattle.store_model.specs.Valid.IsValidLine o.gives o.reading (book_now o (seen story written old)) x.put.line × (x.put.more ≡ x.put.line ∷ []) × (row_at (rows_of (book_now o (seen story written old))) (name_of x.sg.sig) ≡ None) × (x.put.line ≡ Rattle.store_model.specs.Recording.recorded (rows_of (book_now o (seen story written old))) x.sg tree))
+            → x.put.more ≡ []
         by (inl known) = known.1
         by (inr new_line) =
             let none = Rattle.run_queue.proofs.Recorded.no_record o.gives o.reading (story old.store.disk).held (book_now o (seen story written old)) x.sg.sig (durable_now o (seen story written old) run faultless (story old.store.disk).held (held-image (story old.store.disk) sound)) new_line.2 in
@@ -322,6 +321,17 @@ broken_seen story written o mid new t seat cut n m stays runs run =
     noted_run story written o mid new seat (events.Broke t cut) n m stays
     (record { within = running_within (fates_told (length mid.plan.tasks) mid.tale) t seat runs; before = ap is_settled runs; after = refl; book = λ b. refl })
     run
+    (λ course same is. subst (λ (p : Plan). fate_at (fates_told (length p.tasks) mid.tale) t ≡ fate.Running seat) (sym same) runs)
+    tt
+
+-- and so does the task at which the run is halted
+pub halted_seen : {D W : Type 0} (story : D → Story) (written : W → List ℕ) (o : Opening) (mid new : RunView D W) (t seat : ℕ) (cut : Cut) → cut ≢ cuts.Bench → Notes seat (events.Broke t cut) mid new → MarksAt (story mid.store.disk) seat (events.Broke t cut) mid.tale new.tale → (IsSome mid.fault → new.fault ≡ mid.fault)
+    → fate_at (fates_told (length mid.plan.tasks) mid.tale) t ≡ fate.Running seat → IsSome mid.fault → HaltsAt o (seen story written mid) t → IsRun o (seen story written new)
+halted_seen story written o mid new t seat cut other n m stays runs some halts =
+    noted_but story written o mid new (λ u. u ≡ t) seat (events.Broke t cut) n m stays
+    (record { within = running_within (fates_told (length mid.plan.tasks) mid.tale) t seat runs; before = ap is_settled runs; after = refl; book = λ b. refl })
+    halts.0
+    (λ u same. (subst IsSome (sym (stays some)) some, same ∙ sym halts.1, inl (subst (HasBroken (mid.tale ++ logged_at (seen story written mid) seat (events.Broke t cut) ∷ [])) (sym same) (broken_last mid.tale (logged_at (seen story written mid) seat (events.Broke t cut)) t cut refl other))))
     (λ course same is. subst (λ (p : Plan). fate_at (fates_told (length p.tasks) mid.tale) t ≡ fate.Running seat) (sym same) runs)
     tt
 

@@ -30,14 +30,14 @@ use Rattle.run_model.specs.Opening.{Opening}
 use Rattle.run_model.specs.Books.{book_after, book_by, rows_after, signed_after}
 use Rattle.run_model.specs.Courses.{IsCourse}
 use Rattle.run_queue.specs.Courses.{IsReal}
-use Rattle.run_queue.specs.Keeps.{IsRun, Prints, WasThere, nobody}
+use Rattle.run_queue.specs.Keeps.{IsRun, IsRunBut, MayBeHalted, Prints, WasThere, nobody}
 use Rattle.run_queue.specs.declared.fault.RunFault.{RunFault}
 use Rattle.run_queue.specs.Seen.{Known, RunView, Seen, seen}
 use Rattle.run_model.specs.Stands.{AllStand, HasEnded, HasOwnRow, IsSettledIn}
 use Rattle.run_queue.specs.Stands.{HasObjects}
 use Rattle.run_queue.specs.Turns.{Marks, MarksAt, Notes}
 use Rattle.run_model.specs.Report.{event_line, tale_text}
-use Rattle.run_queue.proofs.Touched.{aside_on, none_on, started_on, told_on, tried_as}
+use Rattle.run_queue.proofs.Touched.{aside_on, broken_on, halted_as, none_on, told_on}
 use Rattle.run_queue.proofs.Growing.{book_grows, legal_grows}
 use Rattle.run_queue.proofs.Notes.{set_other, set_same}
 
@@ -147,12 +147,14 @@ noted_text written old new seat event base m prints =
     subst (λ (l : List Logged). Prints base (written new.sink) (tale_text old.plan.tasks l) new.sink_failed) (sym m.is)
     (prints_behind old.plan old.tale (record { event = event; seat = seat; moment = m.moment }) base (written new.sink) new.sink_failed prints)
 
-pub unsettled_run : (o : Opening) (s : Seen) (seat : ℕ) (event : Event) (failed : Bool) (fault : Option RunFault) (written : List ℕ) → SettlesNone o s.plan s.tale (logged_at s seat event) → IsRun o s
+-- An entry that settles no task leaves what a run keeps; of a task that needn't have been told of it may tell that the run is halted at it.
+pub unsettled_run : (o : Opening) (s : Seen) (but : ℕ → Type 0) (seat : ℕ) (event : Event) (failed : Bool) (fault : Option RunFault) (written : List ℕ) → SettlesNone o s.plan s.tale (logged_at s seat event) → (run : IsRunBut o s but)
+    → ((u : ℕ) → but u → IsSome fault × (u ≡ run.halted) × MayBeHalted o (behind s seat event failed fault written) u)
     → (fault ≡ None → s.fault ≡ None)
     → ((course : Course) → course.plan ≡ s.plan → IsCourse o s.options (s.tale ++ logged_at s seat event ∷ []) course → MayCome course s.tale (logged_at s seat event))
     → IsReal o.gives s.plan.tasks event
     → IsRun o (behind s seat event failed fault written)
-unsettled_run o s seat event failed fault written settles run faultless may real =
+unsettled_run o s but seat event failed fault written settles run own faultless may real =
     let at : ℕ = min (moment s.story) (2 ^ 64 - 1) in
     let e : Logged = logged_at s seat event in
     let later : Seen = behind s seat event failed fault written in
@@ -166,6 +168,7 @@ unsettled_run o s seat event failed fault written settles run faultless may real
       own = run.own;
       readable = run.readable;
       last = run.last;
+      few_last = run.few_last;
       none_last = λ none. run.none_last (faultless none);
       valid = λ none. run.valid (faultless none);
       durable = λ none. run.durable (faultless none);
@@ -189,10 +192,9 @@ unsettled_run o s seat event failed fault written settles run faultless may real
       met = λ u settled not_yet.
           let m = run.met u (settled_back o s.plan s.tale e settles u settled) (λ ended. not_yet (ended_on o s.plan s.tale e settles u ended)) in
           (m.0, m.1, m.2);
-      tried = tried_as o s later s.begun (λ u. started_on s.tale e u) (λ u was x here. was x here) run.tried;
       halted = run.halted;
-      told = told_on s.begun s.tale e s.fault fault run.halted nobody faultless (λ u never. absurd never) run.told;
-      images = λ t image le since. elim (run.images t image le since) [ inl before ↦ inl before | inr l ↦ inr (record { count = l.count; valid = l.valid; honest = l.honest; others = l.others; paths = λ q aside. l.paths q (aside_on s.plan s.begun s.tale e q aside); objects = λ line has none. l.objects line has (none_on s.plan s.tale e line.sig.pn line.sig.task none); folders = l.folders }) ];
+      told = told_on s.begun s.tale e s.fault fault run.halted (MayBeHalted o s) (MayBeHalted o later) but faultless (halted_as o s later (broken_on s.tale e) (λ u was x here. was x here)) (λ u b. inr (own u b)) run.told;
+      images = λ t image le since. elim (run.images t image le since) [ inl before ↦ inl before | inr l ↦ inr (record { count = l.count; valid = l.valid; honest = l.honest; others = l.others; paths = λ q aside. l.paths q (aside_on s.plan s.begun s.tale e q aside); objects = λ line has none. l.objects line has (none_on o.gives s.plan o.book s.begun s.tale e line none); folders = l.folders }) ];
       stands = λ image is. stands_on o s.plan s.tale e settles image (run.stands image is);
       settled = λ k x here lt image since. elim (front_at o s.plan s.tale e settles k x here) [
         | inl f ↦ subst (λ (l : List Logged). AllStand o s.plan l image) (sym (take_front k s.tale e (slice_get_within s.tale k x f))) (run.settled k x f lt image since)
@@ -212,12 +214,13 @@ was_none None new stays none = refl
 was_none (Some f) new stays none = sym (stays refl) ∙ none
 
 -- the same of views of a state
-pub noted_run : {D W : Type 0} (story : D → Story) (written : W → List ℕ) (o : Opening) (old new : RunView D W) (seat : ℕ) (event : Event) → Notes seat event old new → MarksAt (story old.store.disk) seat event old.tale new.tale → (IsSome old.fault → new.fault ≡ old.fault)
-    → SettlesNone o old.plan old.tale (logged_at (seen story written old) seat event) → IsRun o (seen story written old)
+pub noted_but : {D W : Type 0} (story : D → Story) (written : W → List ℕ) (o : Opening) (old new : RunView D W) (but : ℕ → Type 0) (seat : ℕ) (event : Event) → Notes seat event old new → MarksAt (story old.store.disk) seat event old.tale new.tale → (IsSome old.fault → new.fault ≡ old.fault)
+    → SettlesNone o old.plan old.tale (logged_at (seen story written old) seat event) → (run : IsRunBut o (seen story written old) but)
+    → ((u : ℕ) → but u → IsSome new.fault × (u ≡ run.halted) × MayBeHalted o (behind (seen story written old) seat event new.sink_failed new.fault (written new.sink)) u)
     → ((course : Course) → course.plan ≡ old.plan → IsCourse o old.options (old.tale ++ logged_at (seen story written old) seat event ∷ []) course → MayCome course old.tale (logged_at (seen story written old) seat event))
     → IsReal o.gives old.plan.tasks event
     → IsRun o (seen story written new)
-noted_run story written o old new seat event n m stays settles run may real =
+noted_but story written o old new but seat event n m stays settles run own may real =
     let made : Seen = behind (seen story written old) seat event new.sink_failed new.fault (written new.sink) in
     let same : made ≡ seen story written new = λ i. record {
       plan = sym n.plan i;
@@ -232,4 +235,12 @@ noted_run story written o old new seat event n m stays settles run may real =
       story = story (sym n.store i).disk;
       written = written new.sink;
     } in
-    subst (IsRun o) same (unsettled_run o (seen story written old) seat event new.sink_failed new.fault (written new.sink) settles run (was_none old.fault new.fault stays) may real)
+    subst (IsRun o) same (unsettled_run o (seen story written old) but seat event new.sink_failed new.fault (written new.sink) settles run own (was_none old.fault new.fault stays) may real)
+
+-- where all that was begun is told of
+pub noted_run : {D W : Type 0} (story : D → Story) (written : W → List ℕ) (o : Opening) (old new : RunView D W) (seat : ℕ) (event : Event) → Notes seat event old new → MarksAt (story old.store.disk) seat event old.tale new.tale → (IsSome old.fault → new.fault ≡ old.fault)
+    → SettlesNone o old.plan old.tale (logged_at (seen story written old) seat event) → IsRun o (seen story written old)
+    → ((course : Course) → course.plan ≡ old.plan → IsCourse o old.options (old.tale ++ logged_at (seen story written old) seat event ∷ []) course → MayCome course old.tale (logged_at (seen story written old) seat event))
+    → IsReal o.gives old.plan.tasks event
+    → IsRun o (seen story written new)
+noted_run story written o old new seat event n m stays settles run may real = noted_but story written o old new nobody seat event n m stays settles run (λ u never. absurd never) may real

@@ -32,7 +32,8 @@ meant_follows tells held now rows others setscene counts tasks them begun more s
     let three : Means tells now others counts task sig (answered_of begun t) there = subst (λ (y : Bool). Means tells now others y task sig (answered_of begun t) there) c two in
     subst (λ (xs : List (Option Avail)). Means tells now others counts task sig (answered_of xs t) there) b three
 
-pub kept_or_meant_follows : (e : Earlier) (tells : Type 0) {held now : Store} {rows others : List EquivRow} {setscene counts : Bool} {tasks them : List PlanTask} {begun more : List (Option Avail)} → (tells → held ≡ now) → rows ≡ others → setscene ≡ counts → tasks ≡ them → begun ≡ more → Follows (kept_or_meant e tells held rows setscene tasks begun) (kept_or_meant e tells now others counts them more)
+pub kept_or_meant_follows : (e : Earlier) (tells : Type 0) {held now : Store} {rows others : List EquivRow} {setscene counts : Bool} {tasks them : List PlanTask} {begun more : List (Option Avail)}
+    → (tells → held ≡ now) → rows ≡ others → setscene ≡ counts → tasks ≡ them → begun ≡ more → Follows (kept_or_meant e tells held rows setscene tasks begun) (kept_or_meant e tells now others counts them more)
 kept_or_meant_follows e tells same r c ts b t sig there (inl kept) = inl (subst (λ (xs : List PlanTask). WasKept e xs t sig there) ts kept)
 kept_or_meant_follows e tells {held} {now} {rows} {others} {setscene} {counts} {tasks} {them} {begun} {more} same r c ts b t sig there (inr is) = inr (meant_follows tells held now rows others setscene counts tasks them begun more same r c ts b t sig there is)
 

@@ -46,7 +46,7 @@ use Rattle.run_model.specs.Books.{book_after, rows_after}
 use Rattle.run_model.specs.Courses.{IsLegalTale}
 use Rattle.run_queue.specs.Courses.{IsReal}
 use Rattle.run_queue.specs.Seen.{IsBegun, Known, RunView, Seen}
-use Rattle.run_model.specs.Stands.{AllStand, HasEnded, HasStarted, IsTakenUp, IsSettledIn}
+use Rattle.run_model.specs.Stands.{AllStand, HasBroken, HasEnded, IsPlaced, IsSettledIn}
 use Rattle.run_queue.specs.Stands.{KeepObjects, IsLeft, StandSince}
 
 -- ---- in every state
@@ -123,6 +123,10 @@ PrintsOn written old new =
 abbrev pub KeepsFront : {D W : Type 0} → (W → List ℕ) → RunView D W → RunView D W → Type 0
 KeepsFront written old new = (front : List ℕ) → IsFront front (written old.sink) → IsFront front (written new.sink)
 
+-- The publishing or restoring of the task may have met a fault: the tale breaks the task off by one, or its output was there as an object.
+abbrev pub MayBeHalted : Opening → Seen → ℕ → Type 0
+MayBeHalted o s t = HasBroken s.tale t ⊎ WasThere o s t Object
+
 -- What a run keeps besides over an opening whose premises hold. Tasks that `but` tells of may have been begun without being told of yet.
 pub record IsRunBut (o : Opening) (s : Seen) (but : ℕ → Type 0) : Type 0 where
   pub may : MayRun o s.plan
@@ -134,6 +138,7 @@ pub record IsRunBut (o : Opening) (s : Seen) (but : ℕ → Type 0) : Type 0 whe
   pub own : (line : Line) → HasLine lines line → (t : ℕ) (task : PlanTask) → slice_get s.plan.tasks t ≡ Some task → line.sig.pn ≡ task.id.pn → line.sig.task ≡ task.id.task → IsBegun s t
   -- a crash may have left one line more: that of a publication in which a fault was met; all lines can be read again
   pub last : Book
+  pub few_last : length last ≤ 1
   pub none_last : s.fault ≡ None → last ≡ []
   pub readable : AllByRecursion IsReadable (o.book ++ (lines ++ last))
   -- while no fault is kept, what is held, and what a crash leaves now, is valid with that book
@@ -156,11 +161,9 @@ pub record IsRunBut (o : Opening) (s : Seen) (but : ℕ → Type 0) : Type 0 whe
   pub there : IfSome s.known (λ k. (t : ℕ) (a : Avail) → IsIn k.need t → (HasEnded s.plan s.tale t → ⊥) → slice_get k.avail t ≡ Some a → WasThere o s t a)
   pub answered : s.fault ≡ None → (t : ℕ) (a : Avail) → slice_get s.begun t ≡ Some (Some a) → (HasEnded s.plan s.tale t → ⊥) → WasThere o s t a × (a ≡ Object)
   pub met : (t : ℕ) → IsSettledIn s.plan s.tale t → (HasEnded s.plan s.tale t → ⊥) → (a : Avail) × WasThere o s t a × (a ≢ Missing)
-  -- each task that was begun was started, or was there as an object when the run began
-  pub tried : (t : ℕ) → IsBegun s t → HasStarted s.tale t ⊎ WasThere o s t Object
-  -- and it is started or restored in the tale; but for one at most, where a fault is kept: that one's restoring met it
+  -- each task that was begun ended or was restored in the tale; but for one at most, where a fault is kept: that one's publishing or restoring met it
   pub halted : ℕ
-  pub told : (t : ℕ) → IsBegun s t → IsTakenUp s.tale t ⊎ ((IsSome s.fault × (t ≡ halted)) ⊎ but t)
+  pub told : (t : ℕ) → IsBegun s t → IsPlaced s.tale t ⊎ ((IsSome s.fault × (t ≡ halted) × MayBeHalted o s t) ⊎ but t)
   -- whatever a crash left was left before the run began, or it is valid, has no stamp that lies, and has the tasks that weren't begun as
   -- they were
   pub images : (t : ℕ) (image : Store) → t ≤ moment o.story → IsImageSince s.story t image → IsImageSince o.story t image ⊎ IsLeft o s (lines ++ last) image

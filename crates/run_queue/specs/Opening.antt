@@ -4,19 +4,18 @@ use Rattle.std.specs.List.{AllByRecursion}
 use Rattle.outside_traits.specs.Passes.{EachNow}
 use Rattle.meta_model.specs.declared.plan.Plan.{Plan}
 use Rattle.store_model.specs.Readable.{IsReadable}
-use Rattle.store_model.specs.Reuse.{MayReuse}
 use Rattle.store_model.specs.Valid.{IsValid}
 use Rattle.plan_model.specs.Sound.{IsSound}
 use Rattle.plan_model.specs.Spellings.{HasSpellings}
-use Rattle.run_model.specs.Opening.{Opening, HasFolders}
+use Rattle.run_model.specs.Opening.{HasFolders, MayTake, Opening}
 
--- The premises of a run over an opening: what was held is valid with the book, durable, and has folders where they are wanted; the plan
--- may reuse the book, so it is blind, no contents clash, and no line has the name of one of its tasks and another signature; the
+-- The premises of a run over an opening: what was held is valid with the book, durable, and has folders where they are wanted; where no line
+-- has the name of one of the plan's tasks and another signature, the plan may reuse the book, so it is blind, and no contents clash; the
 -- book's lines can be read again; and a program can hold the signatures of the plan's tasks.
 pub record MayRun (o : Opening) (plan : Plan) : Type 0 where
   pub sound : IsSound plan
   pub valid : IsValid o.gives o.reading o.story.held o.book
-  pub may : MayReuse o.gives o.reading o.story.held o.book plan.tasks
+  pub may : MayTake o.gives o.reading o.story.held o.book plan.tasks
   pub durable : EachNow o.story (λ image. image ≡ o.story.held)
   pub folders : HasFolders o.story.held
   pub readable : AllByRecursion IsReadable o.book

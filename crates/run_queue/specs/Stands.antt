@@ -13,7 +13,7 @@ use Rattle.store_model.specs.Valid.{IsValid}
 use Rattle.store_model.specs.Lines.{HasLine}
 use Rattle.run_model.specs.Opening.{HasFolders, Opening}
 use Rattle.run_model.specs.Books.{book_after}
-use Rattle.run_model.specs.Own.{IsAside, IsOfNone}
+use Rattle.run_model.specs.Own.{IsAside, IsObjectOfNone}
 use Rattle.run_model.specs.Stands.{IsHonest, HasStarted, HasEnded, AllStand}
 use Rattle.run_queue.specs.Seen.{IsBegun, Seen}
 
@@ -24,16 +24,20 @@ pub record IsAsBegun (book : Book) (held image : Store) (of : PlanTask) : Type 0
   pub work : (q : List ℕ) → IsAtOrBelow (work_folder of) q → image q ≡ held q
   pub objects : (line : Line) → HasLine book line → line.sig.pn ≡ of.id.pn → line.sig.task ≡ of.id.task → (q : List ℕ) → IsAtOrBelow (object_folder line.unihash) q → image q ≡ held q
 
+-- the task's publishing was begun
+abbrev pub IsPublishing : Seen → ℕ → Type 0
+IsPublishing s t = IsBegun s t × HasStarted s.tale t
+
 -- What holds of each store that a crash left since the run began: it is valid with the book and the first of the lines that were
 -- recorded; no stamp of a task of the plan lies; of a task that wasn't begun nothing changed, nor at a path that is no own one of tasks that
--- were begun, nor in the object of a line of which no task was started; and folders stand where they did.
+-- were begun, nor in the object of a line that none put; and folders stand where they did.
 pub record IsLeft (o : Opening) (s : Seen) (lines : Book) (image : Store) : Type 0 where
   pub count : ℕ
   pub valid : IsValid o.gives o.reading image (o.book ++ take count lines)
   pub honest : (t : ℕ) (task : PlanTask) → slice_get s.plan.tasks t ≡ Some task → IsHonest o.story.held image task
   pub others : (t : ℕ) (task : PlanTask) → slice_get s.plan.tasks t ≡ Some task → (IsBegun s t → ⊥) → IsAsBegun o.book o.story.held image task
-  pub paths : (q : List ℕ) → IsAside s.plan (IsBegun s) (HasStarted s.tale) q → image q ≡ o.story.held q
-  pub objects : (line : Line) → HasLine o.book line → IsOfNone s.plan (HasStarted s.tale) line.sig.pn line.sig.task → (q : List ℕ) → IsAtOrBelow (object_folder line.unihash) q → image q ≡ o.story.held q
+  pub paths : (q : List ℕ) → IsAside s.plan (IsBegun s) (IsPublishing s) q → image q ≡ o.story.held q
+  pub objects : (line : Line) → HasLine o.book line → IsObjectOfNone o.gives s.plan o.book s.tale (IsPublishing s) line → (q : List ℕ) → IsAtOrBelow (object_folder line.unihash) q → image q ≡ o.story.held q
   pub folders : HasFolders image
 
 -- the objects of the lines of a book that are of the task are as when the run began

@@ -6,7 +6,7 @@ use Rattle.tree_model.specs.declared.entry.Entry.TheVariants.{File}
 use Rattle.meta_model.specs.CleanBuild.{Entries}
 use Rattle.run_workers.specs.Nothing.{nothing_given}
 use Rattle.store_model.specs.Hello.{hello_reading}
-use Rattle.store_model.specs.Premises.{HasOneSignature, IsBlind, IsContent, IsTreeOf}
+use Rattle.store_model.specs.Premises.{IsBlind, IsContent, IsTreeOf}
 use Rattle.store_model.specs.Premises as of
 use Rattle.store_model.proofs.Hello.{nothing_stands}
 use Rattle.store_model.proofs.Lasting.{empty_is_valid}
@@ -28,12 +28,12 @@ no_content bytes (inr held) = none-some held.1 held.2
 no_content bytes (inl given) = no_tree given.0 given.1
 
 pub returns-clause-empty : goal.returns-clause-empty
-returns-clause-empty c = begins_first nothing_given hello_reading no_plan (record {
+returns-clause-empty c = begins_first nothing_given hello_reading no_plan (λ none. record {
   valid = (empty_is_valid nothing_given hello_reading).lines;
   sound = tt;
   blind = All-nil (IsBlind nothing_given hello_reading);
   no_clash = λ a b x y e. absurd (no_content a x);
-  no_collision = All-nil (HasOneSignature []);
+  no_collision = none;
 })
 
 pub returns-clause-stray : goal.returns-clause-stray

@@ -84,8 +84,9 @@ returns-in-Err-begin-clause-leaves g c tells told gives all reading book entry =
     let runs : List Runs = map (λ b. (g.B.Bench.place b).runs) c.args.benches.items in
     let now : List Runs = map (λ b. (g.B.Bench.place b).runs) c.unbegun.result.benches.items in
     let tale = c.unbegun.result.tale.items in
+    let ends = memory_ends c.unbegun.result.status (c.unbegun.ensures.status ∙ c.end_wanting-status.ensures.ends) in
     unbegun_leaves gives reading book c.args.plan c.args.options (g.D.Disk.story c.args.disk) (g.D.Disk.story c.in-Ok.store.disk) (g.D.Disk.story c.unbegun.result.disk) tale c.unbegun.result.status runs now (c.requires.fresh tells) entry (c.in-Ok.ensures.images tells)
-    (ap g.D.Disk.story (c.unbegun.ensures.disk ∙ sym (ap (λ p. p.disk) c.in-Err-begin.field-0-is) ∙ c.in-Err-begin.ensures.refused.0)) c.unbegun.ensures.tale (memory_ends c.unbegun.result.status (c.unbegun.ensures.status ∙ c.end_wanting-status.ensures.ends)).0 (memory_ends c.unbegun.result.status (c.unbegun.ensures.status ∙ c.end_wanting-status.ensures.ends)).1 (ap is_unsteady (c.unbegun.ensures.status ∙ c.end_wanting-status.ensures.ends))
+    (ap g.D.Disk.story (c.unbegun.ensures.disk ∙ sym (ap (λ p. p.disk) c.in-Err-begin.field-0-is) ∙ c.in-Err-begin.ensures.refused.0)) c.unbegun.ensures.tale ends.0 ends.1 (ap is_unsteady (c.unbegun.ensures.status ∙ c.end_wanting-status.ensures.ends))
     (seats_same (RanStarted gives c.args.plan tale) runs now (some_mapped (λ b. (g.B.Bench.place b).runs) c.args.benches.items c.requires.bench) (ap (map (λ b. (g.B.Bench.place b).runs)) c.unbegun.ensures.benches) (ran_nothing gives c.args.plan tale c.unbegun.ensures.tale))
 
 pub returns-in-Err-begin-clause-told : goal.returns-in-Err-begin-clause-told
@@ -116,17 +117,21 @@ returns-in-Err-clause-leaves g c tells told gives all reading book entry =
     let runs : List Runs = map (λ b. (g.B.Bench.place b).runs) c.args.benches.items in
     let now : List Runs = map (λ b. (g.B.Bench.place b).runs) c.unbegun-in-Err.result.benches.items in
     let tale = c.unbegun-in-Err.result.tale.items in
+    let sink : Type 0 = Rose (g.W.Sink.faults c.args.sink) (g.W.Sink.faults c.tell_end-status.new.sink) in
+    let by = subst (λ x. EndsBy sink x c.tell_end-status.result) c.status_of_store.ensures c.tell_end-status.ensures.ends in
+    let ends = refused_ends sink c.in-Err.field-0.fault c.tell_end-status.result by c.in-Err.ensures.fault in
     unbegun_leaves gives reading book c.args.plan c.args.options (g.D.Disk.story c.args.disk) (g.D.Disk.story c.in-Err.field-0.disk) (g.D.Disk.story c.unbegun-in-Err.result.disk) tale c.unbegun-in-Err.result.status runs now (c.requires.fresh tells) entry (c.in-Err.ensures.images tells)
-    (ap g.D.Disk.story (c.unbegun-in-Err.ensures.disk ∙ sym (ap (λ p. p.disk) c.in-Err.field-0-is))) c.unbegun-in-Err.ensures.tale (λ (e : c.unbegun-in-Err.result.status ≡ status.Ok). (refused_ends (Rose (g.W.Sink.faults c.args.sink) (g.W.Sink.faults c.tell_end-status.new.sink)) c.in-Err.field-0.fault c.tell_end-status.result (subst (λ x. EndsBy (Rose (g.W.Sink.faults c.args.sink) (g.W.Sink.faults c.tell_end-status.new.sink)) x c.tell_end-status.result) c.status_of_store.ensures c.tell_end-status.ensures.ends) c.in-Err.ensures.fault).0 (sym c.unbegun-in-Err.ensures.status ∙ e)) (λ (e : c.unbegun-in-Err.result.status ≡ status.TaskFailed). (refused_ends (Rose (g.W.Sink.faults c.args.sink) (g.W.Sink.faults c.tell_end-status.new.sink)) c.in-Err.field-0.fault c.tell_end-status.result (subst (λ x. EndsBy (Rose (g.W.Sink.faults c.args.sink) (g.W.Sink.faults c.tell_end-status.new.sink)) x c.tell_end-status.result) c.status_of_store.ensures c.tell_end-status.ensures.ends) c.in-Err.ensures.fault).1 (sym c.unbegun-in-Err.ensures.status ∙ e)) (ap is_unsteady c.unbegun-in-Err.ensures.status
-    ∙ refused_steady (Rose (g.W.Sink.faults c.args.sink) (g.W.Sink.faults c.tell_end-status.new.sink)) c.in-Err.field-0.fault c.tell_end-status.result
-    (subst (λ x. EndsBy (Rose (g.W.Sink.faults c.args.sink) (g.W.Sink.faults c.tell_end-status.new.sink)) x c.tell_end-status.result) c.status_of_store.ensures c.tell_end-status.ensures.ends) c.in-Err.ensures.fault)
+    (ap g.D.Disk.story (c.unbegun-in-Err.ensures.disk ∙ sym (ap (λ p. p.disk) c.in-Err.field-0-is))) c.unbegun-in-Err.ensures.tale (λ (e : c.unbegun-in-Err.result.status ≡ status.Ok). ends.0 (sym c.unbegun-in-Err.ensures.status ∙ e))
+    (λ (e : c.unbegun-in-Err.result.status ≡ status.TaskFailed). ends.1 (sym c.unbegun-in-Err.ensures.status ∙ e)) (ap is_unsteady c.unbegun-in-Err.ensures.status
+    ∙ refused_steady sink c.in-Err.field-0.fault c.tell_end-status.result by c.in-Err.ensures.fault)
     (seats_same (RanStarted gives c.args.plan tale) runs now (some_mapped (λ b. (g.B.Bench.place b).runs) c.args.benches.items c.requires.bench) (ap (map (λ b. (g.B.Bench.place b).runs)) c.unbegun-in-Err.ensures.benches) (ran_nothing gives c.args.plan tale c.unbegun-in-Err.ensures.tale))
 
 pub returns-in-Err-clause-told : goal.returns-in-Err-clause-told
 returns-in-Err-clause-told g c =
     let sink : Type 0 = Rose (g.W.Sink.faults c.args.sink) (g.W.Sink.faults c.tell_end-status.new.sink) in
     let ends = refused_ends sink c.in-Err.field-0.fault c.tell_end-status.result (subst (λ x. EndsBy sink x c.tell_end-status.result) c.status_of_store.ensures c.tell_end-status.ensures.ends) c.in-Err.ensures.fault in
-    record { ok = λ e. absurd (ends.0 (sym c.unbegun-in-Err.ensures.status ∙ e)); failed = λ e. absurd (ends.1 (sym c.unbegun-in-Err.ensures.status ∙ e)); went_on = λ e. absurd (ends.1 (sym c.unbegun-in-Err.ensures.status ∙ e)); unbroken = λ e. (ap bench_broke c.unbegun-in-Err.ensures.tale, ap memory_broke c.unbegun-in-Err.ensures.tale); by_fault = λ e. absurd (false≢true (sym (ap fault_broke c.unbegun-in-Err.ensures.tale) ∙ e)) }
+    let failed = λ (e : c.unbegun-in-Err.result.status ≡ status.TaskFailed). ends.1 (sym c.unbegun-in-Err.ensures.status ∙ e) in
+    record { ok = λ e. absurd (ends.0 (sym c.unbegun-in-Err.ensures.status ∙ e)); failed = λ e. absurd (failed e); went_on = λ e. absurd (failed e); unbroken = λ e. (ap bench_broke c.unbegun-in-Err.ensures.tale, ap memory_broke c.unbegun-in-Err.ensures.tale); by_fault = λ e. absurd (false≢true (sym (ap fault_broke c.unbegun-in-Err.ensures.tale) ∙ e)) }
 
 pub returns-in-Err-clause-broke : goal.returns-in-Err-clause-broke
 returns-in-Err-clause-broke g c =

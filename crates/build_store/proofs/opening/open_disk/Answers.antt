@@ -10,11 +10,13 @@ returns-in_err-remove_all-clause-images g c told =
 
 pub returns-in_err-sync-clause-images : goal.returns-in_err-sync-clause-images
 returns-in_err-sync-clause-images g c told =
-    then_same (clears_run c.in_ok-survey.survey.index c.in_ok-survey.survey.doomed.items c.survey_others.new.doomed.items c.deref.result.now (c.in_ok-survey.ensures.survey told) (c.in_ok-survey.ensures.others told) (c.in_ok-survey_others.ensures.dooms told) (c.in_ok-survey_others.ensures.others told) c.deref.ensures.value (c.in_ok-remove_all.ensures.others told)) (syncs_passes (g.met.D.Disk.sound c.remove_all.new.disk told) (c.in_err-sync.ensures.told told))
+    let cleared = clears_run c.in_ok-survey.survey.index c.in_ok-survey.survey.doomed.items c.survey_others.new.doomed.items c.deref.result.now (c.in_ok-survey.ensures.survey told) (c.in_ok-survey.ensures.others told) (c.in_ok-survey_others.ensures.dooms told) (c.in_ok-survey_others.ensures.others told) c.deref.ensures.value (c.in_ok-remove_all.ensures.others told) in
+    then_same cleared (syncs_passes (g.met.D.Disk.sound c.remove_all.new.disk told) (c.in_err-sync.ensures.told told))
 
 pub returns-clause-images : goal.returns-clause-images
 returns-clause-images g c told =
-    then_same (clears_run c.in_ok-survey.survey.index c.in_ok-survey.survey.doomed.items c.survey_others.new.doomed.items c.deref.result.now (c.in_ok-survey.ensures.survey told) (c.in_ok-survey.ensures.others told) (c.in_ok-survey_others.ensures.dooms told) (c.in_ok-survey_others.ensures.others told) c.deref.ensures.value (c.in_ok-remove_all.ensures.others told)) (syncs_passes (g.met.D.Disk.sound c.remove_all.new.disk told) (c.in_ok-sync.ensures.told told))
+    let cleared = clears_run c.in_ok-survey.survey.index c.in_ok-survey.survey.doomed.items c.survey_others.new.doomed.items c.deref.result.now (c.in_ok-survey.ensures.survey told) (c.in_ok-survey.ensures.others told) (c.in_ok-survey_others.ensures.dooms told) (c.in_ok-survey_others.ensures.others told) c.deref.ensures.value (c.in_ok-remove_all.ensures.others told) in
+    then_same cleared (syncs_passes (g.met.D.Disk.sound c.remove_all.new.disk told) (c.in_ok-sync.ensures.told told))
 
 pub returns-clause-rows : goal.returns-clause-rows
 returns-clause-rows g c = c.in_ok-survey.ensures.rows

@@ -1,6 +1,7 @@
 use Rattle.std.proofs.Common.{◌≡◌, ◌∙◌, refl, sym, ap, subst, Some}
 use Rattle.std.specs.Option.{is_some}
 use Rattle.outside_traits.specs.Store.{Store}
+use Rattle.outside_traits.specs.Story.{Story}
 use Rattle.outside_traits.proofs.Runs.{passes_again, passes_so}
 use Rattle.stamp_store.specs.Stamp.{staged_path}
 use Rattle.build_store.specs.Publication.{IsPublished, SameObjects}
@@ -19,11 +20,14 @@ invalidate-requires-clause-free g c told =
 
 pub stage_all-requires-clause-laid_out : goal.stage_all-requires-clause-laid_out
 stage_all-requires-clause-laid_out g c told =
-    laid_lays c.args.folder.now c.args.object.now (g.D.Disk.story c.invalidate.new.disk).held (g.D.Disk.story c.lay.new.disk).held (c.lay.ensures.others told).held (laid_aside c.args.folder.now _ (g.D.Disk.story c.args.disk.now).held (g.D.Disk.story c.invalidate.new.disk).held c.requires.parts (c.invalidate.ensures.images told).held (c.requires.laid_out told))
+    let aside = laid_aside c.args.folder.now _ (g.D.Disk.story c.args.disk.now).held (g.D.Disk.story c.invalidate.new.disk).held c.requires.parts (c.invalidate.ensures.images told).held (c.requires.laid_out told) in
+    laid_lays c.args.folder.now c.args.object.now (g.D.Disk.story c.invalidate.new.disk).held (g.D.Disk.story c.lay.new.disk).held (c.lay.ensures.others told).held aside
 
 pub settle_record-requires-clause-laid_out : goal.settle_record-requires-clause-laid_out
 settle_record-requires-clause-laid_out g c told =
-    (c.stage_all.ensures.others told).held.laid_out (laid_lays c.args.folder.now c.args.object.now (g.D.Disk.story c.invalidate.new.disk).held (g.D.Disk.story c.lay.new.disk).held (c.lay.ensures.others told).held (laid_aside c.args.folder.now _ (g.D.Disk.story c.args.disk.now).held (g.D.Disk.story c.invalidate.new.disk).held c.requires.parts (c.invalidate.ensures.images told).held (c.requires.laid_out told)))
+    let aside = laid_aside c.args.folder.now _ (g.D.Disk.story c.args.disk.now).held (g.D.Disk.story c.invalidate.new.disk).held c.requires.parts (c.invalidate.ensures.images told).held (c.requires.laid_out told) in
+    let laid = laid_lays c.args.folder.now c.args.object.now (g.D.Disk.story c.invalidate.new.disk).held (g.D.Disk.story c.lay.new.disk).held (c.lay.ensures.others told).held aside in
+    (c.stage_all.ensures.others told).held.laid_out laid
 
 pub stamp-requires-clause-staged : goal.stamp-requires-clause-staged
 stamp-requires-clause-staged g c told =
@@ -33,7 +37,10 @@ stamp-requires-clause-staged g c told =
 
 pub stamp-requires-clause-free : goal.stamp-requires-clause-free
 stamp-requires-clause-free g c told =
-    free_stamp (g.D.Disk.story c.settle_record.new.disk).held c.args.folder.now c.requires.parts ((c.settle_record.ensures.others told).held.stages.laid_out ((c.stage_all.ensures.others told).held.laid_out (laid_lays c.args.folder.now c.args.object.now (g.D.Disk.story c.invalidate.new.disk).held (g.D.Disk.story c.lay.new.disk).held (c.lay.ensures.others told).held (laid_aside c.args.folder.now _ (g.D.Disk.story c.args.disk.now).held (g.D.Disk.story c.invalidate.new.disk).held c.requires.parts (c.invalidate.ensures.images told).held (c.requires.laid_out told)))))
+    let aside = laid_aside c.args.folder.now _ (g.D.Disk.story c.args.disk.now).held (g.D.Disk.story c.invalidate.new.disk).held c.requires.parts (c.invalidate.ensures.images told).held (c.requires.laid_out told) in
+    let laid = laid_lays c.args.folder.now c.args.object.now (g.D.Disk.story c.invalidate.new.disk).held (g.D.Disk.story c.lay.new.disk).held (c.lay.ensures.others told).held aside in
+    let there = (c.settle_record.ensures.others told).held.stages.laid_out ((c.stage_all.ensures.others told).held.laid_out laid) in
+    free_stamp (g.D.Disk.story c.settle_record.new.disk).held c.args.folder.now c.requires.parts there
 
 pub returns-in_err-invalidate-clause-laid_out : goal.returns-in_err-invalidate-clause-laid_out
 returns-in_err-invalidate-clause-laid_out g c told =
@@ -41,19 +48,27 @@ returns-in_err-invalidate-clause-laid_out g c told =
 
 pub returns-in_err-lay-clause-laid_out : goal.returns-in_err-lay-clause-laid_out
 returns-in_err-lay-clause-laid_out g c told =
-    laid_lays c.args.folder.now c.args.object.now (g.D.Disk.story c.invalidate.new.disk).held (g.D.Disk.story c.lay.new.disk).held (c.lay.ensures.others told).held (laid_aside c.args.folder.now _ (g.D.Disk.story c.args.disk.now).held (g.D.Disk.story c.invalidate.new.disk).held c.requires.parts (c.invalidate.ensures.images told).held (c.requires.laid_out told))
+    let aside = laid_aside c.args.folder.now _ (g.D.Disk.story c.args.disk.now).held (g.D.Disk.story c.invalidate.new.disk).held c.requires.parts (c.invalidate.ensures.images told).held (c.requires.laid_out told) in
+    laid_lays c.args.folder.now c.args.object.now (g.D.Disk.story c.invalidate.new.disk).held (g.D.Disk.story c.lay.new.disk).held (c.lay.ensures.others told).held aside
 
 pub returns-in_err-stage_all-clause-laid_out : goal.returns-in_err-stage_all-clause-laid_out
 returns-in_err-stage_all-clause-laid_out g c told =
-    (c.stage_all.ensures.others told).held.laid_out (laid_lays c.args.folder.now c.args.object.now (g.D.Disk.story c.invalidate.new.disk).held (g.D.Disk.story c.lay.new.disk).held (c.lay.ensures.others told).held (laid_aside c.args.folder.now _ (g.D.Disk.story c.args.disk.now).held (g.D.Disk.story c.invalidate.new.disk).held c.requires.parts (c.invalidate.ensures.images told).held (c.requires.laid_out told)))
+    let aside = laid_aside c.args.folder.now _ (g.D.Disk.story c.args.disk.now).held (g.D.Disk.story c.invalidate.new.disk).held c.requires.parts (c.invalidate.ensures.images told).held (c.requires.laid_out told) in
+    let laid = laid_lays c.args.folder.now c.args.object.now (g.D.Disk.story c.invalidate.new.disk).held (g.D.Disk.story c.lay.new.disk).held (c.lay.ensures.others told).held aside in
+    (c.stage_all.ensures.others told).held.laid_out laid
 
 pub returns-in_err-settle_record-clause-laid_out : goal.returns-in_err-settle_record-clause-laid_out
 returns-in_err-settle_record-clause-laid_out g c told =
-    (c.settle_record.ensures.others told).held.stages.laid_out ((c.stage_all.ensures.others told).held.laid_out (laid_lays c.args.folder.now c.args.object.now (g.D.Disk.story c.invalidate.new.disk).held (g.D.Disk.story c.lay.new.disk).held (c.lay.ensures.others told).held (laid_aside c.args.folder.now _ (g.D.Disk.story c.args.disk.now).held (g.D.Disk.story c.invalidate.new.disk).held c.requires.parts (c.invalidate.ensures.images told).held (c.requires.laid_out told))))
+    let aside = laid_aside c.args.folder.now _ (g.D.Disk.story c.args.disk.now).held (g.D.Disk.story c.invalidate.new.disk).held c.requires.parts (c.invalidate.ensures.images told).held (c.requires.laid_out told) in
+    let laid = laid_lays c.args.folder.now c.args.object.now (g.D.Disk.story c.invalidate.new.disk).held (g.D.Disk.story c.lay.new.disk).held (c.lay.ensures.others told).held aside in
+    (c.settle_record.ensures.others told).held.stages.laid_out ((c.stage_all.ensures.others told).held.laid_out laid)
 
 pub returns-clause-laid_out : goal.returns-clause-laid_out
 returns-clause-laid_out g c told =
-    laid_stamped c.args.folder.now _ (g.D.Disk.story c.settle_record.new.disk).held (g.D.Disk.story c.stamp.new.disk).held c.requires.parts (c.stamp.ensures.images told).held ((c.settle_record.ensures.others told).held.stages.laid_out ((c.stage_all.ensures.others told).held.laid_out (laid_lays c.args.folder.now c.args.object.now (g.D.Disk.story c.invalidate.new.disk).held (g.D.Disk.story c.lay.new.disk).held (c.lay.ensures.others told).held (laid_aside c.args.folder.now _ (g.D.Disk.story c.args.disk.now).held (g.D.Disk.story c.invalidate.new.disk).held c.requires.parts (c.invalidate.ensures.images told).held (c.requires.laid_out told)))))
+    let aside = laid_aside c.args.folder.now _ (g.D.Disk.story c.args.disk.now).held (g.D.Disk.story c.invalidate.new.disk).held c.requires.parts (c.invalidate.ensures.images told).held (c.requires.laid_out told) in
+    let laid = laid_lays c.args.folder.now c.args.object.now (g.D.Disk.story c.invalidate.new.disk).held (g.D.Disk.story c.lay.new.disk).held (c.lay.ensures.others told).held aside in
+    let there = (c.settle_record.ensures.others told).held.stages.laid_out ((c.stage_all.ensures.others told).held.laid_out laid) in
+    laid_stamped c.args.folder.now _ (g.D.Disk.story c.settle_record.new.disk).held (g.D.Disk.story c.stamp.new.disk).held c.requires.parts (c.stamp.ensures.images told).held there
 
 pub returns-in_err-invalidate-clause-others : goal.returns-in_err-invalidate-clause-others
 returns-in_err-invalidate-clause-others g c told f is =
@@ -61,32 +76,41 @@ returns-in_err-invalidate-clause-others g c told f is =
 
 pub returns-in_err-lay-clause-others : goal.returns-in_err-lay-clause-others
 returns-in_err-lay-clause-others g c told f is =
-    let quiet_b : Quiets c.args.folder.now c.args.name.now c.args.tree.now c.args.object.now c.args.file.now f (g.D.Disk.story c.args.disk.now) (g.D.Disk.story c.invalidate.new.disk) = record { run = aside_run c.args.folder.now c.args.name.now c.args.tree.now c.args.object.now c.args.file.now f (c.invalidate.ensures.images told); gone = c.in_ok-invalidate.ensures.gone told } in
+    let Quiet : Story → Type 0 = Quiets c.args.folder.now c.args.name.now c.args.tree.now c.args.object.now c.args.file.now f (g.D.Disk.story c.args.disk.now) in
+    let quiet_b : Quiet (g.D.Disk.story c.invalidate.new.disk) = record { run = aside_run c.args.folder.now c.args.name.now c.args.tree.now c.args.object.now c.args.file.now f (c.invalidate.ensures.images told); gone = c.in_ok-invalidate.ensures.gone told } in
     (lays_run c.args.folder.now c.args.name.now c.args.tree.now c.args.object.now c.args.file.now f (g.met.D.Disk.sound c.invalidate.new.disk told) quiet_b (c.lay.ensures.others told)).run
 
 pub returns-in_err-stage_all-clause-others : goal.returns-in_err-stage_all-clause-others
 returns-in_err-stage_all-clause-others g c told f is =
-    let quiet_b : Quiets c.args.folder.now c.args.name.now c.args.tree.now c.args.object.now c.args.file.now f (g.D.Disk.story c.args.disk.now) (g.D.Disk.story c.invalidate.new.disk) = record { run = aside_run c.args.folder.now c.args.name.now c.args.tree.now c.args.object.now c.args.file.now f (c.invalidate.ensures.images told); gone = c.in_ok-invalidate.ensures.gone told } in
-    let quiet_c : Quiets c.args.folder.now c.args.name.now c.args.tree.now c.args.object.now c.args.file.now f (g.D.Disk.story c.args.disk.now) (g.D.Disk.story c.lay.new.disk) = lays_run c.args.folder.now c.args.name.now c.args.tree.now c.args.object.now c.args.file.now f (g.met.D.Disk.sound c.invalidate.new.disk told) quiet_b (c.lay.ensures.others told) in
+    let Quiet : Story → Type 0 = Quiets c.args.folder.now c.args.name.now c.args.tree.now c.args.object.now c.args.file.now f (g.D.Disk.story c.args.disk.now) in
+    let quiet_b : Quiet (g.D.Disk.story c.invalidate.new.disk) = record { run = aside_run c.args.folder.now c.args.name.now c.args.tree.now c.args.object.now c.args.file.now f (c.invalidate.ensures.images told); gone = c.in_ok-invalidate.ensures.gone told } in
+    let quiet_c : Quiet (g.D.Disk.story c.lay.new.disk) = lays_run c.args.folder.now c.args.name.now c.args.tree.now c.args.object.now c.args.file.now f (g.met.D.Disk.sound c.invalidate.new.disk told) quiet_b (c.lay.ensures.others told) in
     (stages_run c.args.folder.now c.args.name.now c.args.tree.now c.args.object.now c.args.file.now f is.new (g.met.D.Disk.sound c.lay.new.disk told) quiet_c (c.stage_all.ensures.others told)).run
 
 pub returns-in_err-settle_record-clause-others : goal.returns-in_err-settle_record-clause-others
 returns-in_err-settle_record-clause-others g c told f is =
-    let quiet_b : Quiets c.args.folder.now c.args.name.now c.args.tree.now c.args.object.now c.args.file.now f (g.D.Disk.story c.args.disk.now) (g.D.Disk.story c.invalidate.new.disk) = record { run = aside_run c.args.folder.now c.args.name.now c.args.tree.now c.args.object.now c.args.file.now f (c.invalidate.ensures.images told); gone = c.in_ok-invalidate.ensures.gone told } in
-    let quiet_c : Quiets c.args.folder.now c.args.name.now c.args.tree.now c.args.object.now c.args.file.now f (g.D.Disk.story c.args.disk.now) (g.D.Disk.story c.lay.new.disk) = lays_run c.args.folder.now c.args.name.now c.args.tree.now c.args.object.now c.args.file.now f (g.met.D.Disk.sound c.invalidate.new.disk told) quiet_b (c.lay.ensures.others told) in
-    let quiet_d : Quiets c.args.folder.now c.args.name.now c.args.tree.now c.args.object.now c.args.file.now f (g.D.Disk.story c.args.disk.now) (g.D.Disk.story c.stage_all.new.disk) = stages_run c.args.folder.now c.args.name.now c.args.tree.now c.args.object.now c.args.file.now f is.new (g.met.D.Disk.sound c.lay.new.disk told) quiet_c (c.stage_all.ensures.others told) in
+    let Quiet : Story → Type 0 = Quiets c.args.folder.now c.args.name.now c.args.tree.now c.args.object.now c.args.file.now f (g.D.Disk.story c.args.disk.now) in
+    let quiet_b : Quiet (g.D.Disk.story c.invalidate.new.disk) = record { run = aside_run c.args.folder.now c.args.name.now c.args.tree.now c.args.object.now c.args.file.now f (c.invalidate.ensures.images told); gone = c.in_ok-invalidate.ensures.gone told } in
+    let quiet_c : Quiet (g.D.Disk.story c.lay.new.disk) = lays_run c.args.folder.now c.args.name.now c.args.tree.now c.args.object.now c.args.file.now f (g.met.D.Disk.sound c.invalidate.new.disk told) quiet_b (c.lay.ensures.others told) in
+    let quiet_d : Quiet (g.D.Disk.story c.stage_all.new.disk) = stages_run c.args.folder.now c.args.name.now c.args.tree.now c.args.object.now c.args.file.now f is.new (g.met.D.Disk.sound c.lay.new.disk told) quiet_c (c.stage_all.ensures.others told) in
     (settles_run c.args.folder.now c.args.name.now c.args.tree.now c.args.object.now c.args.file.now f is.new (g.met.D.Disk.sound c.stage_all.new.disk told) quiet_d (c.settle_record.ensures.others told)).run
 
 pub returns-clause-others : goal.returns-clause-others
 returns-clause-others g c told f is =
-    let quiet_b : Quiets c.args.folder.now c.args.name.now c.args.tree.now c.args.object.now c.args.file.now f (g.D.Disk.story c.args.disk.now) (g.D.Disk.story c.invalidate.new.disk) = record { run = aside_run c.args.folder.now c.args.name.now c.args.tree.now c.args.object.now c.args.file.now f (c.invalidate.ensures.images told); gone = c.in_ok-invalidate.ensures.gone told } in
-    let quiet_c : Quiets c.args.folder.now c.args.name.now c.args.tree.now c.args.object.now c.args.file.now f (g.D.Disk.story c.args.disk.now) (g.D.Disk.story c.lay.new.disk) = lays_run c.args.folder.now c.args.name.now c.args.tree.now c.args.object.now c.args.file.now f (g.met.D.Disk.sound c.invalidate.new.disk told) quiet_b (c.lay.ensures.others told) in
-    let quiet_d : Quiets c.args.folder.now c.args.name.now c.args.tree.now c.args.object.now c.args.file.now f (g.D.Disk.story c.args.disk.now) (g.D.Disk.story c.stage_all.new.disk) = stages_run c.args.folder.now c.args.name.now c.args.tree.now c.args.object.now c.args.file.now f is.new (g.met.D.Disk.sound c.lay.new.disk told) quiet_c (c.stage_all.ensures.others told) in
-    let quiet_e : Quiets c.args.folder.now c.args.name.now c.args.tree.now c.args.object.now c.args.file.now f (g.D.Disk.story c.args.disk.now) (g.D.Disk.story c.settle_record.new.disk) = settles_run c.args.folder.now c.args.name.now c.args.tree.now c.args.object.now c.args.file.now f is.new (g.met.D.Disk.sound c.stage_all.new.disk told) quiet_d (c.settle_record.ensures.others told) in
+    let Quiet : Story → Type 0 = Quiets c.args.folder.now c.args.name.now c.args.tree.now c.args.object.now c.args.file.now f (g.D.Disk.story c.args.disk.now) in
+    let quiet_b : Quiet (g.D.Disk.story c.invalidate.new.disk) = record { run = aside_run c.args.folder.now c.args.name.now c.args.tree.now c.args.object.now c.args.file.now f (c.invalidate.ensures.images told); gone = c.in_ok-invalidate.ensures.gone told } in
+    let quiet_c : Quiet (g.D.Disk.story c.lay.new.disk) = lays_run c.args.folder.now c.args.name.now c.args.tree.now c.args.object.now c.args.file.now f (g.met.D.Disk.sound c.invalidate.new.disk told) quiet_b (c.lay.ensures.others told) in
+    let quiet_d : Quiet (g.D.Disk.story c.stage_all.new.disk) = stages_run c.args.folder.now c.args.name.now c.args.tree.now c.args.object.now c.args.file.now f is.new (g.met.D.Disk.sound c.lay.new.disk told) quiet_c (c.stage_all.ensures.others told) in
+    let quiet_e : Quiet (g.D.Disk.story c.settle_record.new.disk) = settles_run c.args.folder.now c.args.name.now c.args.tree.now c.args.object.now c.args.file.now f is.new (g.met.D.Disk.sound c.stage_all.new.disk told) quiet_d (c.settle_record.ensures.others told) in
+    let staged_file = (c.stage_all.ensures.others told).held in
+    let settled_file = (c.settle_record.ensures.others told).held.stages in
+    let laid_work = ready_stages c.args.folder.now c.args.name.now c.args.tree.now c.args.object.now c.args.file.now f (g.D.Disk.story c.lay.new.disk).held (g.D.Disk.story c.stage_all.new.disk).held staged_file (c.in_ok-lay.ensures.work told) in
+    let laid_object = object_stages c.args.folder.now c.args.name.now c.args.tree.now c.args.object.now c.args.file.now f (g.D.Disk.story c.lay.new.disk).held (g.D.Disk.story c.stage_all.new.disk).held staged_file (c.in_ok-lay.ensures.shared told) in
     let ready : IsReady c.args.folder.now c.args.name.now c.args.tree.now c.args.object.now c.args.file.now f (g.D.Disk.story c.settle_record.new.disk).held = record {
-      work = ready_stages c.args.folder.now c.args.name.now c.args.tree.now c.args.object.now c.args.file.now f (g.D.Disk.story c.stage_all.new.disk).held (g.D.Disk.story c.settle_record.new.disk).held (c.settle_record.ensures.others told).held.stages (ready_stages c.args.folder.now c.args.name.now c.args.tree.now c.args.object.now c.args.file.now f (g.D.Disk.story c.lay.new.disk).held (g.D.Disk.story c.stage_all.new.disk).held (c.stage_all.ensures.others told).held (c.in_ok-lay.ensures.work told));
-      shared = object_stages c.args.folder.now c.args.name.now c.args.tree.now c.args.object.now c.args.file.now f (g.D.Disk.story c.stage_all.new.disk).held (g.D.Disk.story c.settle_record.new.disk).held (c.settle_record.ensures.others told).held.stages (object_stages c.args.folder.now c.args.name.now c.args.tree.now c.args.object.now c.args.file.now f (g.D.Disk.story c.lay.new.disk).held (g.D.Disk.story c.stage_all.new.disk).held (c.stage_all.ensures.others told).held (c.in_ok-lay.ensures.shared told));
-      stored = stored_last c.args.folder.now c.args.name.now c.args.tree.now c.args.object.now c.args.file.now f _ (g.D.Disk.story c.args.disk.now).held (g.D.Disk.story c.invalidate.new.disk).held (g.D.Disk.story c.lay.new.disk).held (g.D.Disk.story c.stage_all.new.disk).held (g.D.Disk.story c.settle_record.new.disk).held is (c.invalidate.ensures.images told).held (c.lay.ensures.others told).held (c.stage_all.ensures.others told).held (c.settle_record.ensures.others told).held.stages (c.in_ok-settle_record.ensures.stored told);
+      work = ready_stages c.args.folder.now c.args.name.now c.args.tree.now c.args.object.now c.args.file.now f (g.D.Disk.story c.stage_all.new.disk).held (g.D.Disk.story c.settle_record.new.disk).held settled_file laid_work;
+      shared = object_stages c.args.folder.now c.args.name.now c.args.tree.now c.args.object.now c.args.file.now f (g.D.Disk.story c.stage_all.new.disk).held (g.D.Disk.story c.settle_record.new.disk).held settled_file laid_object;
+      stored = stored_last c.args.folder.now c.args.name.now c.args.tree.now c.args.object.now c.args.file.now f _ (g.D.Disk.story c.args.disk.now).held (g.D.Disk.story c.invalidate.new.disk).held (g.D.Disk.story c.lay.new.disk).held (g.D.Disk.story c.stage_all.new.disk).held (g.D.Disk.story c.settle_record.new.disk).held is
+          (c.invalidate.ensures.images told).held (c.lay.ensures.others told).held staged_file settled_file (c.in_ok-settle_record.ensures.stored told);
     } in
     let staged : (g.D.Disk.story c.settle_record.new.disk).held (staged_path c.args.folder.now) ≡ Some (stamp_file c.args.name.now) =
     (c.settle_record.ensures.others told).held.others (staged_path c.args.folder.now) (staged_differ c.args.folder.now c.args.name.now) (λ some. heads_differ (differ 116 114 refl)) ∙ c.in_ok-stage_all.ensures.stamp told in
@@ -94,27 +118,46 @@ returns-clause-others g c told f is =
 
 pub returns-in_err-lay-clause-unwritten : goal.returns-in_err-lay-clause-unwritten
 returns-in_err-lay-clause-unwritten g c told was =
-    passes_again objects_join (passes_so SameObjects (c.invalidate.ensures.images told) (λ i j move. objects_aside c.args.folder.now _ i j move)) (c.lay.ensures.unwritten told (object_aside c.args.folder.now c.args.name.now c.args.tree.now c.args.object.now c.args.file.now _ (g.D.Disk.story c.args.disk.now).held (g.D.Disk.story c.invalidate.new.disk).held (c.invalidate.ensures.images told).held was))
+    let one = passes_so SameObjects (c.invalidate.ensures.images told) (λ i j move. objects_aside c.args.folder.now _ i j move) in
+    let kept = object_aside c.args.folder.now c.args.name.now c.args.tree.now c.args.object.now c.args.file.now _ (g.D.Disk.story c.args.disk.now).held (g.D.Disk.story c.invalidate.new.disk).held (c.invalidate.ensures.images told).held was in
+    passes_again objects_join one (c.lay.ensures.unwritten told kept)
 
 pub returns-in_err-stage_all-clause-unwritten : goal.returns-in_err-stage_all-clause-unwritten
 returns-in_err-stage_all-clause-unwritten g c told was =
-    passes_again objects_join (passes_again objects_join (passes_so SameObjects (c.invalidate.ensures.images told) (λ i j move. objects_aside c.args.folder.now _ i j move)) (c.lay.ensures.unwritten told (object_aside c.args.folder.now c.args.name.now c.args.tree.now c.args.object.now c.args.file.now _ (g.D.Disk.story c.args.disk.now).held (g.D.Disk.story c.invalidate.new.disk).held (c.invalidate.ensures.images told).held was))) (passes_so SameObjects (c.stage_all.ensures.others told) (λ i j s. objects_stages c.args.name.now c.args.file.now i j s))
+    let one = passes_so SameObjects (c.invalidate.ensures.images told) (λ i j move. objects_aside c.args.folder.now _ i j move) in
+    let kept = object_aside c.args.folder.now c.args.name.now c.args.tree.now c.args.object.now c.args.file.now _ (g.D.Disk.story c.args.disk.now).held (g.D.Disk.story c.invalidate.new.disk).held (c.invalidate.ensures.images told).held was in
+    let two = passes_again objects_join one (c.lay.ensures.unwritten told kept) in
+    passes_again objects_join two (passes_so SameObjects (c.stage_all.ensures.others told) (λ i j s. objects_stages c.args.name.now c.args.file.now i j s))
 
 pub returns-in_err-settle_record-clause-unwritten : goal.returns-in_err-settle_record-clause-unwritten
 returns-in_err-settle_record-clause-unwritten g c told was =
-    passes_again objects_join (passes_again objects_join (passes_again objects_join (passes_so SameObjects (c.invalidate.ensures.images told) (λ i j move. objects_aside c.args.folder.now _ i j move)) (c.lay.ensures.unwritten told (object_aside c.args.folder.now c.args.name.now c.args.tree.now c.args.object.now c.args.file.now _ (g.D.Disk.story c.args.disk.now).held (g.D.Disk.story c.invalidate.new.disk).held (c.invalidate.ensures.images told).held was))) (passes_so SameObjects (c.stage_all.ensures.others told) (λ i j s. objects_stages c.args.name.now c.args.file.now i j s))) (passes_so SameObjects (c.settle_record.ensures.others told) (λ i j s. objects_stages c.args.name.now c.args.file.now i j s.stages))
+    let one = passes_so SameObjects (c.invalidate.ensures.images told) (λ i j move. objects_aside c.args.folder.now _ i j move) in
+    let kept = object_aside c.args.folder.now c.args.name.now c.args.tree.now c.args.object.now c.args.file.now _ (g.D.Disk.story c.args.disk.now).held (g.D.Disk.story c.invalidate.new.disk).held (c.invalidate.ensures.images told).held was in
+    let two = passes_again objects_join one (c.lay.ensures.unwritten told kept) in
+    let three = passes_again objects_join two (passes_so SameObjects (c.stage_all.ensures.others told) (λ i j s. objects_stages c.args.name.now c.args.file.now i j s)) in
+    passes_again objects_join three (passes_so SameObjects (c.settle_record.ensures.others told) (λ i j s. objects_stages c.args.name.now c.args.file.now i j s.stages))
 
 pub returns-clause-unwritten : goal.returns-clause-unwritten
 returns-clause-unwritten g c told was =
-    passes_again objects_join (passes_again objects_join (passes_again objects_join (passes_again objects_join (passes_so SameObjects (c.invalidate.ensures.images told) (λ i j move. objects_aside c.args.folder.now _ i j move)) (c.lay.ensures.unwritten told (object_aside c.args.folder.now c.args.name.now c.args.tree.now c.args.object.now c.args.file.now _ (g.D.Disk.story c.args.disk.now).held (g.D.Disk.story c.invalidate.new.disk).held (c.invalidate.ensures.images told).held was))) (passes_so SameObjects (c.stage_all.ensures.others told) (λ i j s. objects_stages c.args.name.now c.args.file.now i j s))) (passes_so SameObjects (c.settle_record.ensures.others told) (λ i j s. objects_stages c.args.name.now c.args.file.now i j s.stages))) (passes_so SameObjects (c.stamp.ensures.images told) (λ i j move. objects_stamped c.args.folder.now _ i j move))
+    let one = passes_so SameObjects (c.invalidate.ensures.images told) (λ i j move. objects_aside c.args.folder.now _ i j move) in
+    let kept = object_aside c.args.folder.now c.args.name.now c.args.tree.now c.args.object.now c.args.file.now _ (g.D.Disk.story c.args.disk.now).held (g.D.Disk.story c.invalidate.new.disk).held (c.invalidate.ensures.images told).held was in
+    let two = passes_again objects_join one (c.lay.ensures.unwritten told kept) in
+    let three = passes_again objects_join two (passes_so SameObjects (c.stage_all.ensures.others told) (λ i j s. objects_stages c.args.name.now c.args.file.now i j s)) in
+    let four = passes_again objects_join three (passes_so SameObjects (c.settle_record.ensures.others told) (λ i j s. objects_stages c.args.name.now c.args.file.now i j s.stages)) in
+    passes_again objects_join four (passes_so SameObjects (c.stamp.ensures.images told) (λ i j move. objects_stamped c.args.folder.now _ i j move))
 
 pub returns-clause-published : goal.returns-clause-published
 returns-clause-published g c told =
     on_ok_two c.stamp.result _ _ _ (c.stamp.ensures.stamped told) (c.stamp.ensures.synced told) (λ stamped synced f is image img.
+    let staged_file = (c.stage_all.ensures.others told).held in
+    let settled_file = (c.settle_record.ensures.others told).held.stages in
+    let laid_work = ready_stages c.args.folder.now c.args.name.now c.args.tree.now c.args.object.now c.args.file.now f (g.D.Disk.story c.lay.new.disk).held (g.D.Disk.story c.stage_all.new.disk).held staged_file (c.in_ok-lay.ensures.work told) in
+    let laid_object = object_stages c.args.folder.now c.args.name.now c.args.tree.now c.args.object.now c.args.file.now f (g.D.Disk.story c.lay.new.disk).held (g.D.Disk.story c.stage_all.new.disk).held staged_file (c.in_ok-lay.ensures.shared told) in
     let ready : IsReady c.args.folder.now c.args.name.now c.args.tree.now c.args.object.now c.args.file.now f (g.D.Disk.story c.settle_record.new.disk).held = record {
-      work = ready_stages c.args.folder.now c.args.name.now c.args.tree.now c.args.object.now c.args.file.now f (g.D.Disk.story c.stage_all.new.disk).held (g.D.Disk.story c.settle_record.new.disk).held (c.settle_record.ensures.others told).held.stages (ready_stages c.args.folder.now c.args.name.now c.args.tree.now c.args.object.now c.args.file.now f (g.D.Disk.story c.lay.new.disk).held (g.D.Disk.story c.stage_all.new.disk).held (c.stage_all.ensures.others told).held (c.in_ok-lay.ensures.work told));
-      shared = object_stages c.args.folder.now c.args.name.now c.args.tree.now c.args.object.now c.args.file.now f (g.D.Disk.story c.stage_all.new.disk).held (g.D.Disk.story c.settle_record.new.disk).held (c.settle_record.ensures.others told).held.stages (object_stages c.args.folder.now c.args.name.now c.args.tree.now c.args.object.now c.args.file.now f (g.D.Disk.story c.lay.new.disk).held (g.D.Disk.story c.stage_all.new.disk).held (c.stage_all.ensures.others told).held (c.in_ok-lay.ensures.shared told));
-      stored = stored_last c.args.folder.now c.args.name.now c.args.tree.now c.args.object.now c.args.file.now f _ (g.D.Disk.story c.args.disk.now).held (g.D.Disk.story c.invalidate.new.disk).held (g.D.Disk.story c.lay.new.disk).held (g.D.Disk.story c.stage_all.new.disk).held (g.D.Disk.story c.settle_record.new.disk).held is (c.invalidate.ensures.images told).held (c.lay.ensures.others told).held (c.stage_all.ensures.others told).held (c.settle_record.ensures.others told).held.stages (c.in_ok-settle_record.ensures.stored told);
+      work = ready_stages c.args.folder.now c.args.name.now c.args.tree.now c.args.object.now c.args.file.now f (g.D.Disk.story c.stage_all.new.disk).held (g.D.Disk.story c.settle_record.new.disk).held settled_file laid_work;
+      shared = object_stages c.args.folder.now c.args.name.now c.args.tree.now c.args.object.now c.args.file.now f (g.D.Disk.story c.stage_all.new.disk).held (g.D.Disk.story c.settle_record.new.disk).held settled_file laid_object;
+      stored = stored_last c.args.folder.now c.args.name.now c.args.tree.now c.args.object.now c.args.file.now f _ (g.D.Disk.story c.args.disk.now).held (g.D.Disk.story c.invalidate.new.disk).held (g.D.Disk.story c.lay.new.disk).held (g.D.Disk.story c.stage_all.new.disk).held (g.D.Disk.story c.settle_record.new.disk).held is
+          (c.invalidate.ensures.images told).held (c.lay.ensures.others told).held staged_file settled_file (c.in_ok-settle_record.ensures.stored told);
     } in
     let staged : (g.D.Disk.story c.settle_record.new.disk).held (staged_path c.args.folder.now) ≡ Some (stamp_file c.args.name.now) =
     (c.settle_record.ensures.others told).held.others (staged_path c.args.folder.now) (staged_differ c.args.folder.now c.args.name.now) (λ some. heads_differ (differ 116 114 refl)) ∙ c.in_ok-stage_all.ensures.stamp told in
@@ -133,12 +176,21 @@ returns-in_err-lay-clause-round g c told =
 
 pub returns-in_err-stage_all-clause-round : goal.returns-in_err-stage_all-clause-round
 returns-in_err-stage_all-clause-round g c told =
-    leaves_then c.args.folder.now c.args.object.now (leaves_then c.args.folder.now c.args.object.now (leaves_by_aside c.args.folder.now c.args.object.now (c.invalidate.ensures.images told)) (c.lay.ensures.round told)) (leaves_by_stages c.args.folder.now c.args.object.now (c.stage_all.ensures.others told))
+    let one = leaves_by_aside c.args.folder.now c.args.object.now (c.invalidate.ensures.images told) in
+    let two = leaves_then c.args.folder.now c.args.object.now one (c.lay.ensures.round told) in
+    leaves_then c.args.folder.now c.args.object.now two (leaves_by_stages c.args.folder.now c.args.object.now (c.stage_all.ensures.others told))
 
 pub returns-in_err-settle_record-clause-round : goal.returns-in_err-settle_record-clause-round
 returns-in_err-settle_record-clause-round g c told =
-    leaves_then c.args.folder.now c.args.object.now (leaves_then c.args.folder.now c.args.object.now (leaves_then c.args.folder.now c.args.object.now (leaves_by_aside c.args.folder.now c.args.object.now (c.invalidate.ensures.images told)) (c.lay.ensures.round told)) (leaves_by_stages c.args.folder.now c.args.object.now (c.stage_all.ensures.others told))) (leaves_by_settles c.args.folder.now c.args.object.now (c.settle_record.ensures.others told))
+    let one = leaves_by_aside c.args.folder.now c.args.object.now (c.invalidate.ensures.images told) in
+    let two = leaves_then c.args.folder.now c.args.object.now one (c.lay.ensures.round told) in
+    let three = leaves_then c.args.folder.now c.args.object.now two (leaves_by_stages c.args.folder.now c.args.object.now (c.stage_all.ensures.others told)) in
+    leaves_then c.args.folder.now c.args.object.now three (leaves_by_settles c.args.folder.now c.args.object.now (c.settle_record.ensures.others told))
 
 pub returns-clause-round : goal.returns-clause-round
 returns-clause-round g c told =
-    leaves_then c.args.folder.now c.args.object.now (leaves_then c.args.folder.now c.args.object.now (leaves_then c.args.folder.now c.args.object.now (leaves_then c.args.folder.now c.args.object.now (leaves_by_aside c.args.folder.now c.args.object.now (c.invalidate.ensures.images told)) (c.lay.ensures.round told)) (leaves_by_stages c.args.folder.now c.args.object.now (c.stage_all.ensures.others told))) (leaves_by_settles c.args.folder.now c.args.object.now (c.settle_record.ensures.others told))) (leaves_by_stamp c.args.folder.now c.args.object.now (c.stamp.ensures.images told))
+    let one = leaves_by_aside c.args.folder.now c.args.object.now (c.invalidate.ensures.images told) in
+    let two = leaves_then c.args.folder.now c.args.object.now one (c.lay.ensures.round told) in
+    let three = leaves_then c.args.folder.now c.args.object.now two (leaves_by_stages c.args.folder.now c.args.object.now (c.stage_all.ensures.others told)) in
+    let four = leaves_then c.args.folder.now c.args.object.now three (leaves_by_settles c.args.folder.now c.args.object.now (c.settle_record.ensures.others told)) in
+    leaves_then c.args.folder.now c.args.object.now four (leaves_by_stamp c.args.folder.now c.args.object.now (c.stamp.ensures.images told))

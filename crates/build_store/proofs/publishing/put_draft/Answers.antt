@@ -30,17 +30,20 @@ put_task-requires-clause-object g c unihash is =
 pub returns-in_err-put_task-clause-images : goal.returns-in_err-put_task-clause-images
 returns-in_err-put_task-clause-images g c told =
     let obj : c.object_of-object.result ≡ object_for c.args.index.now (signed_by c.args.task.now c.args.sig.now) c.args.tree.now = c.object_of-object.ensures ∙ ap (λ (u : Hash). if c.args.task.now.sstate then Some u else None) c.requires.draft.unihash in
-    draft_run c.args.index.now (signed_by c.args.task.now c.args.sig.now) c.args.tree.now c.args.draft.name c.object_of-object.result c.parts_of-file.result.0 c.args.draft.new c.requires.draft.name obj c.parts_of-file.ensures.file c.requires.draft.new c.requires.draft.spells c.requires.draft.agrees (g.D.Disk.story c.args.disk.now) (g.D.Disk.story c.put_task.new.disk) (g.met.D.Disk.sound c.args.disk.now told) (c.requires.keeps told) (c.put_task.ensures.others told)
+    draft_run c.args.index.now (signed_by c.args.task.now c.args.sig.now) c.args.tree.now c.args.draft.name c.object_of-object.result c.parts_of-file.result.0 c.args.draft.new c.requires.draft.name obj c.parts_of-file.ensures.file c.requires.draft.new
+    c.requires.draft.spells c.requires.draft.agrees (g.D.Disk.story c.args.disk.now) (g.D.Disk.story c.put_task.new.disk) (g.met.D.Disk.sound c.args.disk.now told) (c.requires.keeps told) (c.put_task.ensures.others told)
 
 pub returns-in_err-add_row-clause-images : goal.returns-in_err-add_row-clause-images
 returns-in_err-add_row-clause-images g c told =
     let obj : c.object_of-object.result ≡ object_for c.args.index.now (signed_by c.args.task.now c.args.sig.now) c.args.tree.now = c.object_of-object.ensures ∙ ap (λ (u : Hash). if c.args.task.now.sstate then Some u else None) c.requires.draft.unihash in
-    draft_run c.args.index.now (signed_by c.args.task.now c.args.sig.now) c.args.tree.now c.args.draft.name c.object_of-object.result c.parts_of-file.result.0 c.args.draft.new c.requires.draft.name obj c.parts_of-file.ensures.file c.requires.draft.new c.requires.draft.spells c.requires.draft.agrees (g.D.Disk.story c.args.disk.now) (g.D.Disk.story c.put_task.new.disk) (g.met.D.Disk.sound c.args.disk.now told) (c.requires.keeps told) (c.put_task.ensures.others told)
+    draft_run c.args.index.now (signed_by c.args.task.now c.args.sig.now) c.args.tree.now c.args.draft.name c.object_of-object.result c.parts_of-file.result.0 c.args.draft.new c.requires.draft.name obj c.parts_of-file.ensures.file c.requires.draft.new
+    c.requires.draft.spells c.requires.draft.agrees (g.D.Disk.story c.args.disk.now) (g.D.Disk.story c.put_task.new.disk) (g.met.D.Disk.sound c.args.disk.now told) (c.requires.keeps told) (c.put_task.ensures.others told)
 
 pub returns-clause-images : goal.returns-clause-images
 returns-clause-images g c told =
     let obj : c.object_of-object.result ≡ object_for c.args.index.now (signed_by c.args.task.now c.args.sig.now) c.args.tree.now = c.object_of-object.ensures ∙ ap (λ (u : Hash). if c.args.task.now.sstate then Some u else None) c.requires.draft.unihash in
-    draft_run c.args.index.now (signed_by c.args.task.now c.args.sig.now) c.args.tree.now c.args.draft.name c.object_of-object.result c.parts_of-file.result.0 c.args.draft.new c.requires.draft.name obj c.parts_of-file.ensures.file c.requires.draft.new c.requires.draft.spells c.requires.draft.agrees (g.D.Disk.story c.args.disk.now) (g.D.Disk.story c.put_task.new.disk) (g.met.D.Disk.sound c.args.disk.now told) (c.requires.keeps told) (c.put_task.ensures.others told)
+    draft_run c.args.index.now (signed_by c.args.task.now c.args.sig.now) c.args.tree.now c.args.draft.name c.object_of-object.result c.parts_of-file.result.0 c.args.draft.new c.requires.draft.name obj c.parts_of-file.ensures.file c.requires.draft.new
+    c.requires.draft.spells c.requires.draft.agrees (g.D.Disk.story c.args.disk.now) (g.D.Disk.story c.put_task.new.disk) (g.met.D.Disk.sound c.args.disk.now told) (c.requires.keeps told) (c.put_task.ensures.others told)
 
 pub returns-in_err-put_task-clause-unwritten : goal.returns-in_err-put_task-clause-unwritten
 returns-in_err-put_task-clause-unwritten g c told was =
@@ -60,17 +63,26 @@ returns-clause-unwritten g c told was =
 pub returns-in_err-put_task-clause-keeps : goal.returns-in_err-put_task-clause-keeps
 returns-in_err-put_task-clause-keeps g c told =
     let obj : c.object_of-object.result ≡ object_for c.args.index.now (signed_by c.args.task.now c.args.sig.now) c.args.tree.now = c.object_of-object.ensures ∙ ap (λ (u : Hash). if c.args.task.now.sstate then Some u else None) c.requires.draft.unihash in
-    kept_after c.args.index.now (signed_by c.args.task.now c.args.sig.now) c.args.tree.now c.requires.rows (g.D.Disk.story c.args.disk.now) (g.D.Disk.story c.put_task.new.disk) (c.requires.keeps told) (draft_run c.args.index.now (signed_by c.args.task.now c.args.sig.now) c.args.tree.now c.args.draft.name c.object_of-object.result c.parts_of-file.result.0 c.args.draft.new c.requires.draft.name obj c.parts_of-file.ensures.file c.requires.draft.new c.requires.draft.spells c.requires.draft.agrees (g.D.Disk.story c.args.disk.now) (g.D.Disk.story c.put_task.new.disk) (g.met.D.Disk.sound c.args.disk.now told) (c.requires.keeps told) (c.put_task.ensures.others told)) (c.put_task.ensures.laid_out told)
+    let run =
+    draft_run c.args.index.now (signed_by c.args.task.now c.args.sig.now) c.args.tree.now c.args.draft.name c.object_of-object.result c.parts_of-file.result.0 c.args.draft.new c.requires.draft.name obj c.parts_of-file.ensures.file c.requires.draft.new
+    c.requires.draft.spells c.requires.draft.agrees (g.D.Disk.story c.args.disk.now) (g.D.Disk.story c.put_task.new.disk) (g.met.D.Disk.sound c.args.disk.now told) (c.requires.keeps told) (c.put_task.ensures.others told) in
+    kept_after c.args.index.now (signed_by c.args.task.now c.args.sig.now) c.args.tree.now c.requires.rows (g.D.Disk.story c.args.disk.now) (g.D.Disk.story c.put_task.new.disk) (c.requires.keeps told) run (c.put_task.ensures.laid_out told)
 
 pub returns-in_err-add_row-clause-keeps : goal.returns-in_err-add_row-clause-keeps
 returns-in_err-add_row-clause-keeps g c told =
     let obj : c.object_of-object.result ≡ object_for c.args.index.now (signed_by c.args.task.now c.args.sig.now) c.args.tree.now = c.object_of-object.ensures ∙ ap (λ (u : Hash). if c.args.task.now.sstate then Some u else None) c.requires.draft.unihash in
-    subst (λ rows. IsKept rows (g.D.Disk.story c.put_task.new.disk)) (sym c.in_err-add_row.ensures.err) (kept_after c.args.index.now (signed_by c.args.task.now c.args.sig.now) c.args.tree.now c.requires.rows (g.D.Disk.story c.args.disk.now) (g.D.Disk.story c.put_task.new.disk) (c.requires.keeps told) (draft_run c.args.index.now (signed_by c.args.task.now c.args.sig.now) c.args.tree.now c.args.draft.name c.object_of-object.result c.parts_of-file.result.0 c.args.draft.new c.requires.draft.name obj c.parts_of-file.ensures.file c.requires.draft.new c.requires.draft.spells c.requires.draft.agrees (g.D.Disk.story c.args.disk.now) (g.D.Disk.story c.put_task.new.disk) (g.met.D.Disk.sound c.args.disk.now told) (c.requires.keeps told) (c.put_task.ensures.others told)) (c.put_task.ensures.laid_out told))
+    let run =
+    draft_run c.args.index.now (signed_by c.args.task.now c.args.sig.now) c.args.tree.now c.args.draft.name c.object_of-object.result c.parts_of-file.result.0 c.args.draft.new c.requires.draft.name obj c.parts_of-file.ensures.file c.requires.draft.new
+    c.requires.draft.spells c.requires.draft.agrees (g.D.Disk.story c.args.disk.now) (g.D.Disk.story c.put_task.new.disk) (g.met.D.Disk.sound c.args.disk.now told) (c.requires.keeps told) (c.put_task.ensures.others told) in
+    let kept = kept_after c.args.index.now (signed_by c.args.task.now c.args.sig.now) c.args.tree.now c.requires.rows (g.D.Disk.story c.args.disk.now) (g.D.Disk.story c.put_task.new.disk) (c.requires.keeps told) run (c.put_task.ensures.laid_out told) in
+    subst (λ rows. IsKept rows (g.D.Disk.story c.put_task.new.disk)) (sym c.in_err-add_row.ensures.err) kept
 
 pub returns-clause-published : goal.returns-clause-published
 returns-clause-published g c told =
     let obj : c.object_of-object.result ≡ object_for c.args.index.now (signed_by c.args.task.now c.args.sig.now) c.args.tree.now = c.object_of-object.ensures ∙ ap (λ (u : Hash). if c.args.task.now.sstate then Some u else None) c.requires.draft.unihash in
-    let published : EachNow (g.D.Disk.story c.put_task.new.disk) (IsPublished (publication c.args.index.now (signed_by c.args.task.now c.args.sig.now) c.args.tree.now)) = draft_published c.args.index.now (signed_by c.args.task.now c.args.sig.now) c.args.tree.now c.args.draft.name c.object_of-object.result c.parts_of-file.result.0 c.args.draft.new c.requires.draft.name obj c.parts_of-file.ensures.file c.requires.draft.new c.requires.draft.spells c.requires.draft.agrees (Ok c.in_ok-put_task.field-0) (g.D.Disk.story c.args.disk.now) (g.D.Disk.story c.put_task.new.disk) (g.met.D.Disk.sound c.args.disk.now told) (c.requires.keeps told) (c.in_ok-put_task.ensures.published told) in
+    let published : EachNow (g.D.Disk.story c.put_task.new.disk) (IsPublished (publication c.args.index.now (signed_by c.args.task.now c.args.sig.now) c.args.tree.now)) =
+    draft_published c.args.index.now (signed_by c.args.task.now c.args.sig.now) c.args.tree.now c.args.draft.name c.object_of-object.result c.parts_of-file.result.0 c.args.draft.new
+    c.requires.draft.name obj c.parts_of-file.ensures.file c.requires.draft.new c.requires.draft.spells c.requires.draft.agrees (Ok c.in_ok-put_task.field-0) (g.D.Disk.story c.args.disk.now) (g.D.Disk.story c.put_task.new.disk) (g.met.D.Disk.sound c.args.disk.now told) (c.requires.keeps told) (c.in_ok-put_task.ensures.published told) in
     published
 
 pub returns-clause-sound : goal.returns-clause-sound
@@ -81,9 +93,15 @@ returns-clause-sound g c =
 pub returns-clause-keeps : goal.returns-clause-keeps
 returns-clause-keeps g c told =
     let obj : c.object_of-object.result ≡ object_for c.args.index.now (signed_by c.args.task.now c.args.sig.now) c.args.tree.now = c.object_of-object.ensures ∙ ap (λ (u : Hash). if c.args.task.now.sstate then Some u else None) c.requires.draft.unihash in
-    let published : EachNow (g.D.Disk.story c.put_task.new.disk) (IsPublished (publication c.args.index.now (signed_by c.args.task.now c.args.sig.now) c.args.tree.now)) = draft_published c.args.index.now (signed_by c.args.task.now c.args.sig.now) c.args.tree.now c.args.draft.name c.object_of-object.result c.parts_of-file.result.0 c.args.draft.new c.requires.draft.name obj c.parts_of-file.ensures.file c.requires.draft.new c.requires.draft.spells c.requires.draft.agrees (Ok c.in_ok-put_task.field-0) (g.D.Disk.story c.args.disk.now) (g.D.Disk.story c.put_task.new.disk) (g.met.D.Disk.sound c.args.disk.now told) (c.requires.keeps told) (c.in_ok-put_task.ensures.published told) in
+    let published : EachNow (g.D.Disk.story c.put_task.new.disk) (IsPublished (publication c.args.index.now (signed_by c.args.task.now c.args.sig.now) c.args.tree.now)) =
+    draft_published c.args.index.now (signed_by c.args.task.now c.args.sig.now) c.args.tree.now c.args.draft.name c.object_of-object.result c.parts_of-file.result.0 c.args.draft.new
+    c.requires.draft.name obj c.parts_of-file.ensures.file c.requires.draft.new c.requires.draft.spells c.requires.draft.agrees (Ok c.in_ok-put_task.field-0) (g.D.Disk.story c.args.disk.now) (g.D.Disk.story c.put_task.new.disk) (g.met.D.Disk.sound c.args.disk.now told) (c.requires.keeps told) (c.in_ok-put_task.ensures.published told) in
     let rows : c.add_row.new.index ≡ rows_behind c.args.index.now (row_of_new c.args.draft.new) = c.in_ok-add_row.ensures.ok ∙ ap (rows_behind c.args.index.now) c.parts_of-file.ensures.row in
-    subst (λ r. IsKept r (g.D.Disk.story c.put_task.new.disk)) (sym rows) (keeps_behind c.args.index.now (signed_by c.args.task.now c.args.sig.now) c.args.tree.now c.requires.rows c.requires.spelled c.entries-entries.ensures.tree c.requires.short c.args.draft.new c.requires.draft.new (g.D.Disk.story c.put_task.new.disk) (kept_after c.args.index.now (signed_by c.args.task.now c.args.sig.now) c.args.tree.now c.requires.rows (g.D.Disk.story c.args.disk.now) (g.D.Disk.story c.put_task.new.disk) (c.requires.keeps told) (draft_run c.args.index.now (signed_by c.args.task.now c.args.sig.now) c.args.tree.now c.args.draft.name c.object_of-object.result c.parts_of-file.result.0 c.args.draft.new c.requires.draft.name obj c.parts_of-file.ensures.file c.requires.draft.new c.requires.draft.spells c.requires.draft.agrees (g.D.Disk.story c.args.disk.now) (g.D.Disk.story c.put_task.new.disk) (g.met.D.Disk.sound c.args.disk.now told) (c.requires.keeps told) (c.put_task.ensures.others told)) (c.put_task.ensures.laid_out told)) published)
+    let run =
+    draft_run c.args.index.now (signed_by c.args.task.now c.args.sig.now) c.args.tree.now c.args.draft.name c.object_of-object.result c.parts_of-file.result.0 c.args.draft.new c.requires.draft.name obj c.parts_of-file.ensures.file c.requires.draft.new
+    c.requires.draft.spells c.requires.draft.agrees (g.D.Disk.story c.args.disk.now) (g.D.Disk.story c.put_task.new.disk) (g.met.D.Disk.sound c.args.disk.now told) (c.requires.keeps told) (c.put_task.ensures.others told) in
+    let kept = kept_after c.args.index.now (signed_by c.args.task.now c.args.sig.now) c.args.tree.now c.requires.rows (g.D.Disk.story c.args.disk.now) (g.D.Disk.story c.put_task.new.disk) (c.requires.keeps told) run (c.put_task.ensures.laid_out told) in
+    subst (λ r. IsKept r (g.D.Disk.story c.put_task.new.disk)) (sym rows) (keeps_behind c.args.index.now (signed_by c.args.task.now c.args.sig.now) c.args.tree.now c.requires.rows c.requires.spelled c.entries-entries.ensures.tree c.requires.short c.args.draft.new c.requires.draft.new (g.D.Disk.story c.put_task.new.disk) kept published)
 
 pub returns-in_err-put_task-clause-readable : goal.returns-in_err-put_task-clause-readable
 returns-in_err-put_task-clause-readable g c =

@@ -18,7 +18,8 @@ loop-number-preserved g c = record {
   numbers = numbers_more c.loop-number.outputs.items c.push.new.self.items c.args.numbers.now c.loop-number.number-index 0 c.in-Some.output c.in_ok-push-in-Some.ensures.items c.loop-number.invariant.numbers c.loop-number-test.true;
   each = λ told.
       read_next c.args.plan.now.tasks c.as_slice.result.now (g.D.Disk.story c.args.store.now.disk).held (g.D.Disk.story c.loop-number.store.disk).held c.loop-number.outputs.items c.push.new.self.items (get_or c.args.numbers.now c.loop-number.number-index 0) c.in-Some.output
-      c.index-as_slice-number.result c.in_ok-output.field-0 c.as_slice.ensures (c.requires c.loop-number.number-index 0 c.loop-number-test.true) c.in_ok-push-in-Some.ensures.items (c.loop-number.invariant.same told).held c.in-Some.is (subst (λ (t : PlanTask). IsOutput (work_folder t) (g.D.Disk.story c.loop-number.store.disk).held c.in_ok-output.field-0) c.index-as_slice-number.is (c.in_ok-output.ensures.found told)) (c.loop-number.invariant.each told);
+      c.index-as_slice-number.result c.in_ok-output.field-0 c.as_slice.ensures (c.requires c.loop-number.number-index 0 c.loop-number-test.true) c.in_ok-push-in-Some.ensures.items (c.loop-number.invariant.same told).held c.in-Some.is
+      (subst (λ (t : PlanTask). IsOutput (work_folder t) (g.D.Disk.story c.loop-number.store.disk).held c.in_ok-output.field-0) c.index-as_slice-number.is (c.in_ok-output.ensures.found told)) (c.loop-number.invariant.each told);
   short =
       let one = subst (λ (f : Option Entries). IfSome f (λ tree. All (λ e. length e.0 ≤ 3072) tree)) c.in-Some.is c.in_ok-output.ensures.short in
       subst AreShort (sym c.in_ok-push-in-Some.ensures.items) (All-push (λ (o : ℕ × Entries). All (λ e. length e.0 ≤ 3072) o.1) c.loop-number.outputs.items (get_or c.args.numbers.now c.loop-number.number-index 0, c.in-Some.output) c.loop-number.invariant.short one);

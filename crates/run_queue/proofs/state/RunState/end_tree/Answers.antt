@@ -26,7 +26,8 @@ use Rattle.run_queue.proofs.OwnSignature.{view_of}
 use Rattle.run_queue.proofs.Resettling.{current_anyway, made_by, settled_put, state_after}
 use Rattle.run_queue.specs.Asking.{earlier_in, kept_or_meant}
 use Rattle.run_queue.proofs.Steady.{agreed, steady_none}
-use Rattle.run_queue.proofs.Turning.{begins_at, broken_seen, ended_seen, fault_seen, none_known, some_current, some_replan, told, told_put}
+use Rattle.run_queue.proofs.Concluding.{HaltsAt}
+use Rattle.run_queue.proofs.Turning.{begins_at, ended_seen, fault_seen, halted_seen, none_known, some_current, some_replan, told, told_put}
 use Rattle.run_queue.proofs.state.RunState.end_tree.Goals as goal
 
 pub publish_in-requires-clause-task : goal.publish_in-requires-clause-task
@@ -82,8 +83,9 @@ returns-in-Err-Memory-clause-run g c tells o run output =
     (λ n. c.in-Err-Memory.ensures.unlooked (none_known i.replan n))
     (λ x is. told g.D.Disk.tells (g.D.Disk.story i.store.disk) (g.D.Disk.story store.disk) (publication i.store.rows x c.args.tree.now) tells (c.in-Err-Memory.ensures.puts x is))
     c.in-Err-Memory.ensures.readable in
-    broken_seen g.D.Disk.story g.W.Sink.written o mid c.note-in-Err-Memory.new.self c.args.task c.args.number cuts.Memory c.note-in-Err-Memory.ensures.notes (c.note-in-Err-Memory.ensures.moment tells) c.note-in-Err-Memory.ensures.fault runs
-    (subst (λ (f : Option RunFault). IsRun o (seen g.D.Disk.story g.W.Sink.written (record old { store = store; begun = begun; fault = f }))) (sym kept) made)
+    halted_seen g.D.Disk.story g.W.Sink.written o mid c.note-in-Err-Memory.new.self c.args.task c.args.number cuts.Memory (λ e. cc) c.note-in-Err-Memory.ensures.notes (c.note-in-Err-Memory.ensures.moment tells) c.note-in-Err-Memory.ensures.fault runs
+    (subst (λ (f : Option RunFault). IsSome f) (sym kept) refl)
+    (subst (λ (f : Option RunFault). HaltsAt o (seen g.D.Disk.story g.W.Sink.written (record old { store = store; begun = begun; fault = f })) c.args.task) (sym kept) made)
 
 pub returns-in-Err-clause-run : goal.returns-in-Err-clause-run
 returns-in-Err-clause-run g c tells o run output =
@@ -109,8 +111,9 @@ returns-in-Err-clause-run g c tells o run output =
     (λ n. c.in-Err.ensures.unlooked (none_known i.replan n))
     (λ x is. told g.D.Disk.tells (g.D.Disk.story i.store.disk) (g.D.Disk.story store.disk) (publication i.store.rows x c.args.tree.now) tells (c.in-Err.ensures.puts x is))
     c.in-Err.ensures.readable in
-    broken_seen g.D.Disk.story g.W.Sink.written o mid c.note-in-Err.new.self c.args.task c.args.number cuts.Fault c.note-in-Err.ensures.notes (c.note-in-Err.ensures.moment tells) c.note-in-Err.ensures.fault runs
-    (subst (λ (f : Option RunFault). IsRun o (seen g.D.Disk.story g.W.Sink.written (record old { store = store; begun = begun; fault = f }))) (sym kept) made)
+    halted_seen g.D.Disk.story g.W.Sink.written o mid c.note-in-Err.new.self c.args.task c.args.number cuts.Fault (λ e. cc) c.note-in-Err.ensures.notes (c.note-in-Err.ensures.moment tells) c.note-in-Err.ensures.fault runs
+    (subst (λ (f : Option RunFault). IsSome f) (sym kept) refl)
+    (subst (λ (f : Option RunFault). HaltsAt o (seen g.D.Disk.story g.W.Sink.written (record old { store = store; begun = begun; fault = f })) c.args.task) (sym kept) made)
 
 pub invariant_of-self : goal.invariant_of-self
 invariant_of-self g c =

@@ -33,7 +33,17 @@ invariant_of-self g c =
       subst (λ (l : List Logged). HasRoom (vec_capacity c.push_reserved.new.self) (length l) (fates_told (length tasks) l)) (sym c.push_reserved.ensures.items) room,
       c.mark.ensures ∙ ap (λ (f : List Fate). fates_by f c.args.event) c.self.invariant.1 ∙ sym (fates_next tasks tale entry) ∙ ap (fates_told (length tasks)) (sym c.push_reserved.ensures.items),
       c.self.invariant.2,
-      subst (λ (l : List Logged). IsState (g.D.Disk.faults c.self.inside.store.disk) (record { plan = c.self.inside.plan; options = c.self.inside.options; store = c.self.inside.store; sink = c.self.inside.sink; sink_failed = c.self.inside.sink_failed; fault = c.self.inside.fault; tale = l; begun = c.self.inside.begun.items; known = Rattle.std.specs.Option.option_map Rattle.run_queue.specs.Seen.known_in c.self.inside.replan })) (sym c.push_reserved.ensures.items)
+      subst (λ (l : List Logged). IsState (g.D.Disk.faults c.self.inside.store.disk) (record {
+        plan = c.self.inside.plan;
+        options = c.self.inside.options;
+        store = c.self.inside.store;
+        sink = c.self.inside.sink;
+        sink_failed = c.self.inside.sink_failed;
+        fault = c.self.inside.fault;
+        tale = l;
+        begun = c.self.inside.begun.items;
+        known = Rattle.std.specs.Option.option_map Rattle.run_queue.specs.Seen.known_in c.self.inside.replan;
+      })) (sym c.push_reserved.ensures.items)
           (noted_state (g.D.Disk.faults c.self.inside.store.disk) _ entry c.self.invariant.3 order (λ none. subst (λ (v : V). v.fault ≡ None → is_fault_break c.args.event ≡ false) (sym c.self.view_is) c.requires.unbroken none)),
     )
 

@@ -32,7 +32,17 @@ invariant_of-self-2 g c =
       subst (λ (l : List Logged). HasRoom (vec_capacity c.push_reserved.new.self) (length l) (fates_told (length tasks) l)) (sym pushed) room,
       c.mark.ensures ∙ ap (λ (f : List Fate). fates_by f c.args.event) c.self.invariant.1 ∙ sym (fates_next tasks tale entry) ∙ ap (fates_told (length tasks)) (sym pushed),
       c.self.invariant.2,
-      subst (λ (l : List Logged). IsState (g.D.Disk.faults c.self.inside.store.disk) (record { plan = c.self.inside.plan; options = c.self.inside.options; store = c.self.inside.store; sink = c.self.inside.sink; sink_failed = c.self.inside.sink_failed; fault = c.self.inside.fault; tale = l; begun = c.self.inside.begun.items; known = Rattle.std.specs.Option.option_map Rattle.run_queue.specs.Seen.known_in c.self.inside.replan })) (sym pushed)
+      subst (λ (l : List Logged). IsState (g.D.Disk.faults c.self.inside.store.disk) (record {
+        plan = c.self.inside.plan;
+        options = c.self.inside.options;
+        store = c.self.inside.store;
+        sink = c.self.inside.sink;
+        sink_failed = c.self.inside.sink_failed;
+        fault = c.self.inside.fault;
+        tale = l;
+        begun = c.self.inside.begun.items;
+        known = Rattle.std.specs.Option.option_map Rattle.run_queue.specs.Seen.known_in c.self.inside.replan;
+      })) (sym pushed)
           (noted_state (g.D.Disk.faults c.self.inside.store.disk) _ entry c.self.invariant.3 order (λ none. waiting_unbroken (fates_told (length tasks) tale) c.args.event order.can rests)),
     )
 
