@@ -1,15 +1,17 @@
 -- What workers did, by the tale that they left.
-use Rattle.std.proofs.Common.{◌≡◌, ◌≢◌, ◌∙◌, sym, ap, subst, refl, ℕ, ◌+◌, ◌<◌, ◌≤◌, zero, suc, arith, Bool, true, false, List, [], ◌∷◌, ◌++◌, All, take, drop, length, append-nil, Some, None, inl, inr}
+use Rattle.std.proofs.Common.{◌≡◌, ◌≢◌, ◌∙◌, sym, ap, subst, refl, ℕ, ◌+◌, ◌<◌, ◌≤◌, zero, suc, arith, Bool, true, false, List, [], ◌∷◌, ◌++◌, All, take, drop, length, append-nil, replicate, Some, None, inl, inr}
 use Rattle.std.specs.Prelude.{◌⊎◌, Option, if◌then◌else◌}
 use Rattle.std.specs.List.{slice_get}
 use Rattle.std.proofs.lemmas.Bool.{false≢true}
 use Rattle.std.proofs.lemmas.Bool.Decides.{eqb_tells}
-use Rattle.std.proofs.lemmas.List.{append_assoc, length-append, take-append-drop}
+use Rattle.std.proofs.lemmas.List.{append_assoc, length-append, take-append-drop, take-append-le, take_all}
 use Rattle.std.proofs.lemmas.Option.{get_or_from_slice_get, none-some, same_Some, slice_get_within}
 use Rattle.run_model.specs.Report.{tale_text}
 use Rattle.meta_model.specs.declared.plan.Plan.{Plan}
 use Rattle.run_queue.specs.declared.fault.RunFault.{RunFault}
 use Rattle.run_queue.specs.Keeps.{IsFront, Prints}
+use Rattle.run_queue.specs.Seen.{Seen}
+use Rattle.run_workers.specs.Ended.{AllEnded}
 use Rattle.outside_traits.specs.Fault.{Rose}
 use Rattle.meta_model.specs.declared.event.Event.{Event}
 use Rattle.meta_model.specs.declared.event.Event.TheVariants as events
@@ -17,6 +19,9 @@ use Rattle.meta_model.specs.declared.event.Logged.{Logged}
 use Rattle.run_model.specs.Runs.{RanScripts, RanThese, Runs, started_in}
 use Rattle.meta_model.specs.CleanBuild.{Gives}
 use Rattle.run_model.specs.Seats.{own, is_bench_break}
+use Rattle.run_model.specs.Seated.{HaveBenches, IsSeated}
+use Rattle.tale_model.specs.declared.fate.Fate.TheVariants as fate
+use Rattle.tale_model.specs.Fates.{fate_at, is_running}
 use Rattle.run_workers.specs.Worked.{Breaks, NoneBroke, RanPrinted, is_break}
 use Rattle.run_model.specs.Benches.{AtWorkers, BreaksBench, BreaksByFault, broken_at, started_by}
 use Rattle.build_resume.specs.Benches.{HasSeats}
@@ -240,3 +245,52 @@ break_seat n mid more tale is alone has seat b = elim (two_places mid more b.pla
   | inl first ↦ let h = (has b.place b.entry first).1 in let o = b.of in omega (arith, h, o)
   | inr later ↦ let z = alone.seats later.0 b.entry later.1 in let o = b.of in omega (arith, z, o)
 ]
+
+-- each entry is of a seat with a bench, where the calling thread went on alone
+pub have_benches : (n : ℕ) (mid more tale : List Logged) → tale ≡ mid ++ more → IsAlone more → HasSeats n mid → HaveBenches (n + 1) tale
+have_benches n mid more tale is alone has place entry at = elim (two_places mid more place entry (ap (λ (l : List Logged). slice_get l place) (sym is) ∙ at)) [
+  | inl first ↦ let h = (has place entry first).1 in omega (arith, h)
+  | inr later ↦ let z = alone.seats later.0 entry later.1 in omega (arith, z)
+]
+
+-- without entries
+pub none_benches : (n : ℕ) (tale : List Logged) → tale ≡ [] → HaveBenches n tale
+none_benches n tale none place entry at = absurd (none-some entry (ap (λ (l : List Logged). slice_get l place) (sym none) ∙ at))
+
+all_wait : (count t : ℕ) → fate_at (replicate count fate.Waiting) t ≡ fate.Waiting
+all_wait zero t = refl
+all_wait (suc count) zero = refl
+all_wait (suc count) (suc t) = all_wait count t
+
+pub none_seated : (plan : Plan) (tale : List Logged) → tale ≡ [] → IsSeated plan tale
+none_seated plan tale none = record {
+  front = [];
+  back = tale;
+  cut = refl;
+  workers = λ place entry at. absurd (none-some entry at);
+  rests = λ t runs. false≢true (sym (ap is_running (all_wait (length plan.tasks) t)) ∙ runs);
+  alone = λ place entry at. absurd (none-some entry (ap (λ (l : List Logged). slice_get l place) (sym none) ∙ at));
+}
+
+-- ---- each of the first benches had a worker, which came to an end
+
+module _ {B : Type 0} (first : Seen) (faulty : List Logged → Type 0) (faults : B → ℕ) (wanting : Bool) (tale : List Logged) (workers : ℕ) where
+  -- no bench
+  pub ended_none : (olds news : List B) → olds ≡ [] → AllEnded first faulty faults wanting tale (take workers olds) (take workers news)
+  ended_none olds news none k old new was is = absurd (none-some old (sym (ap (λ (l : List B). slice_get (take workers l) k) none ∙ ap (λ (l : List B). slice_get l k) (take_none workers)) ∙ was))
+    where
+      take_none : (n : ℕ) → take n [] ≡ []
+      take_none zero = refl
+      take_none (suc n) = refl
+
+  -- each of them
+  pub ended_whole : (olds news : List B) → length olds ≤ workers → length news ≡ length olds → AllEnded first faulty faults wanting tale olds news → AllEnded first faulty faults wanting tale (take workers olds) (take workers news)
+  ended_whole olds news few long all =
+      subst (λ (l : List B). AllEnded first faulty faults wanting tale l (take workers news)) (sym (take_all workers olds few))
+      (subst (λ (l : List B). AllEnded first faulty faults wanting tale olds l) (sym (take_all workers news (omega (arith, few, long)))) all)
+
+  -- and one more, which had none
+  pub ended_pushed : (olds news before now : List B) (x : B) → before ≡ olds ++ x ∷ [] → now ≡ news ++ x ∷ [] → length news ≡ length olds → workers ≤ length olds → AllEnded first faulty faults wanting tale (take workers olds) (take workers news) → AllEnded first faulty faults wanting tale (take workers before) (take workers now)
+  ended_pushed olds news before now x was is long few all =
+      subst (λ (l : List B). AllEnded first faulty faults wanting tale l (take workers now)) (sym (ap (take workers) was ∙ take-append-le workers olds (x ∷ []) few))
+      (subst (λ (l : List B). AllEnded first faulty faults wanting tale (take workers olds) l) (sym (ap (take workers) is ∙ take-append-le workers news (x ∷ []) (omega (arith, few, long)))) all)

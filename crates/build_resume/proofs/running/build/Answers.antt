@@ -1,4 +1,4 @@
-use Rattle.std.proofs.Common.{◌≡◌, ◌∙◌, sym, ap, subst, refl, [], append-nil, List, map}
+use Rattle.std.proofs.Common.{◌≡◌, ◌∙◌, sym, ap, subst, refl, [], append-nil, length, List, map}
 use Rattle.outside_traits.specs.Fault.{Rose}
 use Rattle.meta_model.specs.declared.event.Status.TheVariants as status
 use Rattle.meta_model.specs.declared.plan.Options.{Options}
@@ -13,12 +13,14 @@ use Rattle.build_resume.specs.Build.{WritesReport}
 use Rattle.build_resume.specs.Ends.{EndsBy}
 use Rattle.run_model.specs.Ends.{bench_broke, memory_broke}
 use Rattle.run_model.specs.Outcome.{EndsAs}
+use Rattle.run_model.specs.Seated.{IsSeated}
 use Rattle.build_resume.proofs.Begun.{just_nothing, ran_nothing}
 use Rattle.build_resume.proofs.Benches.{broke_nothing, seats_same, some_mapped}
 use Rattle.build_resume.proofs.Built.{WasOpened, as_begun, built_complete, built_leaves, is_opening, may_run, opening, unbegun_leaves}
 use Rattle.build_resume.proofs.Printing.{grew, said_nothing}
 use Rattle.build_resume.proofs.Reports.{reports_as}
 use Rattle.build_resume.proofs.Statuses.{ended_exactly, memory_ends, nothing_differs, refused_differs, refused_ends, refused_never, refused_steady}
+use Rattle.build_resume.proofs.Working.{none_benches, none_seated}
 use Rattle.build_resume.proofs.running.build.Goals as goal
 
 pub returns-in-Ok-begin-clause-leaves : goal.returns-in-Ok-begin-clause-leaves
@@ -61,6 +63,9 @@ returns-in-Ok-begin-clause-told g c =
     subst (λ (p : Plan). EndsAs p c.args.options c.run_begun.result.tale.items c.run_begun.result.status) begun.plan_is
     (subst (λ (x : Options). EndsAs c.in-Ok-begin.state.plan x c.run_begun.result.tale.items c.run_begun.result.status) begun.options_are c.run_begun.ensures.ends)
 
+pub returns-in-Ok-begin-clause-seated : goal.returns-in-Ok-begin-clause-seated
+returns-in-Ok-begin-clause-seated g c = subst (λ (p : Plan). IsSeated p c.run_begun.result.tale.items) c.in-Ok-begin.ensures.begun.plan_is c.run_begun.ensures.seated
+
 pub returns-in-Ok-begin-clause-text : goal.returns-in-Ok-begin-clause-text
 returns-in-Ok-begin-clause-text g c heard =
     let begun = c.in-Ok-begin.ensures.begun in
@@ -93,6 +98,12 @@ returns-in-Err-begin-clause-told g c =
     let ends = (memory_ends c.unbegun.result.status (c.unbegun.ensures.status ∙ c.end_wanting-status.ensures.ends)) in
     record { ok = λ e. absurd (ends.0 e); failed = λ e. absurd (ends.1 e); went_on = λ e. absurd (ends.1 e); unbroken = λ e. (ap bench_broke c.unbegun.ensures.tale, ap memory_broke c.unbegun.ensures.tale); by_fault = λ e. absurd (false≢true (sym (ap fault_broke c.unbegun.ensures.tale) ∙ e)) }
 
+pub returns-in-Err-begin-clause-seated : goal.returns-in-Err-begin-clause-seated
+returns-in-Err-begin-clause-seated g c = none_seated c.args.plan c.unbegun.result.tale.items c.unbegun.ensures.tale
+
+pub returns-in-Err-begin-clause-benches : goal.returns-in-Err-begin-clause-benches
+returns-in-Err-begin-clause-benches g c = none_benches (length c.args.benches.items) c.unbegun.result.tale.items c.unbegun.ensures.tale
+
 pub returns-in-Err-begin-clause-broke : goal.returns-in-Err-begin-clause-broke
 returns-in-Err-begin-clause-broke g c =
     seats_same (BreaksByFault c.unbegun.result.tale.items) (map g.B.Bench.faults c.args.benches.items) (map g.B.Bench.faults c.unbegun.result.benches.items) (some_mapped g.B.Bench.faults c.args.benches.items c.requires.bench) (ap (map g.B.Bench.faults) c.unbegun.ensures.benches) (broke_nothing c.unbegun.result.tale.items c.unbegun.ensures.tale)
@@ -121,6 +132,12 @@ returns-in-Err-clause-leaves g c tells told gives all reading book entry =
     ∙ refused_steady (Rose (g.W.Sink.faults c.args.sink) (g.W.Sink.faults c.tell_end-status.new.sink)) c.in-Err.field-0.fault c.tell_end-status.result
     (subst (λ x. EndsBy (Rose (g.W.Sink.faults c.args.sink) (g.W.Sink.faults c.tell_end-status.new.sink)) x c.tell_end-status.result) c.status_of_store.ensures c.tell_end-status.ensures.ends) c.in-Err.ensures.fault)
     (seats_same (RanStarted gives c.args.plan tale) runs now (some_mapped (λ b. (g.B.Bench.place b).runs) c.args.benches.items c.requires.bench) (ap (map (λ b. (g.B.Bench.place b).runs)) c.unbegun-in-Err.ensures.benches) (ran_nothing gives c.args.plan tale c.unbegun-in-Err.ensures.tale))
+
+pub returns-in-Err-clause-seated : goal.returns-in-Err-clause-seated
+returns-in-Err-clause-seated g c = none_seated c.args.plan c.unbegun-in-Err.result.tale.items c.unbegun-in-Err.ensures.tale
+
+pub returns-in-Err-clause-benches : goal.returns-in-Err-clause-benches
+returns-in-Err-clause-benches g c = none_benches (length c.args.benches.items) c.unbegun-in-Err.result.tale.items c.unbegun-in-Err.ensures.tale
 
 pub returns-in-Err-clause-told : goal.returns-in-Err-clause-told
 returns-in-Err-clause-told g c =
