@@ -12,6 +12,7 @@ use Rattle.tale_model.specs.declared.fate.Fate.TheVariants as fate
 use Rattle.tale_model.specs.Fates.{HoldsFailure, fate_by, is_running, task_of}
 use Rattle.run_queue.specs.Seen.{RunView}
 use Rattle.run_model.specs.Outcome.{IsAtEnd}
+use Rattle.run_model.specs.Ends.{bench_broke}
 use Rattle.run_queue.specs.Turns.{Marks, fates_of}
 use Rattle.run_queue.specs.declared.fault.RunFault.{RunFault}
 use Rattle.run_workers.specs.declared.worker.Halt.{Halt}
@@ -125,9 +126,9 @@ fault_once (Some f) = 0
 abbrev pub left_over : {D W : Type 0} → RunView D W → ℕ
 left_over s = 2 * waiting_count (fates_of s) + fault_once s.fault
 
--- why a run halted
+-- Why a run halted. Where its bench failed, a task broke off by that.
 abbrev pub IsHalted : {D W : Type 0} → RunView D W → Halt → Type 0
 IsHalted new halts.Finished = IsAtEnd new.plan new.options new.tale
 IsHalted new halts.Stopped = (HoldsFailure (fates_of new) × (new.options.keep_going ≡ false)) ⊎ IsSome new.fault
 IsHalted new halts.Memory = Unit {0}
-IsHalted new halts.Bench = Unit {0}
+IsHalted new halts.Bench = bench_broke new.tale ≡ true

@@ -19,7 +19,7 @@ use Rattle.build_resume.proofs.Benches.{broke_nothing, seats_same, some_mapped}
 use Rattle.build_resume.proofs.Built.{WasOpened, as_begun, built_complete, built_leaves, is_opening, may_run, opening, unbegun_leaves}
 use Rattle.build_resume.proofs.Printing.{grew, said_nothing}
 use Rattle.build_resume.proofs.Reports.{reports_as}
-use Rattle.build_resume.proofs.Statuses.{ended_exactly, memory_ends, nothing_differs, refused_differs, refused_ends, refused_never, refused_steady}
+use Rattle.build_resume.proofs.Statuses.{ended_exactly, memory_ends, nothing_differs, refused_bench, refused_differs, refused_ends, refused_never, refused_steady}
 use Rattle.build_resume.proofs.Working.{none_benches, none_seated}
 use Rattle.build_resume.proofs.running.build.Goals as goal
 
@@ -96,7 +96,7 @@ returns-in-Err-begin-clause-leaves g c tells told gives all reading book entry =
 pub returns-in-Err-begin-clause-told : goal.returns-in-Err-begin-clause-told
 returns-in-Err-begin-clause-told g c =
     let ends = (memory_ends c.unbegun.result.status (c.unbegun.ensures.status ∙ c.end_wanting-status.ensures.ends)) in
-    record { ok = λ e. absurd (ends.0 e); failed = λ e. absurd (ends.1 e); went_on = λ e. absurd (ends.1 e); unbroken = λ e. (ap bench_broke c.unbegun.ensures.tale, ap memory_broke c.unbegun.ensures.tale); by_fault = λ e. absurd (false≢true (sym (ap fault_broke c.unbegun.ensures.tale) ∙ e)) }
+    record { ok = λ e. absurd (ends.0 e); failed = λ e. absurd (ends.1 e); went_on = λ e. absurd (ends.1 e); unbroken = λ e. (ap bench_broke c.unbegun.ensures.tale, ap memory_broke c.unbegun.ensures.tale); by_fault = λ e. absurd (false≢true (sym (ap fault_broke c.unbegun.ensures.tale) ∙ e)); by_bench = λ e. absurd (false≢true (sym (ap bench_broke c.unbegun.ensures.tale) ∙ e)); by_memory = λ e none. absurd (false≢true (sym (ap memory_broke c.unbegun.ensures.tale) ∙ e)); bench = λ e. absurd (let n : status.OutOfMemory ≡ status.BenchFault = sym (c.unbegun.ensures.status ∙ c.end_wanting-status.ensures.ends) ∙ e in cc) }
 
 pub returns-in-Err-begin-clause-seated : goal.returns-in-Err-begin-clause-seated
 returns-in-Err-begin-clause-seated g c = none_seated c.args.plan c.unbegun.result.tale.items c.unbegun.ensures.tale
@@ -143,7 +143,7 @@ pub returns-in-Err-clause-told : goal.returns-in-Err-clause-told
 returns-in-Err-clause-told g c =
     let sink : Type 0 = Rose (g.W.Sink.faults c.args.sink) (g.W.Sink.faults c.tell_end-status.new.sink) in
     let ends = refused_ends sink c.in-Err.field-0.fault c.tell_end-status.result (subst (λ x. EndsBy sink x c.tell_end-status.result) c.status_of_store.ensures c.tell_end-status.ensures.ends) c.in-Err.ensures.fault in
-    record { ok = λ e. absurd (ends.0 (sym c.unbegun-in-Err.ensures.status ∙ e)); failed = λ e. absurd (ends.1 (sym c.unbegun-in-Err.ensures.status ∙ e)); went_on = λ e. absurd (ends.1 (sym c.unbegun-in-Err.ensures.status ∙ e)); unbroken = λ e. (ap bench_broke c.unbegun-in-Err.ensures.tale, ap memory_broke c.unbegun-in-Err.ensures.tale); by_fault = λ e. absurd (false≢true (sym (ap fault_broke c.unbegun-in-Err.ensures.tale) ∙ e)) }
+    record { ok = λ e. absurd (ends.0 (sym c.unbegun-in-Err.ensures.status ∙ e)); failed = λ e. absurd (ends.1 (sym c.unbegun-in-Err.ensures.status ∙ e)); went_on = λ e. absurd (ends.1 (sym c.unbegun-in-Err.ensures.status ∙ e)); unbroken = λ e. (ap bench_broke c.unbegun-in-Err.ensures.tale, ap memory_broke c.unbegun-in-Err.ensures.tale); by_fault = λ e. absurd (false≢true (sym (ap fault_broke c.unbegun-in-Err.ensures.tale) ∙ e)); by_bench = λ e. absurd (false≢true (sym (ap bench_broke c.unbegun-in-Err.ensures.tale) ∙ e)); by_memory = λ e none. absurd (false≢true (sym (ap memory_broke c.unbegun-in-Err.ensures.tale) ∙ e)); bench = λ e. absurd (refused_bench sink c.in-Err.field-0.fault c.tell_end-status.result (subst (λ x. EndsBy sink x c.tell_end-status.result) c.status_of_store.ensures c.tell_end-status.ensures.ends) (sym c.unbegun-in-Err.ensures.status ∙ e)) }
 
 pub returns-in-Err-clause-broke : goal.returns-in-Err-clause-broke
 returns-in-Err-clause-broke g c =
