@@ -2,6 +2,7 @@
 use Rattle.std.proofs.Common.{append-nil, ◌≡◌, ◌∙◌, sym, ap, subst, refl, ℕ, List, [], Bool, true, false, Some, None, inl, inr}
 use Rattle.std.specs.Prelude.{◌⊎◌, Option, IsSome}
 use Rattle.std.proofs.lemmas.Bool.{false≢true}
+use Rattle.std.proofs.lemmas.List.{append_cancel_left}
 use Rattle.outside_traits.specs.Story.{Story}
 use Rattle.meta_model.specs.declared.event.Logged.{Logged}
 use Rattle.meta_model.specs.declared.event.Status.{Status}
@@ -25,7 +26,8 @@ use Rattle.run_model.specs.Runs.{RanScripts, RanThese, Runs}
 use Rattle.run_workers.specs.Runs.{by_bench}
 use Rattle.run_model.specs.Benches.{broken_at, started_by}
 use Rattle.run_model.specs.Build.{RanJust, RanStarted}
-use Rattle.build_resume.specs.Drive.{Drove, Grows, IsHalted, RanOn, WentOn}
+use Rattle.build_resume.specs.Drive.{Broken, Drove, Grows, IsHalted, RanOn, WentOn}
+use Rattle.run_workers.specs.Worked.{Breaks}
 use Rattle.build_resume.specs.Ends.{EndsBy, halt_by, status_by, status_of}
 use Rattle.run_model.specs.Ends.{bench_broke, is_faultless, is_of_fault, is_plain, memory_broke}
 use Rattle.build_resume.specs.Outcome.{KeptTo}
@@ -283,12 +285,13 @@ just_nothing plan tale none seat runs = record {
 }
 
 -- a tale that went on to the run's end
-pub went_on : (h : Halt) (old new tale : List Logged) (before now : ℕ) → tale ≡ new → Grows (Some h) old new → Counts before now (by_bench (Some h)) → WentOn old tale before now
-went_on h old new tale before now tale_is grows counts = record {
+pub went_on : (h : Halt) (old new tale : List Logged) (before now : ℕ) → tale ≡ new → Grows (Some h) old new → Broken (Unit {0}) old new → Counts before now (by_bench (Some h)) → WentOn old tale before now
+went_on h old new tale before now tale_is grows broken counts = record {
   more = grows.more;
   is = tale_is ∙ grows.is;
   alone = grows.alone;
   breaks = λ b. (subst (Counts before now) (grows.breaks b) counts).rose;
+  left = subst (Breaks (Unit {0}) (Unit {0})) (append_cancel_left old broken.more grows.more (sym broken.is ∙ grows.is)) broken.breaks;
 }
 
 -- what is told of a run by a later state is told of it by its first one

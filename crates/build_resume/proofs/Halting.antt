@@ -2,6 +2,7 @@
 use Rattle.std.proofs.Common.{◌≡◌, ◌∙◌, sym, ap, subst, refl, ℕ, Bool, true, false, List, [], ◌∷◌, ◌<◌, Some, None, Ok}
 use Rattle.std.specs.Prelude.{IfSome, IsSome, MatchOption, Option, Result, ◌||◌}
 use Rattle.std.specs.List.{list_any}
+use Rattle.std.proofs.lemmas.Bool.{false≢true}
 use Rattle.std.proofs.lemmas.List.Folds.{list_any-append}
 use Rattle.outside_traits.specs.Story.{Story}
 use Rattle.meta_model.specs.declared.event.Cut.TheVariants as cut
@@ -58,3 +59,8 @@ bench_marked seat t old new m =
     last : (b : Bool) → (b || (true || false)) ≡ true
     last true = refl
     last false = refl
+
+-- no fault is kept where one is
+pub unkept : (fault : Option RunFault) → fault ≡ None → IsSome fault → ⊥
+unkept None none some = false≢true some
+unkept (Some f) none some = let n : Some f ≡ None = none in cc

@@ -19,7 +19,8 @@ use Rattle.run_workers.specs.declared.worker.Halt.{Halt}
 use Rattle.run_workers.specs.declared.worker.Halt.TheVariants as halts
 use Rattle.run_workers.specs.Runs.{RanSoFar, ScriptsSoFar, by_bench}
 use Rattle.run_model.specs.Runs.{Runs}
-use Rattle.run_model.specs.Seats.{is_bench_break}
+use Rattle.run_model.specs.Seats.{is_bench_break, is_break}
+use Rattle.run_workers.specs.Worked.{Breaks}
 use Rattle.run_model.specs.Benches.{AtWorkers, BreaksBench, BreaksByFault, broken_at, started_by}
 use Rattle.run_model.specs.Build.{RanJust, RanStarted}
 
@@ -33,6 +34,16 @@ pub record Grows (halt : Option Halt) (old new : List Logged) : Type 0 where
   pub is : new ≡ old ++ more
   pub alone : IsAlone more
   pub breaks : BreaksBench 0 more → by_bench halt ≡ true
+
+-- A tale that went on with entries of which only the last one may say that a task broke off, and only where the run `stops`.
+pub record Broken (stops : Type 0) (old new : List Logged) : Type 0 where
+  pub more : List Logged
+  pub is : new ≡ old ++ more
+  pub breaks : Breaks stops (Unit {0}) more
+
+-- an entry behind a tale says that a task broke off only where the run halts, or a fault is kept
+abbrev pub BreaksBy : Option Halt → Option RunFault → List Logged → List Logged → Type 0
+BreaksBy halt fault old new = (entry : Logged) → new ≡ old ++ entry ∷ [] → is_break entry.event ≡ true → IsSome halt ⊎ IsSome fault
 
 -- What a run did: its tale went on, and the bench ran what was started, but where it halted for maybe the last one, if that broke off.
 pub record Drove (gives : Gives) (plan : Plan) (halt : Option Halt) (old new : List Logged) (before now : Runs) : Type 0 where
@@ -88,6 +99,7 @@ pub record WentOn (old new : List Logged) (before now : ℕ) : Type 0 where
   pub is : new ≡ old ++ more
   pub alone : IsAlone more
   pub breaks : BreaksByFault more 0 before now
+  pub left : Breaks (Unit {0}) (Unit {0}) more
 
 -- the bench ran what seat 0 started behind a tale
 pub record RanOn (gives : Gives) (plan : Plan) (old new : List Logged) (before now : Runs) : Type 0 where

@@ -9,6 +9,7 @@ ghost use Rattle.run_queue.specs.Turns.{SameRun, fates_of};
 ghost use Rattle.run_model.specs.Benches.{AtWorkers, BreaksBench, BreaksByFault, started_by};
 ghost use Rattle.build_resume.specs.Benches.{HasSeats};
 ghost use Rattle.run_model.specs.Build.{RanStarted};
+ghost use Rattle.run_model.specs.Seats.{BreaksLast};
 ghost use Rattle.build_resume.specs.Drive.{SaidByWorkers};
 ghost use Rattle.run_workers.specs.Ended.{AllEnded, WasFaulty};
 
@@ -53,6 +54,7 @@ where
     ensures none { NoneRuns (fates_of result.0) }
     ensures seats { HasSeats (length benches.items) result.0.tale }
     ensures threads { HasSeats workers result.0.tale }
+    ensures left { BreaksLast result.0.tale }
     ensures ended { AllEnded (seen D.story W.written state)
         (WasFaulty D.faults W.faults (seen D.story W.written state) (W.faults state.sink)) B.faults result.2
         result.0.tale (take workers benches.items) (take workers result.1.items) }
@@ -106,6 +108,7 @@ where
     ensures none { NoneRuns (fates_of result.0) }
     ensures seats { started_by 0 result.0.tale ≡ [] }
     ensures wide { HasSeats (length benches.items) result.0.tale }
+    ensures left { BreaksLast result.0.tale }
 
     // No worker has a seat above the number of threads, and each of the first so many benches had a worker, which ended only for a cause.
     ensures threads { HasSeats state.plan.threads result.0.tale }

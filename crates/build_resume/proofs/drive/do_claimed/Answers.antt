@@ -1,3 +1,5 @@
+use Rattle.std.specs.Prelude.{None}
+use Rattle.build_resume.proofs.Driving.{ends_stop}
 use Rattle.build_resume.proofs.Given.{is_given_by}
 use Rattle.build_resume.proofs.Halting.{bench_marked}
 use Rattle.build_resume.proofs.drive.do_claimed.Goals as goal
@@ -30,3 +32,6 @@ returns-in-Err-clause-steady g c tells told o gives run job held =
 
 pub returns-in-Err-Bench-clause-halted : goal.returns-in-Err-Bench-clause-halted
 returns-in-Err-Bench-clause-halted g c = bench_marked 0 c.args.job.task c.args.state.now.tale c.broke-in-Err-Bench.new.self.tale c.broke-in-Err-Bench.ensures.marks
+
+pub returns-in-Ok-ended-clause-stops : goal.returns-in-Ok-ended-clause-stops
+returns-in-Ok-ended-clause-stops g c = ends_stop None 0 c.args.job.task c.in-Ok.given c.args.state.now c.ended.new.self tt c.in-Ok-ended.ensures.ends

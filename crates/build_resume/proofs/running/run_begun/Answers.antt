@@ -19,7 +19,7 @@ use Rattle.build_resume.proofs.Benches.{at_seats, broke_before, broke_behind, br
 use Rattle.build_resume.proofs.Printing.{said_first}
 use Rattle.build_resume.proofs.Reports.{counts_first, prints_first}
 use Rattle.build_resume.proofs.Statuses.{wider_cause}
-use Rattle.build_resume.proofs.Working.{break_seat, have_benches}
+use Rattle.build_resume.proofs.Working.{break_seat, have_benches, left_on}
 use Rattle.build_resume.proofs.running.run_begun.Goals as goal
 
 pub returns-clause-plan : goal.returns-clause-plan
@@ -38,6 +38,7 @@ returns-clause-seated g c =
       workers = c.with_workers-state.ensures.threads;
       rests = subst (λ (p : Plan). NoneRuns (fates_told (length p.tasks) mid.tale)) c.with_workers-state.ensures.same.plan c.with_workers-state.ensures.none;
       alone = went.alone.seats;
+      left = left_on (length c.take_last-last.new.benches.items) mid.tale went.more c.finish-plan.result.tale.items went.is went.alone c.with_workers-state.ensures.wide c.with_workers-state.ensures.left went.left;
     }
 
 pub returns-clause-benches : goal.returns-clause-benches

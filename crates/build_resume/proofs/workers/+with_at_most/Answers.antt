@@ -13,7 +13,7 @@ use Rattle.build_resume.proofs.Reports.{prints_first}
 use Rattle.build_resume.proofs.Working.{broke_by, calm_behind, has_seats, no_seats, ran_behind, said_by_workers, said_pushed, seats_wider, workers_pushed}
 use Rattle.run_queue.specs.Seen.{seen}
 use Rattle.run_workers.specs.Ended.{WasFaulty}
-use Rattle.build_resume.proofs.Working.{ended_none, ended_pushed, ended_whole}
+use Rattle.build_resume.proofs.Working.{ended_none, ended_pushed, ended_whole, left_none, left_workers}
 use Rattle.build_resume.proofs.workers.+with_at_most.Goals as goal
 
 -- ---- there is no bench
@@ -45,7 +45,15 @@ returns-then-is_empty-clause-ended g t c =
     let first = seen g.D.Disk.story g.W.Sink.written c.args.state in
     ended_none first (WasFaulty g.D.Disk.faults g.W.Sink.faults first (g.W.Sink.faults c.args.state.sink)) g.B.Bench.faults false c.args.state.tale c.args.workers c.args.benches.items c.args.benches.items ?
 
+pub returns-then-is_empty-clause-left : goal.returns-then-is_empty-clause-left
+returns-then-is_empty-clause-left g t c = left_none c.args.state.tale c.requires.none
+
 -- ---- each bench has a worker
+
+pub returns-then-len-workers-clause-left : goal.returns-then-len-workers-clause-left
+returns-then-len-workers-clause-left g t c =
+    let now = c.run_workers-state in
+    left_workers g.B.Bench.faults c.args.benches.items now.result.1.items now.result.0.tale now.ensures.benches (has_seats (length c.args.benches.items) now.result.0.tale now.ensures.seats) now.ensures.breaks
 
 pub returns-then-len-workers-clause-ended : goal.returns-then-len-workers-clause-ended
 returns-then-len-workers-clause-ended g t c =
