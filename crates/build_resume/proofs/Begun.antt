@@ -1,5 +1,5 @@
 -- What a run that has begun leaves.
-use Rattle.std.proofs.Common.{append-nil, ◌≡◌, ◌∙◌, sym, ap, subst, refl, ℕ, List, [], Bool, true, false, Some, None, inl, inr}
+use Rattle.std.proofs.Common.{append-nil, ◌≡◌, ◌≢◌, ◌∙◌, sym, ap, subst, refl, ℕ, List, [], Bool, true, false, Some, None, inl, inr}
 use Rattle.std.specs.Prelude.{◌⊎◌, Option, IsSome}
 use Rattle.std.proofs.lemmas.Bool.{false≢true}
 use Rattle.std.proofs.lemmas.List.{append_cancel_left}
@@ -199,6 +199,19 @@ ends_as sink old last h tale s same tale_is halted unbroken by calm told = recor
       | inl failed ↦ absurd (false≢true (sym calm ∙ failure_told (Rattle.std.specs.Prelude.length last.plan.tasks) last.tale failed.0))
       | inr fault ↦ absurd (some_none last.fault none fault)
     ]
+
+-- how a call ended that began no run
+pub unbegun_ends : (plan : Plan) (options : Options) (tale : List Logged) (s : Status) → tale ≡ [] → s ≢ status.Ok → s ≢ status.TaskFailed → s ≢ status.BenchFault → EndsAs plan options tale s
+unbegun_ends plan options tale s none ok failed bench = record {
+  ok = λ e. absurd (ok e);
+  failed = λ e. absurd (failed e);
+  went_on = λ e. absurd (failed e);
+  unbroken = λ e. (ap bench_broke none, ap memory_broke none);
+  by_fault = λ e. absurd (false≢true (sym (ap fault_broke none) ∙ e));
+  by_bench = λ e. absurd (false≢true (sym (ap bench_broke none) ∙ e));
+  by_memory = λ e calm. absurd (false≢true (sym (ap memory_broke none) ∙ e));
+  bench = λ e. absurd (bench e);
+}
 
 -- what broke a task in a tale comes before why the calling thread halted
 halted_by : {D W : Type 0} (last : RunView D W) (h : Halt) (bench memory : Bool) → (bench ≡ true → bench_broke last.tale ≡ true) → IsHalted last h → IsHalted last (halt_by h bench memory)

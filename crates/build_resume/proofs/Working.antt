@@ -311,9 +311,9 @@ pub left_workers : {B : Type 0} (faults : B → ℕ) (olds news : List B) (tale 
 left_workers faults olds news tale long has each zero front back entry is breaks = left_empty (own 0 tale) (own_none 0 tale (λ k e at of. let h = (has k e at).0 in omega (arith, h, of))) front back entry is
 left_workers faults olds news tale long has each (suc k) front back entry is breaks = elim (place olds k) [
   | inl old ↦ elim (place news k) [
-      | inl new ↦ left_of (Unit {0}) (Rose (faults old.0) (faults new.0)) (own (suc k) tale) (subst (λ n. Breaks (Unit {0}) (Rose (faults old.0) (faults new.0)) (own n tale)) (let one : k + 1 ≡ suc k = omega arith in one) (each k old.0 new.0 old.1 new.1)) front back entry is breaks
-      | inr behind ↦ absurd (let within = slice_get_within olds k old.0 old.1 in omega (arith, within, behind, long))
-    ]
+    | inl new ↦ left_of (Unit {0}) (Rose (faults old.0) (faults new.0)) (own (suc k) tale) (subst (λ n. Breaks (Unit {0}) (Rose (faults old.0) (faults new.0)) (own n tale)) (let one : k + 1 ≡ suc k = omega arith in one) (each k old.0 new.0 old.1 new.1)) front back entry is breaks
+    | inr behind ↦ absurd (let within = slice_get_within olds k old.0 old.1 in omega (arith, within, behind, long))
+  ]
   | inr behind ↦ left_empty (own (suc k) tale) (own_none (suc k) tale (λ j e at of. let h = (has j e at).1 in omega (arith, h, of, behind))) front back entry is
 ]
   where

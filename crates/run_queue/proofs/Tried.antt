@@ -12,7 +12,8 @@ use Rattle.meta_model.specs.declared.plan.Options.{Options}
 use Rattle.meta_model.specs.declared.plan.Plan.{Plan}
 use Rattle.run_model.specs.Report.{tale_text}
 use Rattle.tale_model.specs.Choice.{IsFinished}
-use Rattle.run_core.specs.Choice.{MayAnswer}
+use Rattle.run_core.specs.Choice.{CannotGoOn, MayAnswer}
+use Rattle.run_core.specs.declared.next.Next.{Next}
 use Rattle.run_core.specs.declared.next.Next.TheVariants as next
 use Rattle.tale_model.specs.Fates.{HoldsFailure, IsFree, fates_told}
 use Rattle.run_core.specs.Fates.{SomeRuns}

@@ -1,5 +1,5 @@
 // The workers of a run, each on its bench.
-ghost use Rattle.std.specs.Prelude.{◌≡◌, ◌≤◌, ◌<◌, ◌+◌, ◌++◌, ℕ, [], All, List, None, Some, length, take, vec_len, vec_capacity};
+ghost use Rattle.std.specs.Prelude.{◌≡◌, ◌≤◌, ◌<◌, ◌+◌, ◌++◌, ◌||◌, ℕ, [], All, List, None, Some, length, take, vec_len, vec_capacity};
 ghost use Rattle.std.specs.List.{slice_get};
 ghost use Rattle.std.specs.Thread.{IsSync};
 ghost use Rattle.outside_traits.specs.Fault.{Rose};
@@ -27,6 +27,13 @@ use std::alloc::Global;
 use std::marker::Brand;
 use std::sync::Wait;
 use std::thread::{Threads, join};
+
+/// Whether memory was wanting to one of two.
+fn some_wants(one: bool, other: bool) -> bool
+    ensures { result ≡ (one || other) }
+{
+    one || other
+}
 
 /// Each bench has a worker, on a thread of its own but for one of them, with a seat that is split off this one. Then the seat takes the
 /// others in. The seat of the bench of number k, from 0, is k + 1. It says whether memory was wanting to one of them.
@@ -92,7 +99,7 @@ where
     );
     queue.join(&mut seat, other);
     benches.push_reserved(bench);
-    (seat, benches, others_want || wanting)
+    (seat, benches, some_wants(others_want, wanting))
 }
 
 /// The same over a state, where contracts know by K how the run began. Want of memory for the lock leaves all as it is, and is told.
