@@ -187,6 +187,13 @@ def recipe(folder, threads, text):
         out.write(text)
 
 
+def meets(here, name, count):
+    """The lines of a script that waits until so many of its kind are there."""
+    return (f"    : > {here}/{name}\n    i=0\n"
+            f'    while test "$(ls {here} | wc -l)" -lt {count} && test "$i" -lt 200; do\n        sleep 0.05\n        i=$((i + 1))\n    done\n'
+            f'    test "$(ls {here} | wc -l)" -eq {count}\n')
+
+
 def meeting(program, count):
     """As many scripts run at once as there are threads: each waits until all of them are there."""
     with tempfile.TemporaryDirectory() as room:
@@ -197,10 +204,22 @@ def meeting(program, count):
         names = [f"r{n}" for n in range(count)]
         for name in names:
             with open(os.path.join(folder, "recipes", f"{name}.bb"), "w") as out:
-                out.write(f"do_build() {{\n    : > {here}/{name}\n    i=0\n")
-                out.write(f'    while test "$(ls {here} | wc -l)" -lt {count} && test "$i" -lt 200; do\n        sleep 0.05\n        i=$((i + 1))\n    done\n')
-                out.write(f'    test "$(ls {here} | wc -l)" -eq {count}\n}}\naddtask build\n')
+                out.write(f"do_build() {{\n{meets(here, name, count)}}}\naddtask build\n")
         status, text = run(program, folder, *names)
+        return None if status == 0 else f"status {status}; the text is\n{text}"
+
+
+def meeting_behind_one(program, count):
+    """Workers that had to wait while one task ran alone are there for those behind it: these wait until all of them are there."""
+    with tempfile.TemporaryDirectory() as room:
+        folder, here = os.path.join(room, "it"), os.path.join(room, "here")
+        os.makedirs(here)
+        names = [f"t{n}" for n in range(count)]
+        text = "do_alone() {\n    sleep 1\n}\naddtask alone\n"
+        text += "".join(f"do_{name}() {{\n{meets(here, name, count)}}}\naddtask {name} after do_alone\n" for name in names)
+        text += "do_build() {\n    :\n}\naddtask build after " + " ".join(f"do_{name}" for name in names) + "\n"
+        recipe(folder, count, text)
+        status, text = run(program, folder, "it")
         return None if status == 0 else f"status {status}; the text is\n{text}"
 
 
@@ -267,6 +286,7 @@ def main():
             print("skipped tools in C: there is no cc, or no ar")
         for count in (2, 16):
             yield f"{count} workers meet", meeting(program, count)
+        yield "four workers meet behind a task that ran alone", meeting_behind_one(program, 4)
         yield from waiting(program)
         yield from random_projects(program, given.projects, given.seed)
 

@@ -13,6 +13,7 @@ use Rattle.run_model.specs.Written.{WritesFront}
 use Rattle.run_model.specs.Runs.{Runs}
 use Rattle.run_model.specs.Build.{AllClean, MayEndSo, RanPrinted}
 use Rattle.run_model.specs.Outcome.{EndsAs}
+use Rattle.run_model.specs.Seated.{IsSeated}
 use Rattle.answer_model.specs.Answers.{is_refusal}
 use Rattle.answer_model.specs.Plans.{HasPlan, IsPlanRefused}
 use Rattle.answer_model.specs.declared.asked.RunRequest.{RunRequest}
@@ -36,13 +37,15 @@ abbrev pub IsUnrun : Files → List (List ℕ) → RunRequest → Status → Typ
 IsUnrun files paths request s = (s ≡ status.OutOfMemory) ⊎ ((s ≡ status.ReadFault) ⊎ IsPlanRefused files paths request.targets request.task request.force s)
 
 -- A run was begun: it has one plan and one tale. Under Ok the tale leaves nothing to do and no task failed in it; where the status says that
--- a task failed, one did; and under neither a task broke off in it.
+-- a task failed, one did; and under neither a task broke off in it. At most as many tasks ran at once as the plan
+-- has threads.
 pub record IsBegun (options : Options) (plans : List Plan) (tales : List (List Logged)) (s : Status) : Type 0 where
   pub plan : Plan
   pub tale : List Logged
   pub plans_are : plans ≡ plan ∷ []
   pub tales_are : tales ≡ tale ∷ []
   pub ends : EndsAs plan options tale s
+  pub seated : IsSeated plan tale
 
 -- The status of a call fits its tales: no run was begun, and it is a refusal of metadata, a limit, a failure of the layers or want of
 -- memory, or the plan's text failed; or one was begun.

@@ -83,13 +83,13 @@ pub begun_keeps : (gives : Gives) (reading : Reading) (book : Book) (held : Stor
 begun_keeps gives reading book held plan options tales tale s story before now one kept =
     subst (λ (l : List (List Logged)). Keeps gives reading book held plan options l s story before now) (sym one) kept.keeps
 
--- the causes of broken tasks, of the one tale
-pub begun_broke : (tales : List (List Logged)) (tale : List Logged) (before now : List ℕ) → tales ≡ tale ∷ [] → AtSeats (BreaksByFault tale) before now → All (λ x. AtSeats (BreaksByFault x) before now) tales
-begun_broke tales tale before now one broke = subst (All (λ x. AtSeats (BreaksByFault x) before now)) (sym one) (All-cons (λ x. AtSeats (BreaksByFault x) before now) tale [] broke (All-nil _))
+-- what holds of the one tale
+pub begun_each : (P : List Logged → Type 0) (tales : List (List Logged)) (tale : List Logged) → tales ≡ tale ∷ [] → P tale → All P tales
+begun_each P tales tale one holds = subst (All P) (sym one) (All-cons P tale [] holds (All-nil _))
 
--- without a tale there is none
-pub unbegun_broke : (tales : List (List Logged)) (before now : List ℕ) → tales ≡ [] → All (λ x. AtSeats (BreaksByFault x) before now) tales
-unbegun_broke tales before now none = subst (All (λ x. AtSeats (BreaksByFault x) before now)) (sym none) (All-nil _)
+-- without a tale there is none of which it doesn't hold
+pub unbegun_each : (P : List Logged → Type 0) (tales : List (List Logged)) → tales ≡ [] → All P tales
+unbegun_each P tales none = subst (All P) (sym none) (All-nil _)
 
 -- the list of one behind none
 pub one_behind : {A : Type 0} (old new : List A) (x : A) → old ≡ [] → new ≡ old ++ x ∷ [] → new ≡ x ∷ []

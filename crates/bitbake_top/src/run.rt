@@ -12,6 +12,7 @@ ghost use Rattle.plan_model.specs.Sound.{IsSound};
 ghost use Rattle.plan_model.specs.Spellings.{HasSpellings};
 ghost use Rattle.store_model.specs.Origins.{Book, Reading};
 ghost use Rattle.run_model.specs.Benches.{AtSeats, BreaksByFault, SomeRose};
+ghost use Rattle.run_model.specs.Seated.{HaveBenches};
 ghost use Rattle.run_model.specs.Build.{TellsDifference};
 ghost use Rattle.answer_model.specs.Devices.{AreUnchanged, IsUnchanged};
 ghost use Rattle.run_model.specs.Headline.{Keeps, MayBegin};
@@ -104,6 +105,7 @@ where
     ensures same_disk { result.tales.items ≡ [] → result.disk ≡ disk }
     ensures same_benches { result.tales.items ≡ [] → result.benches.items ≡ benches.items }
     ensures differs { All (λ p. TellsDifference D.tells p (D.story result.disk) result.status) result.plans.items }
+    ensures benches { All (HaveBenches (vec_len benches)) result.tales.items }
     ensures broke { All (λ tale. AtSeats (BreaksByFault tale) (map B.faults benches.items)
         (map B.faults result.benches.items)) result.tales.items }
     ensures causes { HasCause (Rose (L.faults layers) (L.faults result.layers)) (D.faults result.disk)

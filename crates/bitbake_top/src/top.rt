@@ -13,6 +13,7 @@ ghost use Rattle.answer_model.specs.Modes.{mode_text};
 ghost use Rattle.outside_traits.specs.Story.{IsFresh};
 ghost use Rattle.store_model.specs.Origins.{Book, Reading};
 ghost use Rattle.run_model.specs.Benches.{AtSeats, BreaksByFault, SomeRose};
+ghost use Rattle.run_model.specs.Seated.{HaveBenches};
 ghost use Rattle.run_model.specs.Build.{TellsDifference};
 ghost use Rattle.answer_model.specs.Devices.{AreUnchanged, IsUnchanged};
 ghost use Rattle.run_model.specs.Headline.{Keeps, MayBegin};
@@ -211,6 +212,11 @@ where
     // leaves; the other signature is that of a task of the plan that is handed back, and so is the task whose output isn't steady.
     ensures differs { (request : Request) → AskRun words.now request
         → All (λ p. TellsDifference D.tells p (D.story result.disk) result.status) result.plans.items }
+
+    // Each entry of a tale is of a seat that has a bench. So of each task that is told as started, and then ended or failed, `keeps` and `printed`
+    // say on which bench it ran; and `concludes` says that at most as many ran at once as the plan has threads.
+    ensures benches { (request : Request) → AskRun words.now request
+        → All (HaveBenches (vec_len benches)) result.tales.items }
 
     // Each fault has its cause, and a task broke off since its bench failed only where the count of its seat's bench rose.
     ensures broke { (request : Request) → AskRun words.now request

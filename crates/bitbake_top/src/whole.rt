@@ -9,6 +9,7 @@ ghost use Rattle.plan_model.specs.Spellings.{HasSpellings};
 ghost use Rattle.store_model.specs.Origins.{Book, Reading};
 ghost use Rattle.run_model.specs.Build.{AllClean, MayEndSo, TellsDifference};
 ghost use Rattle.run_model.specs.Benches.{AtSeats, BreaksByFault, SomeRose};
+ghost use Rattle.run_model.specs.Seated.{HaveBenches};
 ghost use Rattle.answer_model.specs.Devices.{AreUnchanged};
 ghost use Rattle.run_model.specs.Headline.{Keeps, MayBegin};
 ghost use Rattle.answer_model.specs.Run.{Concludes, IsBegun, IsCertain, RanPrintedCall, WritesCall};
@@ -119,6 +120,7 @@ where
         → RanPrintedCall result.plans.items result.tales.items (map (λ b. (B.place b).runs) benches.items)
         (map (λ b. (B.place b).runs) result.benches.items) base (W.written result.sink) }
     ensures differs { All (λ p. TellsDifference D.tells p (D.story result.disk) result.status) result.plans.items }
+    ensures benches { All (HaveBenches (vec_len benches)) result.tales.items }
     ensures broke { All (λ tale. AtSeats (BreaksByFault tale) (map B.faults benches.items)
         (map B.faults result.benches.items)) result.tales.items }
     ensures causes { (before : ℕ) → before ≤ W.faults sink
@@ -197,6 +199,7 @@ where
     ensures same_disk { result.tales.items ≡ [] → result.disk ≡ disk }
     ensures same_benches { result.tales.items ≡ [] → result.benches.items ≡ benches.items }
     ensures differs { All (λ p. TellsDifference D.tells p (D.story result.disk) result.status) result.plans.items }
+    ensures benches { All (HaveBenches (vec_len benches)) result.tales.items }
     ensures broke { All (λ tale. AtSeats (BreaksByFault tale) (map B.faults benches.items)
         (map B.faults result.benches.items)) result.tales.items }
     ensures causes { MayEndSo (D.faults result.disk) (SomeRose (map B.faults benches.items)

@@ -1,7 +1,8 @@
 -- What a run that has begun leaves.
-use Rattle.std.proofs.Common.{append-nil, ◌≡◌, ◌∙◌, sym, ap, subst, refl, ℕ, List, [], Bool, true, false, Some, None, inl, inr}
+use Rattle.std.proofs.Common.{append-nil, ◌≡◌, ◌≢◌, ◌∙◌, sym, ap, subst, refl, ℕ, List, [], Bool, true, false, Some, None, inl, inr}
 use Rattle.std.specs.Prelude.{◌⊎◌, Option, IsSome}
 use Rattle.std.proofs.lemmas.Bool.{false≢true}
+use Rattle.std.proofs.lemmas.List.{append_cancel_left}
 use Rattle.outside_traits.specs.Story.{Story}
 use Rattle.meta_model.specs.declared.event.Logged.{Logged}
 use Rattle.meta_model.specs.declared.event.Status.{Status}
@@ -25,7 +26,8 @@ use Rattle.run_model.specs.Runs.{RanScripts, RanThese, Runs}
 use Rattle.run_workers.specs.Runs.{by_bench}
 use Rattle.run_model.specs.Benches.{broken_at, started_by}
 use Rattle.run_model.specs.Build.{RanJust, RanStarted}
-use Rattle.build_resume.specs.Drive.{Drove, Grows, IsHalted, RanOn, WentOn}
+use Rattle.build_resume.specs.Drive.{Broken, Drove, Grows, IsHalted, RanOn, WentOn}
+use Rattle.run_workers.specs.Worked.{Breaks}
 use Rattle.build_resume.specs.Ends.{EndsBy, halt_by, status_by, status_of}
 use Rattle.run_model.specs.Ends.{bench_broke, is_faultless, is_of_fault, is_plain, memory_broke}
 use Rattle.build_resume.specs.Outcome.{KeptTo}
@@ -129,9 +131,40 @@ of_fault sink (Some kept.Write) h failed s (inl is) some = ap is_of_fault is
 of_fault sink (Some f) h failed s (inr (inl is)) some = ap is_of_fault is
 of_fault sink (Some f) h failed s (inr (inr is)) some = ap is_of_fault is.0
 
+-- a run whose bench failed ends by that, or by a fault that was kept
+bench_of : (sink : Type 0) (f : Option RunFault) (failed : Bool) (s : Status) → EndsSo sink f halt.Bench failed s → (is_of_fault s ≡ true) ⊎ (s ≡ status.BenchFault)
+bench_of sink None failed s (inl is) = inr is
+bench_of sink None failed s (inr (inl is)) = inl (ap is_of_fault is)
+bench_of sink None failed s (inr (inr is)) = inl (ap is_of_fault is.0)
+bench_of sink (Some f) failed s told = inl (of_fault sink (Some f) halt.Bench failed s told (λ none. let n : Some f ≡ None = none in cc))
+
+-- and one to which memory was wanting by a fault
+memory_of : (sink : Type 0) (f : Option RunFault) (failed : Bool) (s : Status) → EndsSo sink f halt.Memory failed s → is_of_fault s ≡ true
+memory_of sink None failed s (inl is) = ap is_of_fault is
+memory_of sink None failed s (inr (inl is)) = ap is_of_fault is
+memory_of sink None failed s (inr (inr is)) = ap is_of_fault is.0
+memory_of sink (Some f) failed s told = of_fault sink (Some f) halt.Memory failed s told (λ none. let n : Some f ≡ None = none in cc)
+
+-- a run ends by a bench that failed only where it halted by that
+halted_bench : (sink : Type 0) (f : Option RunFault) (h : Halt) (failed : Bool) (s : Status) → EndsSo sink f h failed s → s ≡ status.BenchFault → h ≡ halt.Bench
+halted_bench sink (Some f) h failed s told e = absurd (false≢true (sym (ap is_of_fault e) ∙ of_fault sink (Some f) h failed s told (λ none. let n : Some f ≡ None = none in cc)))
+halted_bench sink None h failed s (inr (inl is)) e = absurd (let n : status.OutOfMemory ≡ status.BenchFault = sym is ∙ e in cc)
+halted_bench sink None h failed s (inr (inr is)) e = absurd (let n : status.WriteFault ≡ status.BenchFault = sym is.0 ∙ e in cc)
+halted_bench sink None halt.Finished true s (inl is) e = absurd (let n : status.TaskFailed ≡ status.BenchFault = sym is ∙ e in cc)
+halted_bench sink None halt.Finished false s (inl is) e = absurd (let n : status.Ok ≡ status.BenchFault = sym is ∙ e in cc)
+halted_bench sink None halt.Stopped true s (inl is) e = absurd (let n : status.TaskFailed ≡ status.BenchFault = sym is ∙ e in cc)
+halted_bench sink None halt.Stopped false s (inl is) e = absurd (let n : status.Ok ≡ status.BenchFault = sym is ∙ e in cc)
+halted_bench sink None halt.Memory failed s (inl is) e = absurd (let n : status.OutOfMemory ≡ status.BenchFault = sym is ∙ e in cc)
+halted_bench sink None halt.Bench failed s (inl is) e = refl
+
+-- why a run halted, by what broke a task in its tale
+pub record HaltsFor (h : Halt) (tale : List Logged) : Type 0 where
+  pub bench : bench_broke tale ≡ true → h ≡ halt.Bench
+  pub memory : memory_broke tale ≡ true → bench_broke tale ≡ false → h ≡ halt.Memory
+
 -- how a run ended by its last state
-pub ends_as : {D W : Type 0} (sink : Type 0) (old last : RunView D W) (h : Halt) (tale : List Logged) (s : Status) → SameRun old last → tale ≡ last.tale → IsHalted last h → Unbroken h tale → (last.fault ≡ None → fault_broke last.tale ≡ false) → EndsSo sink last.fault h (has_failure last.tale) s → EndsAs old.plan old.options tale s
-ends_as sink old last h tale s same tale_is halted unbroken calm told = record {
+pub ends_as : {D W : Type 0} (sink : Type 0) (old last : RunView D W) (h : Halt) (tale : List Logged) (s : Status) → SameRun old last → tale ≡ last.tale → IsHalted last h → Unbroken h tale → HaltsFor h tale → (last.fault ≡ None → fault_broke last.tale ≡ false) → EndsSo sink last.fault h (has_failure last.tale) s → EndsAs old.plan old.options tale s
+ends_as sink old last h tale s same tale_is halted unbroken by calm told = record {
   ok = λ e.
       let by = ok_by last.fault h (has_failure last.tale) (told_ok sink last.fault h (has_failure last.tale) s told e) in
       (subst (λ (l : List Logged). IsAtEnd old.plan old.options l) (sym tale_is) (finished by.0 by.1 by.2), ap has_failure tale_is ∙ by.1);
@@ -141,6 +174,9 @@ ends_as sink old last h tale s same tale_is halted unbroken calm told = record {
       subst (λ (l : List Logged). IsAtEnd old.plan old.options l) (sym tale_is) (went_on by.0 by.1 (ap (λ (x : Options). x.keep_going) same.options ∙ going));
   unbroken = λ e. unbroken (plain_by last.fault h (has_failure last.tale) (told_plain sink last.fault h (has_failure last.tale) s told e));
   by_fault = λ e. of_fault sink last.fault h (has_failure last.tale) s told (λ none. false≢true (sym (calm none) ∙ ap fault_broke (sym tale_is) ∙ e));
+  by_bench = λ e. bench_of sink last.fault (has_failure last.tale) s (subst (λ x. EndsSo sink last.fault x (has_failure last.tale) s) (by.bench e) told);
+  by_memory = λ e none. memory_of sink last.fault (has_failure last.tale) s (subst (λ x. EndsSo sink last.fault x (has_failure last.tale) s) (by.memory e none) told);
+  bench = λ e. ap bench_broke tale_is ∙ subst (IsHalted last) (halted_bench sink last.fault h (has_failure last.tale) s told e) halted;
 }
   where
     at_end : IsHalted last halt.Finished → IsAtEnd old.plan old.options last.tale
@@ -164,11 +200,34 @@ ends_as sink old last h tale s same tale_is halted unbroken calm told = record {
       | inr fault ↦ absurd (some_none last.fault none fault)
     ]
 
+-- how a call ended that began no run
+pub unbegun_ends : (plan : Plan) (options : Options) (tale : List Logged) (s : Status) → tale ≡ [] → s ≢ status.Ok → s ≢ status.TaskFailed → s ≢ status.BenchFault → EndsAs plan options tale s
+unbegun_ends plan options tale s none ok failed bench = record {
+  ok = λ e. absurd (ok e);
+  failed = λ e. absurd (failed e);
+  went_on = λ e. absurd (failed e);
+  unbroken = λ e. (ap bench_broke none, ap memory_broke none);
+  by_fault = λ e. absurd (false≢true (sym (ap fault_broke none) ∙ e));
+  by_bench = λ e. absurd (false≢true (sym (ap bench_broke none) ∙ e));
+  by_memory = λ e calm. absurd (false≢true (sym (ap memory_broke none) ∙ e));
+  bench = λ e. absurd (bench e);
+}
+
 -- what broke a task in a tale comes before why the calling thread halted
-halted_by : {D W : Type 0} (last : RunView D W) (h : Halt) (bench memory : Bool) → IsHalted last h → IsHalted last (halt_by h bench memory)
-halted_by last h true memory halted = tt
-halted_by last h false true halted = tt
-halted_by last h false false halted = halted
+halted_by : {D W : Type 0} (last : RunView D W) (h : Halt) (bench memory : Bool) → (bench ≡ true → bench_broke last.tale ≡ true) → IsHalted last h → IsHalted last (halt_by h bench memory)
+halted_by last h true memory broke halted = broke refl
+halted_by last h false true broke halted = tt
+halted_by last h false false broke halted = halted
+
+-- a bench comes first, and then memory
+bench_by : (h : Halt) (bench memory : Bool) → bench ≡ true → halt_by h bench memory ≡ halt.Bench
+bench_by h true memory e = refl
+bench_by h false memory e = absurd (false≢true e)
+
+memory_by : (h : Halt) (bench memory : Bool) → memory ≡ true → bench ≡ false → halt_by h bench memory ≡ halt.Memory
+memory_by h true memory e none = absurd (false≢true (sym none))
+memory_by h false true e none = refl
+memory_by h false false e none = absurd (false≢true e)
 
 -- where a run halted with nothing left, or since nothing may begin, nothing broke a task
 calm_by : (h : Halt) (bench memory : Bool) → (halt_by h bench memory ≡ halt.Finished) ⊎ (halt_by h bench memory ≡ halt.Stopped) → (bench ≡ false) × (memory ≡ false)
@@ -187,7 +246,10 @@ unbroken_by h by read tale is same e =
 -- how a run ended whose halt is read off the tale
 pub ends_by : {D W : Type 0} (sink : Type 0) (old last : RunView D W) (h by : Halt) (read tale : List Logged) (s : Status) → by ≡ halt_by h (bench_broke read) (memory_broke read) → read ≡ tale → SameRun old last → tale ≡ last.tale → IsHalted last h → (last.fault ≡ None → fault_broke last.tale ≡ false) → EndsSo sink last.fault by (has_failure last.tale) s → EndsAs old.plan old.options tale s
 ends_by sink old last h by read tale s is same_tale same tale_is halted calm told =
-    ends_as sink old last by tale s same tale_is (subst (IsHalted last) (sym is) (halted_by last h (bench_broke read) (memory_broke read) halted)) (unbroken_by h by read tale is same_tale) calm told
+    ends_as sink old last by tale s same tale_is (subst (IsHalted last) (sym is) (halted_by last h (bench_broke read) (memory_broke read) (λ e. ap bench_broke (sym tale_is) ∙ ap bench_broke (sym same_tale) ∙ e) halted)) (unbroken_by h by read tale is same_tale) (record {
+      bench = λ e. is ∙ bench_by h (bench_broke read) (memory_broke read) (ap bench_broke same_tale ∙ e);
+      memory = λ e none. is ∙ memory_by h (bench_broke read) (memory_broke read) (ap memory_broke same_tale ∙ e) (ap bench_broke same_tale ∙ none);
+    }) calm told
 
 -- ---- what was kept
 
@@ -236,12 +298,13 @@ just_nothing plan tale none seat runs = record {
 }
 
 -- a tale that went on to the run's end
-pub went_on : (h : Halt) (old new tale : List Logged) (before now : ℕ) → tale ≡ new → Grows (Some h) old new → Counts before now (by_bench (Some h)) → WentOn old tale before now
-went_on h old new tale before now tale_is grows counts = record {
+pub went_on : (h : Halt) (old new tale : List Logged) (before now : ℕ) → tale ≡ new → Grows (Some h) old new → Broken (Unit {0}) old new → Counts before now (by_bench (Some h)) → WentOn old tale before now
+went_on h old new tale before now tale_is grows broken counts = record {
   more = grows.more;
   is = tale_is ∙ grows.is;
   alone = grows.alone;
   breaks = λ b. (subst (Counts before now) (grows.breaks b) counts).rose;
+  left = subst (Breaks (Unit {0}) (Unit {0})) (append_cancel_left old broken.more grows.more (sym broken.is ∙ grows.is)) broken.breaks;
 }
 
 -- what is told of a run by a later state is told of it by its first one

@@ -1,7 +1,8 @@
 -- What a turn adds to the tale of a run, and to what its bench ran.
 use Rattle.std.proofs.Common.{◌≡◌, ◌∙◌, sym, ap, subst, refl, ℕ, List, [], ◌∷◌, ◌++◌, append_assoc, append-nil, Some, None, inl, inr, true, false}
-use Rattle.std.specs.Prelude.{◌⊎◌, Option}
+use Rattle.std.specs.Prelude.{◌⊎◌, Bool, IsSome, Option, Ok}
 use Rattle.std.proofs.lemmas.Bool.{false≢true}
+use Rattle.std.proofs.lemmas.List.{append_cancel_left}
 use Rattle.meta_model.specs.declared.event.Event.{Event}
 use Rattle.meta_model.specs.declared.event.Event.TheVariants as events
 use Rattle.meta_model.specs.declared.event.Logged.{Logged}
@@ -10,14 +11,18 @@ use Rattle.meta_model.specs.CleanBuild.{Entries, Gives}
 use Rattle.tale_model.specs.Fates.{task_of}
 use Rattle.task_worker.specs.declared.given.Job.{Job}
 use Rattle.run_model.specs.Opening.{Opening}
-use Rattle.run_queue.specs.Seen.{Seen}
-use Rattle.run_queue.specs.Turns.{IsCleanJob, Marks}
+use Rattle.meta_model.specs.declared.event.Cut.TheVariants as cut
+use Rattle.task_worker.specs.declared.given.Given.{Given}
+use Rattle.task_worker.specs.declared.given.Given.TheVariants as given
+use Rattle.run_queue.specs.declared.fault.RunFault.{RunFault}
+use Rattle.run_queue.specs.Seen.{RunView, Seen}
+use Rattle.run_queue.specs.Turns.{Ends, IsCleanJob, Marks, closed_as}
 use Rattle.run_workers.specs.Runs.{AllRan, RanSoFar}
 use Rattle.run_model.specs.Runs.{IsRunOf, RanThese, Runs}
-use Rattle.run_model.specs.Seats.{own}
-use Rattle.run_workers.specs.Worked.{BrokeOff}
+use Rattle.run_model.specs.Seats.{is_break, own}
+use Rattle.run_workers.specs.Worked.{Breaks, BrokeOff, NoneBroke}
 use Rattle.run_model.specs.Benches.{broken_at, started_by}
-use Rattle.build_resume.specs.Drive.{Closes, Drove, Grows}
+use Rattle.build_resume.specs.Drive.{BreaksBy, Broken, Closes, Drove, Grows}
 use Rattle.run_workers.specs.declared.worker.Halt.{Halt}
 use Rattle.build_resume.proofs.Seating.{alone_nil, alone_one, alone_then, breaks_nil, breaks_one, breaks_split, broken_behind, broken_marked, started_split}
 use Rattle.build_resume.proofs.Turning.{all_then, these_still, these_then}
@@ -153,3 +158,89 @@ grows_on halt old mid new one other = record {
     | inr later ↦ other.breaks later
   ];
 }
+
+-- ---- a seat is left behind a task of it that broke off
+
+-- where the run stops for more
+breaks_wider : (stops more : Type 0) (tale : List Logged) → (stops → more) → Breaks stops (Unit {0}) tale → Breaks more (Unit {0}) tale
+breaks_wider stops more tale goes b = record { front = b.front; back = b.back; cut = b.cut; before = b.before; last = elim b.last [ inl none ↦ inl none | inr last ↦ inr (last.0, last.1, goes last.2, λ bench. tt) ] }
+
+-- nothing
+pub broken_none : (stops : Type 0) (old new : List Logged) → new ≡ old → Broken stops old new
+broken_none stops old new same = record { more = []; is = same ∙ sym (append-nil old); breaks = record { front = []; back = []; cut = refl; before = tt; last = inl refl } }
+
+-- one event that isn't that a task broke off
+pub broken_one : (stops : Type 0) (event : Event) (old new : List Logged) → Marks 0 event old new → is_break event ≡ false → Broken stops old new
+broken_one stops event old new m calm =
+    let entry : Logged = record { event = event; seat = 0; moment = m.moment } in record {
+      more = entry ∷ [];
+      is = m.is;
+      breaks = record { front = entry ∷ []; back = []; cut = refl; before = (calm, tt); last = inl refl };
+    }
+
+-- a task that was started, and whose job came to an end
+pub broken_job : (halt : Option Halt) (fault : Option RunFault) (t : ℕ) (old mid new : List Logged) → Marks 0 (events.Started t 0) old mid → Closes t halt mid new → BreaksBy halt fault mid new → Broken (IsSome halt ⊎ IsSome fault) old new
+broken_job halt fault t old mid new m c by = record {
+  more = first ∷ last ∷ [];
+  is = c.marks.is ∙ ap (λ (l : List Logged). l ++ last ∷ []) m.is ∙ append_assoc old (first ∷ []) (last ∷ []);
+  breaks = at (is_break c.event) refl;
+}
+  where
+    first : Logged
+    first = record { event = events.Started t 0; seat = 0; moment = m.moment }
+
+    last : Logged
+    last = record { event = c.event; seat = 0; moment = c.marks.moment }
+
+    at : (b : Bool) → is_break c.event ≡ b → Breaks (IsSome halt ⊎ IsSome fault) (Unit {0}) (first ∷ last ∷ [])
+    at true is = record { front = first ∷ []; back = last ∷ []; cut = refl; before = (refl, tt); last = inr (last, refl, by last c.marks.is is, λ bench. tt) }
+    at false is = record { front = first ∷ last ∷ []; back = []; cut = refl; before = (refl, is, tt); last = inl refl }
+
+-- one turn behind others
+pub broken_on : (fault : Option RunFault) (stops : Type 0) (old mid new : List Logged) → Broken (IsSome fault) old mid → Broken stops mid new → (IsSome fault → stops) → (IsSome fault → new ≡ mid) → Broken stops old new
+broken_on fault stops old mid new one other goes rests = elim one.breaks.last [
+  | inl none ↦ record {
+    more = one.more ++ other.more;
+    is = is;
+    breaks = record {
+      front = one.more ++ other.breaks.front;
+      back = other.breaks.back;
+      cut = ap (λ (l : List Logged). one.more ++ l) other.breaks.cut ∙ sym (append_assoc one.more other.breaks.front other.breaks.back);
+      before = both one.more other.breaks.front (subst NoneBroke (sym (one.breaks.cut ∙ ap (λ (l : List Logged). one.breaks.front ++ l) none ∙ append-nil one.breaks.front)) one.breaks.before) other.breaks.before;
+      last = other.breaks.last;
+    };
+  }
+  | inr last ↦ record { more = one.more; is = rests last.2 ∙ one.is; breaks = breaks_wider (IsSome fault) stops one.more goes one.breaks }
+]
+  where
+    is : new ≡ old ++ (one.more ++ other.more)
+    is = other.is ∙ ap (λ (l : List Logged). l ++ other.more) one.is ∙ append_assoc old one.more other.more
+
+    both : (a b : List Logged) → NoneBroke a → NoneBroke b → NoneBroke (a ++ b)
+    both [] b x y = y
+    both (e ∷ a) b x y = (x.0, both a b x.1 y)
+
+-- where it may stop for anything
+pub broken_all : (stops : Type 0) (old new : List Logged) → Broken stops old new → Broken (Unit {0}) old new
+broken_all stops old new b = record { more = b.more; is = b.is; breaks = breaks_wider stops (Unit {0}) b.more (λ s. tt) b.breaks }
+
+-- where the run goes on it stops only for a fault
+pub broken_going : (fault : Option RunFault) (old new : List Logged) → Broken (IsSome {A = Halt} None ⊎ IsSome fault) old new → Broken (IsSome fault) old new
+broken_going fault old new b = record { more = b.more; is = b.is; breaks = breaks_wider _ (IsSome fault) b.more (λ s. elim s [ inl halts ↦ absurd (false≢true halts) | inr kept ↦ kept ]) b.breaks }
+
+-- an entry that stands last is the one that was marked
+marked_last : (old new : List Logged) (a b : Logged) → new ≡ old ++ a ∷ [] → new ≡ old ++ b ∷ [] → a ≡ b
+marked_last old new a b one other = (let e : a ∷ [] ≡ b ∷ [] = append_cancel_left old (a ∷ []) (b ∷ []) (sym one ∙ other) in cc)
+
+closed_calm : (t : ℕ) (g : Given) → is_break (closed_as t g) ≡ false
+closed_calm t (given.Tree tree manifest) = refl
+closed_calm t (given.Fails status) = refl
+closed_calm t given.TooLarge = refl
+
+-- a job that was done breaks off only where a fault is kept
+pub ends_stop : {D W : Type 0} (halt : Option Halt) (seat t : ℕ) (g : Given) (old new : RunView D W) (u : Unit {0}) → Ends seat t g old new (Ok u) → BreaksBy halt new.fault old.tale new.tale
+ends_stop halt seat t g old new u (inl m) entry is breaks =
+    let closed : Logged = record { event = closed_as t g; seat = seat; moment = m.0.moment } in
+    let same : closed ≡ entry = marked_last old.tale new.tale closed entry m.0.is is in
+    absurd (false≢true (sym (ap (λ (e : Logged). is_break e.event) (sym same) ∙ closed_calm t g) ∙ breaks))
+ends_stop halt seat t g old new u (inr m) entry is breaks = inr m.1

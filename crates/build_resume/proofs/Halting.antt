@@ -1,8 +1,16 @@
 -- Why a run goes on, or halts.
-use Rattle.std.proofs.Common.{◌≡◌, sym, subst, refl, ℕ, List, ◌<◌, Some, None, Ok}
-use Rattle.std.specs.Prelude.{IfSome, IsSome, MatchOption, Option, Result}
+use Rattle.std.proofs.Common.{◌≡◌, ◌∙◌, sym, ap, subst, refl, ℕ, Bool, true, false, List, [], ◌∷◌, ◌<◌, Some, None, Ok}
+use Rattle.std.specs.Prelude.{IfSome, IsSome, MatchOption, Option, Result, ◌||◌}
+use Rattle.std.specs.List.{list_any}
+use Rattle.std.proofs.lemmas.Bool.{false≢true}
+use Rattle.std.proofs.lemmas.List.Folds.{list_any-append}
 use Rattle.outside_traits.specs.Story.{Story}
+use Rattle.meta_model.specs.declared.event.Cut.TheVariants as cut
+use Rattle.meta_model.specs.declared.event.Event.TheVariants as events
+use Rattle.meta_model.specs.declared.event.Logged.{Logged}
 use Rattle.meta_model.specs.declared.plan.Plan.{Plan}
+use Rattle.run_model.specs.Ends.{bench_broke}
+use Rattle.run_model.specs.Seats.{is_bench_break}
 use Rattle.task_worker.specs.declared.given.Job.{Job}
 use Rattle.tree_model.specs.declared.text.Mem.{Mem}
 use Rattle.run_queue.specs.declared.fault.RunFault.{RunFault}
@@ -10,7 +18,7 @@ use Rattle.run_queue.specs.declared.state.Claim.{Claim}
 use Rattle.run_queue.specs.declared.state.Claim.TheVariants as claim
 use Rattle.run_model.specs.Opening.{Opening}
 use Rattle.run_queue.specs.Seen.{RunView, seen}
-use Rattle.run_queue.specs.Turns.{IsCleanJob}
+use Rattle.run_queue.specs.Turns.{IsCleanJob, Marks}
 use Rattle.build_resume.specs.Drive.{IsHalted, left_over}
 use Rattle.run_workers.specs.declared.worker.Halt.{Halt}
 
@@ -42,3 +50,17 @@ clean_still story written o old new job same j = record {
   placing = j.placing;
   within = j.within;
 }
+
+-- where the last entry says that a bench failed, a task broke off by that
+pub bench_marked : (seat t : ℕ) (old new : List Logged) → Marks seat (events.Broke t cut.Bench) old new → bench_broke new ≡ true
+bench_marked seat t old new m =
+    ap bench_broke m.is ∙ list_any-append (λ l. is_bench_break l.event) old (record { event = events.Broke t cut.Bench; seat = seat; moment = m.moment } ∷ []) ∙ last (list_any (λ l. is_bench_break l.event) old)
+  where
+    last : (b : Bool) → (b || (true || false)) ≡ true
+    last true = refl
+    last false = refl
+
+-- no fault is kept where one is
+pub unkept : (fault : Option RunFault) → fault ≡ None → IsSome fault → ⊥
+unkept None none some = false≢true some
+unkept (Some f) none some = let n : Some f ≡ None = none in cc

@@ -208,6 +208,15 @@ wider_cause disk bench more_bench sink more_sink (status.Unsteady pn task held g
 wider_cause disk bench more_bench sink more_sink (status.Limit kind) b k cause = absurd cause
 wider_cause disk bench more_bench sink more_sink status.OutOfMemory b k cause = cause
 
+-- a run that its store refused ended by no bench that failed
+pub refused_bench : (sink : Type 0) (f : StoreFault) (s : Status) → EndsBy sink (status_of f) s → s ≢ status.BenchFault
+refused_bench sink fault.Disk s (inl is) e = let n : status.DiskFault ≡ status.BenchFault = sym is ∙ e in cc
+refused_bench sink (fault.Collision name held given) s (inl is) e = let n : status.Collision name held given ≡ status.BenchFault = sym is ∙ e in cc
+refused_bench sink (fault.Unsteady pn task held given) s (inl is) e = let n : status.Unsteady pn task held given ≡ status.BenchFault = sym is ∙ e in cc
+refused_bench sink fault.Memory s (inl is) e = let n : status.OutOfMemory ≡ status.BenchFault = sym is ∙ e in cc
+refused_bench sink f s (inr (inl is)) e = let n : status.OutOfMemory ≡ status.BenchFault = sym is ∙ e in cc
+refused_bench sink f s (inr (inr is)) e = let n : status.WriteFault ≡ status.BenchFault = sym is.0 ∙ e in cc
+
 -- a run that didn't begin ends neither well nor since a task failed
 pub refused_ends : (sink : Type 0) (f : StoreFault) (s : Status) → EndsBy sink (status_of f) s → IsOutside f → (s ≢ status.Ok) × (s ≢ status.TaskFailed)
 refused_ends sink f s by out = (λ ok. at f out by ok, λ failed. fails f out by failed)

@@ -24,7 +24,7 @@ use Rattle.run_queue.specs.Seen.{RunView}
 use Rattle.run_queue.specs.Turns.{Marks, Settles, fates_of}
 use Rattle.run_workers.specs.Runs.{AllRan}
 use Rattle.run_model.specs.Runs.{RanThese}
-use Rattle.run_model.specs.Seats.{is_bench_break}
+use Rattle.run_model.specs.Seats.{is_bench_break, is_break}
 use Rattle.run_model.specs.Benches.{started_by}
 use Rattle.build_resume.specs.Drive.{Closes, fault_once, left_over, waiting_count, waits_once}
 use Rattle.run_workers.specs.declared.worker.Halt.{Halt}
@@ -140,6 +140,12 @@ pub settled_calm : (t : ℕ) (event : Event) → (event ≡ events.Found t) ⊎ 
 settled_calm t event (inl is) = ap is_bench_break is
 settled_calm t event (inr (inl is)) = ap is_bench_break is
 settled_calm t event (inr (inr is)) = ap is_bench_break is
+
+-- nor that a task broke off
+pub settled_whole : (t : ℕ) (event : Event) → (event ≡ events.Found t) ⊎ ((event ≡ events.Restored t) ⊎ (event ≡ events.Failed t why.TooLarge)) → is_break event ≡ false
+settled_whole t event (inl is) = ap is_break is
+settled_whole t event (inr (inl is)) = ap is_break is
+settled_whole t event (inr (inr is)) = ap is_break is
 
 module _ {D W : Type 0} (old new : RunView D W) (t : ℕ) (same : new.plan ≡ old.plan) (none : NoneRuns (fates_of old)) (s : SettledBy 0 t old.tale new.tale) (orderly : EachAfter (IsOrderly new.plan.tasks) new.tale) where
   settled_order : IsInOrder old.plan.tasks (fates_of old) 0 s.event

@@ -1,27 +1,33 @@
 -- What workers did, by the tale that they left.
-use Rattle.std.proofs.Common.{◌≡◌, ◌≢◌, ◌∙◌, sym, ap, subst, refl, ℕ, ◌+◌, ◌<◌, ◌≤◌, zero, suc, arith, Bool, true, false, List, [], ◌∷◌, ◌++◌, All, take, drop, length, append-nil, Some, None, inl, inr}
+use Rattle.std.proofs.Common.{◌≡◌, ◌≢◌, ◌∙◌, sym, ap, subst, refl, ℕ, ◌+◌, ◌<◌, ◌≤◌, zero, suc, arith, Bool, true, false, List, [], ◌∷◌, ◌++◌, All, take, drop, length, append-nil, replicate, Some, None, inl, inr}
 use Rattle.std.specs.Prelude.{◌⊎◌, Option, if◌then◌else◌}
 use Rattle.std.specs.List.{slice_get}
 use Rattle.std.proofs.lemmas.Bool.{false≢true}
 use Rattle.std.proofs.lemmas.Bool.Decides.{eqb_tells}
-use Rattle.std.proofs.lemmas.List.{append_assoc, length-append, take-append-drop}
+use Rattle.std.proofs.lemmas.List.{append_assoc, length-append, take-append-drop, take-append-le, take_all}
 use Rattle.std.proofs.lemmas.Option.{get_or_from_slice_get, none-some, same_Some, slice_get_within}
 use Rattle.run_model.specs.Report.{tale_text}
 use Rattle.meta_model.specs.declared.plan.Plan.{Plan}
 use Rattle.run_queue.specs.declared.fault.RunFault.{RunFault}
 use Rattle.run_queue.specs.Keeps.{IsFront, Prints}
+use Rattle.run_queue.specs.Seen.{Seen}
+use Rattle.run_workers.specs.Ended.{AllEnded}
 use Rattle.outside_traits.specs.Fault.{Rose}
 use Rattle.meta_model.specs.declared.event.Event.{Event}
 use Rattle.meta_model.specs.declared.event.Event.TheVariants as events
 use Rattle.meta_model.specs.declared.event.Logged.{Logged}
 use Rattle.run_model.specs.Runs.{RanScripts, RanThese, Runs, started_in}
 use Rattle.meta_model.specs.CleanBuild.{Gives}
-use Rattle.run_model.specs.Seats.{own, is_bench_break}
-use Rattle.run_workers.specs.Worked.{Breaks, NoneBroke, RanPrinted, is_break}
+use Rattle.run_model.specs.Seats.{BreaksLast, own, is_bench_break, is_break}
+use Rattle.run_model.specs.Seated.{HaveBenches, IsSeated}
+use Rattle.tale_model.specs.declared.fate.Fate.TheVariants as fate
+use Rattle.tale_model.specs.Fates.{fate_at, is_running}
+use Rattle.run_workers.specs.Worked.{Breaks, NoneBroke, RanPrinted}
 use Rattle.run_model.specs.Benches.{AtWorkers, BreaksBench, BreaksByFault, broken_at, started_by}
 use Rattle.build_resume.specs.Benches.{HasSeats}
 use Rattle.run_model.specs.Build.{RanJust, RanStarted}
 use Rattle.build_resume.specs.Drive.{IsAlone, SaidByWorkers}
+use Rattle.build_resume.proofs.Seating.{own_split}
 
 -- ---- entries of a seat
 
@@ -240,3 +246,116 @@ break_seat n mid more tale is alone has seat b = elim (two_places mid more b.pla
   | inl first ↦ let h = (has b.place b.entry first).1 in let o = b.of in omega (arith, h, o)
   | inr later ↦ let z = alone.seats later.0 b.entry later.1 in let o = b.of in omega (arith, z, o)
 ]
+
+-- each entry is of a seat with a bench, where the calling thread went on alone
+pub have_benches : (n : ℕ) (mid more tale : List Logged) → tale ≡ mid ++ more → IsAlone more → HasSeats n mid → HaveBenches (n + 1) tale
+have_benches n mid more tale is alone has place entry at = elim (two_places mid more place entry (ap (λ (l : List Logged). slice_get l place) (sym is) ∙ at)) [
+  | inl first ↦ let h = (has place entry first).1 in omega (arith, h)
+  | inr later ↦ let z = alone.seats later.0 entry later.1 in omega (arith, z)
+]
+
+-- ---- each of the first benches had a worker, which came to an end
+
+module _ {B : Type 0} (first : Seen) (faulty : List Logged → Type 0) (faults : B → ℕ) (wanting : Bool) (tale : List Logged) (workers : ℕ) where
+  -- no bench
+  pub ended_none : (olds news : List B) → olds ≡ [] → AllEnded first faulty faults wanting tale (take workers olds) (take workers news)
+  ended_none olds news none k old new was is = absurd (none-some old (sym (ap (λ (l : List B). slice_get (take workers l) k) none ∙ ap (λ (l : List B). slice_get l k) (take_none workers)) ∙ was))
+    where
+      take_none : (n : ℕ) → take n [] ≡ []
+      take_none zero = refl
+      take_none (suc n) = refl
+
+  -- each of them
+  pub ended_whole : (olds news : List B) → length olds ≤ workers → length news ≡ length olds → AllEnded first faulty faults wanting tale olds news → AllEnded first faulty faults wanting tale (take workers olds) (take workers news)
+  ended_whole olds news few long all =
+      subst (λ (l : List B). AllEnded first faulty faults wanting tale l (take workers news)) (sym (take_all workers olds few))
+      (subst (λ (l : List B). AllEnded first faulty faults wanting tale olds l) (sym (take_all workers news (omega (arith, few, long)))) all)
+
+  -- and one more, which had none
+  pub ended_pushed : (olds news before now : List B) (x : B) → before ≡ olds ++ x ∷ [] → now ≡ news ++ x ∷ [] → length news ≡ length olds → workers ≤ length olds → AllEnded first faulty faults wanting tale (take workers olds) (take workers news) → AllEnded first faulty faults wanting tale (take workers before) (take workers now)
+  ended_pushed olds news before now x was is long few all =
+      subst (λ (l : List B). AllEnded first faulty faults wanting tale l (take workers now)) (sym (ap (take workers) was ∙ take-append-le workers olds (x ∷ []) few))
+      (subst (λ (l : List B). AllEnded first faulty faults wanting tale (take workers olds) l) (sym (ap (take workers) is ∙ take-append-le workers news (x ∷ []) (omega (arith, few, long)))) all)
+
+-- ---- seats are left behind tasks that broke off
+
+-- behind the entry of a list that says so there is none
+left_of : (halts failed : Type 0) (mine : List Logged) → Breaks halts failed mine → (front back : List Logged) (entry : Logged) → mine ≡ front ++ entry ∷ back → is_break entry.event ≡ true → back ≡ []
+left_of halts failed mine b front back entry is breaks = at b.front b.back b.before (elim b.last [ inl none ↦ inl none | inr last ↦ inr (last.0, last.1) ]) front (sym b.cut ∙ is)
+  where
+    end_of : (xs : List Logged) (x : Logged) → [] ≡ xs ++ x ∷ back → ⊥
+    end_of [] x e = cc
+    end_of (y ∷ xs) x e = cc
+
+    at : (calm last : List Logged) → NoneBroke calm → (last ≡ []) ⊎ ((e : Logged) × (last ≡ e ∷ [])) → (front : List Logged) → calm ++ last ≡ front ++ entry ∷ back → back ≡ []
+    at [] last none (inl empty) front e = absurd (end_of front entry (sym empty ∙ e))
+    at [] last none (inr one) [] e = (let same : one.0 ∷ [] ≡ entry ∷ back = sym one.1 ∙ e in cc)
+    at [] last none (inr one) (x ∷ front) e = absurd (end_of front entry (let same : one.0 ∷ [] ≡ x ∷ (front ++ entry ∷ back) = sym one.1 ∙ e in cc))
+    at (c ∷ calm) last none which [] e = absurd (false≢true (sym none.0 ∙ ap (λ (l : Logged). is_break l.event) (let same : c ≡ entry = (let whole : c ∷ (calm ++ last) ≡ entry ∷ back = e in cc) in same) ∙ breaks))
+    at (c ∷ calm) last none which (x ∷ front) e = at calm last none.1 which front (let whole : c ∷ (calm ++ last) ≡ x ∷ (front ++ entry ∷ back) = e in cc)
+
+-- a seat without entries
+left_empty : (mine : List Logged) → mine ≡ [] → (front back : List Logged) (entry : Logged) → mine ≡ front ++ entry ∷ back → back ≡ []
+left_empty mine none front back entry is = absurd (end front (sym none ∙ is))
+  where
+    end : (xs : List Logged) → [] ≡ xs ++ entry ∷ back → ⊥
+    end [] e = cc
+    end (y ∷ xs) e = cc
+
+pub left_none : (tale : List Logged) → tale ≡ [] → BreaksLast tale
+left_none tale none seat front back entry is breaks = left_empty (own seat tale) (ap (own seat) none) front back entry is
+
+-- of workers' seats
+pub left_workers : {B : Type 0} (faults : B → ℕ) (olds news : List B) (tale : List Logged) → length news ≡ length olds → HasSeats (length olds) tale
+    → ((k : ℕ) (old new : B) → slice_get olds k ≡ Some old → slice_get news k ≡ Some new → Breaks (Unit {0}) (Rose (faults old) (faults new)) (own (k + 1) tale)) → BreaksLast tale
+left_workers faults olds news tale long has each zero front back entry is breaks = left_empty (own 0 tale) (own_none 0 tale (λ k e at of. let h = (has k e at).0 in omega (arith, h, of))) front back entry is
+left_workers faults olds news tale long has each (suc k) front back entry is breaks = elim (place olds k) [
+  | inl old ↦ elim (place news k) [
+    | inl new ↦ left_of (Unit {0}) (Rose (faults old.0) (faults new.0)) (own (suc k) tale) (subst (λ n. Breaks (Unit {0}) (Rose (faults old.0) (faults new.0)) (own n tale)) (let one : k + 1 ≡ suc k = omega arith in one) (each k old.0 new.0 old.1 new.1)) front back entry is breaks
+    | inr behind ↦ absurd (let within = slice_get_within olds k old.0 old.1 in omega (arith, within, behind, long))
+  ]
+  | inr behind ↦ left_empty (own (suc k) tale) (own_none (suc k) tale (λ j e at of. let h = (has j e at).1 in omega (arith, h, of, behind))) front back entry is
+]
+  where
+    place : {A : Type 0} (xs : List A) (n : ℕ) → ((x : A) × (slice_get xs n ≡ Some x)) ⊎ (length xs ≤ n)
+    place [] n = inr (omega arith)
+    place (x ∷ xs) zero = inl (x, refl)
+    place (x ∷ xs) (suc n) = elim (place xs n) [ inl at ↦ inl at | inr le ↦ inr (omega (arith, le)) ]
+
+-- where the calling thread goes on alone
+pub left_on : (n : ℕ) (mid more tale : List Logged) → tale ≡ mid ++ more → IsAlone more → HasSeats n mid → BreaksLast mid → Breaks (Unit {0}) (Unit {0}) more → BreaksLast tale
+left_on n mid more tale is alone has left broke zero front back entry at breaks =
+    left_of (Unit {0}) (Unit {0}) more broke front back entry (sym (own_alone more alone) ∙ sym first ∙ at) breaks
+  where
+    first : own 0 tale ≡ own 0 more
+    first = ap (own 0) is ∙ own_split 0 mid more ∙ ap (λ (l : List Logged). l ++ own 0 more) (own_none 0 mid (λ k e at of. let h = (has k e at).0 in omega (arith, h, of)))
+
+    own_alone : (l : List Logged) → IsAlone l → own 0 l ≡ l
+    own_alone [] a = refl
+    own_alone (e ∷ l) a = own_step 0 e l (a.seats 0 e refl) ∙ ap (λ (x : List Logged). e ∷ x) (own_alone l (record { seats = λ place entry at. a.seats (suc place) entry at }))
+left_on n mid more tale is alone has left broke (suc k) front back entry at breaks =
+    left (suc k) front back entry (sym others ∙ at) breaks
+  where
+    others : own (suc k) tale ≡ own (suc k) mid
+    others = ap (own (suc k)) is ∙ own_split (suc k) mid more ∙ ap (λ (l : List Logged). own (suc k) mid ++ l) (own_none (suc k) more (λ j e at of. let z = alone.seats j e at in omega (arith, z, of))) ∙ append-nil (own (suc k) mid)
+
+-- ---- a tale without entries
+
+pub none_benches : (n : ℕ) (tale : List Logged) → tale ≡ [] → HaveBenches n tale
+none_benches n tale none place entry at = absurd (none-some entry (ap (λ (l : List Logged). slice_get l place) (sym none) ∙ at))
+
+all_wait : (count t : ℕ) → fate_at (replicate count fate.Waiting) t ≡ fate.Waiting
+all_wait zero t = refl
+all_wait (suc count) zero = refl
+all_wait (suc count) (suc t) = all_wait count t
+
+pub none_seated : (plan : Plan) (tale : List Logged) → tale ≡ [] → IsSeated plan tale
+none_seated plan tale none = record {
+  front = [];
+  back = tale;
+  cut = refl;
+  workers = λ place entry at. absurd (none-some entry at);
+  rests = λ t runs. false≢true (sym (ap is_running (all_wait (length plan.tasks) t)) ∙ runs);
+  alone = λ place entry at. absurd (none-some entry (ap (λ (l : List Logged). slice_get l place) (sym none) ∙ at));
+  left = left_none tale none;
+}

@@ -12,13 +12,15 @@ use Rattle.tale_model.specs.declared.fate.Fate.TheVariants as fate
 use Rattle.tale_model.specs.Fates.{HoldsFailure, fate_by, is_running, task_of}
 use Rattle.run_queue.specs.Seen.{RunView}
 use Rattle.run_model.specs.Outcome.{IsAtEnd}
+use Rattle.run_model.specs.Ends.{bench_broke}
 use Rattle.run_queue.specs.Turns.{Marks, fates_of}
 use Rattle.run_queue.specs.declared.fault.RunFault.{RunFault}
 use Rattle.run_workers.specs.declared.worker.Halt.{Halt}
 use Rattle.run_workers.specs.declared.worker.Halt.TheVariants as halts
 use Rattle.run_workers.specs.Runs.{RanSoFar, ScriptsSoFar, by_bench}
 use Rattle.run_model.specs.Runs.{Runs}
-use Rattle.run_model.specs.Seats.{is_bench_break}
+use Rattle.run_model.specs.Seats.{is_bench_break, is_break}
+use Rattle.run_workers.specs.Worked.{Breaks}
 use Rattle.run_model.specs.Benches.{AtWorkers, BreaksBench, BreaksByFault, broken_at, started_by}
 use Rattle.run_model.specs.Build.{RanJust, RanStarted}
 
@@ -32,6 +34,16 @@ pub record Grows (halt : Option Halt) (old new : List Logged) : Type 0 where
   pub is : new ≡ old ++ more
   pub alone : IsAlone more
   pub breaks : BreaksBench 0 more → by_bench halt ≡ true
+
+-- A tale that went on with entries of which only the last one may say that a task broke off, and only where the run `stops`.
+pub record Broken (stops : Type 0) (old new : List Logged) : Type 0 where
+  pub more : List Logged
+  pub is : new ≡ old ++ more
+  pub breaks : Breaks stops (Unit {0}) more
+
+-- an entry behind a tale says that a task broke off only where the run halts, or a fault is kept
+abbrev pub BreaksBy : Option Halt → Option RunFault → List Logged → List Logged → Type 0
+BreaksBy halt fault old new = (entry : Logged) → new ≡ old ++ entry ∷ [] → is_break entry.event ≡ true → IsSome halt ⊎ IsSome fault
 
 -- What a run did: its tale went on, and the bench ran what was started, but where it halted for maybe the last one, if that broke off.
 pub record Drove (gives : Gives) (plan : Plan) (halt : Option Halt) (old new : List Logged) (before now : Runs) : Type 0 where
@@ -87,6 +99,7 @@ pub record WentOn (old new : List Logged) (before now : ℕ) : Type 0 where
   pub is : new ≡ old ++ more
   pub alone : IsAlone more
   pub breaks : BreaksByFault more 0 before now
+  pub left : Breaks (Unit {0}) (Unit {0}) more
 
 -- the bench ran what seat 0 started behind a tale
 pub record RanOn (gives : Gives) (plan : Plan) (old new : List Logged) (before now : Runs) : Type 0 where
@@ -125,9 +138,9 @@ fault_once (Some f) = 0
 abbrev pub left_over : {D W : Type 0} → RunView D W → ℕ
 left_over s = 2 * waiting_count (fates_of s) + fault_once s.fault
 
--- why a run halted
+-- Why a run halted. Where its bench failed, a task broke off by that.
 abbrev pub IsHalted : {D W : Type 0} → RunView D W → Halt → Type 0
 IsHalted new halts.Finished = IsAtEnd new.plan new.options new.tale
 IsHalted new halts.Stopped = (HoldsFailure (fates_of new) × (new.options.keep_going ≡ false)) ⊎ IsSome new.fault
 IsHalted new halts.Memory = Unit {0}
-IsHalted new halts.Bench = Unit {0}
+IsHalted new halts.Bench = bench_broke new.tale ≡ true

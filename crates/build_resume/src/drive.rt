@@ -12,7 +12,7 @@ ghost use Rattle.run_model.specs.Runs.{Runs};
 ghost use Rattle.run_workers.specs.Runs.{by_bench};
 ghost use Rattle.run_model.specs.Seats.{own};
 ghost use Rattle.run_workers.specs.Worked.{BrokeOff};
-ghost use Rattle.build_resume.specs.Drive.{Closes, Drove, GoesOnBehind, Grows, IsHalted, RanSaid, left_over};
+ghost use Rattle.build_resume.specs.Drive.{BreaksBy, Broken, Closes, Drove, GoesOnBehind, Grows, IsHalted, RanSaid, left_over};
 
 use meta_model::Cut;
 use outside_traits::{Bench, Disk, Sink};
@@ -35,6 +35,7 @@ fn do_claimed<D: Disk, B: Bench, W: Sink>(
     ensures same { SameRun state.old state.new }
     ensures closes { Closes job.task result state.old.tale state.new.tale }
     ensures goes_on { GoesOnBehind job.task state.new result }
+    ensures stops { BreaksBy result state.new.fault state.old.tale state.new.tale }
     ensures fault { IsSome state.old.fault → state.new.fault ≡ state.old.fault }
     ensures halted { IfSome result (IsHalted state.new) }
     ensures sink { KeepsCount W.faults state.old state.new }
@@ -85,6 +86,8 @@ fn turn<D: Disk, B: Bench, W: Sink>(
     ensures none { NoneRuns (fates_of state.new) }
     ensures same { SameRun state.old state.new }
     ensures grows { Grows result state.old.tale state.new.tale }
+    ensures broken { Broken (IsSome result ⊎ IsSome state.new.fault) state.old.tale state.new.tale }
+    ensures rests { IsSome state.old.fault → (state.new.tale ≡ state.old.tale) × IsSome result }
     ensures goes_on { MatchOption result (left_over state.new < left_over state.old) (IsHalted state.new) }
     ensures sink { KeepsCount W.faults state.old state.new }
     ensures text { W.tells → PrintsOn W.written state.old state.new }
@@ -130,6 +133,7 @@ pub(crate) fn drive<D: Disk, B: Bench, W: Sink>(
     requires none { NoneRuns (fates_of state.old) }
     ensures same { SameRun state.old state.new }
     ensures grows { Grows (Some result) state.old.tale state.new.tale }
+    ensures broken { Broken (Unit {0}) state.old.tale state.new.tale }
     ensures halted { IsHalted state.new result }
     ensures none { NoneRuns (fates_of state.new) }
     ensures sink { KeepsCount W.faults state.old state.new }

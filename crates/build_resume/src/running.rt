@@ -15,6 +15,7 @@ ghost use Rattle.run_queue.specs.Turns.{fates_of};
 ghost use Rattle.meta_model.specs.declared.event.Logged.{Logged as Entry};
 ghost use Rattle.run_model.specs.Runs.{Runs};
 ghost use Rattle.run_model.specs.Benches.{AtSeats, BreaksByFault, SomeRose};
+ghost use Rattle.run_model.specs.Seated.{HaveBenches, IsSeated};
 ghost use Rattle.build_resume.specs.Benches.{SomeBreak};
 ghost use Rattle.run_model.specs.Build.{AllClean, MayEndSo, RanPrinted, RanStarted, TellsDifference, failed_in, is_unsteady};
 ghost use Rattle.build_resume.specs.Build.{IsEntry, Leaves, WritesReport, is_collision};
@@ -185,6 +186,8 @@ where
     requires faultless { state.fault ≡ None }
     ensures plan { result.plan ≡ state.plan }
     ensures ends { EndsAs state.plan state.options result.tale.items result.status }
+    ensures seated { IsSeated state.plan result.tale.items }
+    ensures benches { HaveBenches (length benches.items) result.tale.items }
     ensures failed { result.status ≡ ends.TaskFailed → result.failed.items ≡ failed_in result.tale.items }
     ensures text { W.tells → WritesReport (Rose (W.faults state.sink) (W.faults result.sink)) (W.written state.sink)
         (W.written result.sink) state.plan result.tale.items result.status }
@@ -206,7 +209,7 @@ where
         → o.gives ≡ gives → IsRun o (seen D.story W.written state) → is_unsteady result.status ≡ false }
 {
     let mut last = take_last(&mut benches);
-    let (state, mut benches) = with_workers(rt, alloc, state, benches);
+    let (state, mut benches, _wanting) = with_workers(rt, alloc, state, benches);
     let Ended {
         plan,
         status,
@@ -306,6 +309,11 @@ where
     // comes where a bench that failed, or want of memory, broke a task off. The failed tasks are those of the tale.
     ensures told { EndsAs plan options result.tale.items result.status }
     ensures failed { result.status ≡ ends.TaskFailed → result.failed.items ≡ failed_in result.tale.items }
+
+    // At most as many tasks ran at once as the plan has threads, and each entry is of a seat that has a bench. So of each task that is told as
+    // started, and then ended or failed, `leaves` and `printed` say on which bench it ran.
+    ensures seated { IsSeated plan result.tale.items }
+    ensures benches { HaveBenches (length benches.items) result.tale.items }
 
     // What was written is the text of the tale and of the status, whole under Ok and where a task failed; under another status it may be a
     // front of one, where the sink failed.

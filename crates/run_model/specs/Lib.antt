@@ -5,6 +5,7 @@ pub mod Layouts
 pub mod CleanOutputs
 pub mod Runs
 pub mod Seats
+pub mod Seated
 pub mod Opening
 pub mod Books
 pub mod Courses

@@ -1,5 +1,5 @@
 -- How a run ends, by its tale.
-use Rattle.std.specs.Prelude.{Bool, List, length, ◌≡◌, false, true}
+use Rattle.std.specs.Prelude.{Bool, List, length, ◌≡◌, ◌⊎◌, false, true}
 use Rattle.meta_model.specs.declared.event.Avail.{Avail}
 use Rattle.meta_model.specs.declared.event.Logged.{Logged}
 use Rattle.meta_model.specs.declared.plan.Options.{Options}
@@ -22,10 +22,14 @@ pub record IsAtEnd (plan : Plan) (options : Options) (tale : List Logged) : Type
 
 -- Under Ok nothing is left to do, and no task failed; where a task failed it stands in the tale, and with `-k` nothing else is left to do.
 -- Neither of the two comes where a task broke off since a bench failed or memory was wanting, though another bench did it after all. Where one
--- broke off by a fault, the status is that of a fault that was kept.
+-- broke off by a fault, the status is that of a fault that was kept. The first of these causes that stands is told: a fault that was kept, a bench
+-- that failed, want of memory, a task that failed.
 pub record EndsAs (plan : Plan) (options : Options) (tale : List Logged) (s : Status) : Type 0 where
   pub ok : s ≡ status.Ok → IsAtEnd plan options tale × (has_failure tale ≡ false)
   pub failed : s ≡ status.TaskFailed → has_failure tale ≡ true
   pub went_on : s ≡ status.TaskFailed → options.keep_going ≡ true → IsAtEnd plan options tale
   pub unbroken : is_plain s ≡ true → (bench_broke tale ≡ false) × (memory_broke tale ≡ false)
   pub by_fault : fault_broke tale ≡ true → is_of_fault s ≡ true
+  pub by_bench : bench_broke tale ≡ true → (is_of_fault s ≡ true) ⊎ (s ≡ status.BenchFault)
+  pub by_memory : memory_broke tale ≡ true → bench_broke tale ≡ false → is_of_fault s ≡ true
+  pub bench : s ≡ status.BenchFault → bench_broke tale ≡ true

@@ -12,7 +12,8 @@ use Rattle.meta_model.specs.declared.plan.Options.{Options}
 use Rattle.meta_model.specs.declared.plan.Plan.{Plan}
 use Rattle.run_model.specs.Report.{tale_text}
 use Rattle.tale_model.specs.Choice.{IsFinished}
-use Rattle.run_core.specs.Choice.{MayAnswer}
+use Rattle.run_core.specs.Choice.{CannotGoOn, MayAnswer}
+use Rattle.run_core.specs.declared.next.Next.{Next}
 use Rattle.run_core.specs.declared.next.Next.TheVariants as next
 use Rattle.tale_model.specs.Fates.{HoldsFailure, IsFree, fates_told}
 use Rattle.run_core.specs.Fates.{SomeRuns}
@@ -66,7 +67,7 @@ module _ {D W : Type 0} (old mid : RunView D W) (same : SameTold old mid) where
     marks = subst (λ (l : List Logged). Marks seat (events.Started job.task seat) l new.tale) same.tale b.marks;
   }
   claims_from new seat (Ok (claim.Settled t)) b = subst (λ (l : List Logged). Settles seat t l new.tale) same.tale b
-  claims_from new seat (Ok claim.Wait) b = (b.0 ∙ same.tale, subst (λ l. SomeRuns l) fates_same b.1)
+  claims_from new seat (Ok claim.Wait) b = (b.0 ∙ same.tale, subst (λ l. SomeRuns l) fates_same b.1, b.2)
   claims_from new seat (Ok claim.Finished) b = (
     b.0 ∙ same.tale,
     subst (λ (l : List Logged). IsAtEnd old.plan old.options l) same.tale (subst (λ (x : Options). IsAtEnd old.plan x mid.tale) same.options (subst (λ (p : Plan). IsAtEnd p mid.options mid.tale) same.plan b.1)),
@@ -108,7 +109,13 @@ module _ {D W : Type 0} (old mid : RunView D W) (same : SameTold old mid) where
     within = c.within;
   }
   clean_from story written o (Ok (claim.Settled t)) c = tt
-  clean_from story written o (Ok claim.Wait) c = tt
+  clean_from story written o (Ok claim.Wait) c = idle
+    where
+      Idle : Plan → Options → List Logged → Type 0
+      Idle p x l = (course : Course) → course.plan ≡ p → IsCourse o x l course → (t : ℕ) → CannotGoOn p.tasks (course.need (length l)) (course.avail (length l)) (fates_told (length p.tasks) l) t
+
+      idle : Idle old.plan old.options old.tale
+      idle = subst (λ (l : List Logged). Idle old.plan old.options l) same.tale (subst (λ (x : Options). Idle old.plan x mid.tale) same.options (subst (λ (p : Plan). Idle p mid.options mid.tale) same.plan c))
   clean_from story written o (Ok claim.Finished) c = at_end
     where
       Ends : Plan → Options → List Logged → Type 0
@@ -131,14 +138,25 @@ turns_clean_from old mid same story written o (Err e) t = tt
 
 -- ---- the end of a run
 
--- What is finished by what is known is so in each course.
-pub finished_clean : (o : Opening) (s : Seen) (k : Known) → IsRun o s → EachAfter (IsOrderly s.plan.tasks) s.tale → s.known ≡ Some k → IsUpToDate s.plan s.rows k
-    → MayAnswer s.options s.plan.tasks k.need k.avail (fates_told (length s.plan.tasks) s.tale) next.Finished → ClaimsClean o s (Ok claim.Finished)
-finished_clean o s k run orderly known now may course same is =
+-- What may be answered by what is known may be so in each course.
+answer_clean : (o : Opening) (s : Seen) (k : Known) (answer : Next) → IsRun o s → EachAfter (IsOrderly s.plan.tasks) s.tale → s.known ≡ Some k → IsUpToDate s.plan s.rows k
+    → MayAnswer s.options s.plan.tasks k.need k.avail (fates_told (length s.plan.tasks) s.tale) answer → (course : Course) → course.plan ≡ s.plan → IsCourse o s.options s.tale course
+    → MayAnswer s.options s.plan.tasks (course.need (length s.tale)) (course.avail (length s.tale)) (fates_told (length s.plan.tasks) s.tale) answer
+answer_clean o s k answer run orderly known now may course same is =
     let n : ℕ = length s.tale in
     let whole : take n s.tale ≡ s.tale = take_all n s.tale (omega arith) in
     let there : IsThere o s.plan s.options s.tale (course.avail n) =
     subst (λ (p : Plan). IsThere o p s.options s.tale (course.avail n)) same (subst (λ (l : List Logged). IsThere o course.plan s.options l (course.avail n)) whole (is.there n (omega arith))) in
     let needed = subst (λ (p : Plan). IsNeed p (course.avail n) (course.need n)) same (is.needed n (omega arith)) in
     let agree = agree_waiting k.need (course.need n) k.avail (course.avail n) (fates_told (length s.plan.tasks) s.tale) (agreement o s k run orderly known now (course.avail n) (course.need n) there needed) in
-    answer_across s.plan.tasks k.need (course.need n) k.avail (course.avail n) (fates_told (length s.plan.tasks) s.tale) now.need.closed.dependencies agree s.options next.Finished may
+    answer_across s.plan.tasks k.need (course.need n) k.avail (course.avail n) (fates_told (length s.plan.tasks) s.tale) now.need.closed.dependencies agree s.options answer may
+
+-- What is finished by what is known is so in each course.
+pub finished_clean : (o : Opening) (s : Seen) (k : Known) → IsRun o s → EachAfter (IsOrderly s.plan.tasks) s.tale → s.known ≡ Some k → IsUpToDate s.plan s.rows k
+    → MayAnswer s.options s.plan.tasks k.need k.avail (fates_told (length s.plan.tasks) s.tale) next.Finished → ClaimsClean o s (Ok claim.Finished)
+finished_clean o s k run orderly known now may = answer_clean o s k next.Finished run orderly known now may
+
+-- Where no task can go on by what is known, none can in each course.
+pub wait_clean : (o : Opening) (s : Seen) (k : Known) → IsRun o s → EachAfter (IsOrderly s.plan.tasks) s.tale → s.known ≡ Some k → IsUpToDate s.plan s.rows k
+    → MayAnswer s.options s.plan.tasks k.need k.avail (fates_told (length s.plan.tasks) s.tale) next.Wait → ClaimsClean o s (Ok claim.Wait)
+wait_clean o s k run orderly known now may course same is = (answer_clean o s k next.Wait run orderly known now may course same is).1

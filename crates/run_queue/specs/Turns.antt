@@ -21,7 +21,7 @@ use Rattle.run_model.specs.Courses.{IsCourse}
 use Rattle.run_model.specs.Opening.{Opening}
 use Rattle.run_model.specs.Outcome.{IsAtEnd}
 use Rattle.run_core.specs.declared.next.Next.{Next}
-use Rattle.run_core.specs.Choice.{MayAnswer}
+use Rattle.run_core.specs.Choice.{CannotGoOn, MayAnswer}
 use Rattle.run_core.specs.Fates.{SomeRuns}
 use Rattle.build_store.specs.View.{SameBooks}
 use Rattle.task_worker.specs.declared.given.Given.{Given}
@@ -54,12 +54,18 @@ Settles seat t old new = Marks seat (events.Found t) old new ⊎ (Marks seat (ev
 abbrev pub fates_of : {D W : Type 0} → RunView D W → List Rattle.tale_model.specs.declared.fate.Fate.Fate
 fates_of s = fates_told (length s.plan.tasks) s.tale
 
--- What a claim does, by its answer. With Wait another seat's task runs. Stopped comes only where a task failed without `keep_going`, or a
--- fault is kept.
+-- by what is known of the plan's tasks none of them is ready, and none can be settled
+pub record IsIdle {D W : Type 0} (s : RunView D W) : Type 0 where
+  pub known : Known
+  pub is_known : s.known ≡ Some known
+  pub idle : (t : ℕ) → CannotGoOn s.plan.tasks known.need known.avail (fates_of s) t
+
+-- What a claim does, by its answer. With Wait another seat's task runs, and no task can go on. Stopped comes only where a task failed without
+-- `keep_going`, or a fault is kept.
 abbrev pub Claims : {D W : Type 0} → ℕ → RunView D W → RunView D W → Result Claim Mem → Type 0
 Claims seat old new (Ok (claim.Run job)) = Begins seat old.plan.tasks old.tale new.tale job
 Claims seat old new (Ok (claim.Settled t)) = Settles seat t old.tale new.tale
-Claims seat old new (Ok claim.Wait) = (new.tale ≡ old.tale) × SomeRuns (fates_of old)
+Claims seat old new (Ok claim.Wait) = (new.tale ≡ old.tale) × SomeRuns (fates_of old) × IsIdle new
 Claims seat old new (Ok claim.Finished) = (new.tale ≡ old.tale) × IsAtEnd old.plan old.options old.tale
 Claims seat old new (Ok claim.Stopped) = (new.tale ≡ old.tale) × ((HoldsFailure (fates_of old) × (old.options.keep_going ≡ false)) ⊎ IsSome new.fault)
 Claims seat old new (Err e) = new.tale ≡ old.tale
@@ -76,10 +82,12 @@ pub record IsCleanJob (o : Opening) (s : Seen) (job : Job) : Type 0 where
   pub placing : job.placing ≡ placing_of task
   pub within : is_beyond_layout job.layout ≡ false
 
+-- What a claim's answer says where the disk tells: the job is the clean build's; with Wait no task can go on, and with Finished nothing is left
+-- to do, in each course of the run.
 abbrev pub ClaimsClean : Opening → Seen → Result Claim Mem → Type 0
 ClaimsClean o s (Ok (claim.Run job)) = IsCleanJob o s job
 ClaimsClean o s (Ok (claim.Settled t)) = Unit {0}
-ClaimsClean o s (Ok claim.Wait) = Unit {0}
+ClaimsClean o s (Ok claim.Wait) = (course : Course) → course.plan ≡ s.plan → IsCourse o s.options s.tale course → (t : ℕ) → CannotGoOn s.plan.tasks (course.need (length s.tale)) (course.avail (length s.tale)) (fates_told (length s.plan.tasks) s.tale) t
 ClaimsClean o s (Ok claim.Finished) = (course : Course) → course.plan ≡ s.plan → IsCourse o s.options s.tale course → IsFinished s.options s.plan.tasks (course.need (length s.tale)) (course.avail (length s.tale)) (fates_told (length s.plan.tasks) s.tale)
 ClaimsClean o s (Ok claim.Stopped) = Unit {0}
 ClaimsClean o s (Err e) = Unit {0}

@@ -3,6 +3,7 @@ mod Unprinted
 mod Sinces
 mod Handing
 mod Turning
+mod Ending
 mod Idle
 mod Records
 pub mod Working

@@ -23,8 +23,8 @@ use Rattle.run_workers.specs.Runs.{AllRan, AllScripts, RanSoFar, ScriptsSoFar, b
 use Rattle.run_model.specs.Runs.{IsRunOf, IsScriptOf, RanScripts, RanThese, Runs, broken_off, started_in}
 use Rattle.run_workers.specs.Seats.{AddsBy, HoldsNone}
 use Rattle.run_workers.specs.Told.{logged_in, printed_in}
-use Rattle.run_workers.specs.Worked.{Breaks, BrokeOff, Closes, NoneBroke, RanMine, RanOnce, SaidMine, Worked, is_break}
-use Rattle.run_model.specs.Seats.{is_bench_break}
+use Rattle.run_workers.specs.Worked.{Breaks, BrokeOff, Closes, NoneBroke, RanMine, RanOnce, SaidMine, Worked}
+use Rattle.run_model.specs.Seats.{is_bench_break, is_break}
 use Rattle.run_workers.proofs.Records.{none_added, none_first}
 use Rattle.run_workers.proofs.Telling.{logged_split, printed_split}
 

@@ -5,4 +5,5 @@ pub mod Runs
 pub mod Seats
 pub mod Worked
 pub mod Left
+pub mod Ended
 pub mod Rows

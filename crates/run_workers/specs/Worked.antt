@@ -2,16 +2,14 @@
 use Rattle.std.specs.Prelude.{◌≡◌, ◌⊎◌, ◌≤◌, ℕ, suc, List, [], ◌∷◌, ◌++◌, Bool, true, false, Option, Some, IsSome, take}
 use Rattle.outside_traits.specs.Bench.{Workplace}
 use Rattle.outside_traits.specs.Fault.{Counts, Rose}
-use Rattle.meta_model.specs.declared.event.Cut.TheVariants as cut
 use Rattle.meta_model.specs.declared.event.Event.{Event}
-use Rattle.meta_model.specs.declared.event.Event.TheVariants as events
 use Rattle.meta_model.specs.declared.event.Logged.{Logged}
 use Rattle.meta_model.specs.declared.plan.Plan.{Plan}
 use Rattle.meta_model.specs.CleanBuild.{Entries, Gives}
 use Rattle.run_model.specs.Report.{is_started}
 use Rattle.run_model.specs.Opening.{Opening}
 use Rattle.run_model.specs.Runs.{RanScripts, Runs, broken_off, started_in}
-use Rattle.run_model.specs.Seats.{own, is_bench_break, RanStarted}
+use Rattle.run_model.specs.Seats.{own, is_bench_break, is_break, RanStarted}
 use Rattle.turn_lock.specs.declared.rule.Record.{Record}
 use Rattle.turn_lock.specs.declared.rule.View.{View}
 use Rattle.run_queue.specs.Keeps.{IsRun}
@@ -21,15 +19,6 @@ use Rattle.run_workers.specs.declared.worker.Halt.{Halt}
 use Rattle.run_workers.specs.Runs.{RanSoFar, ScriptsSoFar, by_bench}
 use Rattle.run_workers.specs.Seats.{HoldsNone}
 use Rattle.run_workers.specs.Told.{logged_in, printed_in}
-
--- the event is that a task broke off
-abbrev pub is_break : Event → Bool
-is_break (events.Found t) = false
-is_break (events.Restored t) = false
-is_break (events.Started t seat) = false
-is_break (events.Ended t) = false
-is_break (events.Failed t cause) = false
-is_break (events.Broke t c) = true
 
 -- in these entries no task broke off
 abbrev pub NoneBroke : List Logged → Type 0

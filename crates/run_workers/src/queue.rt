@@ -1,5 +1,5 @@
 // The run that its workers share.
-ghost use Rattle.std.specs.Prelude.{◌≡◌, ◌<◌, ◌≤◌, [], List, IfErr, IfOk};
+ghost use Rattle.std.specs.Prelude.{◌≡◌, ◌<◌, ◌≤◌, [], List, IfErr, IfOk, Ok, false};
 ghost use Rattle.tale_model.specs.Fates.{NoneRuns};
 ghost use Rattle.run_model.specs.Opening.{Opening};
 ghost use Rattle.run_queue.specs.Keeps.{IsRun};
@@ -10,6 +10,8 @@ ghost use Rattle.turn_lock.specs.Seats.{view_of, seats_of, HasAllNumbers, IsFree
 ghost use Rattle.turn_lock.specs.Views.{first_view, records_of};
 ghost use Rattle.run_workers.specs.Seats.{BreakAdds, ClaimAdds, EndAdds, HandsClean, HandsScript, HasUnprinted, Holds, HoldsNone, NoneHold, Turned};
 ghost use Rattle.run_workers.specs.Left.{IsLeft};
+ghost use Rattle.run_workers.specs.Ended.{ClaimSays, WasFaulty};
+ghost use Rattle.run_workers.specs.Told.{logged_in};
 ghost use Rattle.run_workers.specs.declared.shared.Told.{Told as Entry};
 
 use crate::began::Began;
@@ -66,6 +68,8 @@ pub(crate) fn claim<K: Began, D: Disk, W: Sink, R: Wait>(
     ensures free { IsFree seat.new }
     ensures claims { (added : List Entry) × ClaimAdds (view_of seat.old).number result added
         × Turned (view_of seat.old) (view_of seat.new) added }
+    ensures says { ClaimSays K.first (logged_in (view_of seat.new).seen)
+        (WasFaulty D.faults W.faults K.first K.faults (logged_in (view_of seat.new).seen)) result }
     ensures script { HandsScript K.first.plan result }
     ensures clean { D.tells → K.alike → (o : Opening) → o.gives ≡ K.gives → IsRun o K.first
         → HandsClean o K.first result }
@@ -74,6 +78,7 @@ pub(crate) fn claim<K: Began, D: Disk, W: Sink, R: Wait>(
     story.kept();
     seat_laws();
     let claim = story.claim(alloc, seat.number());
+    story.kept();
     queue.end(seat, story);
     claim
 }
@@ -98,11 +103,14 @@ pub(crate) fn ended<K: Began, D: Disk, W: Sink, R: Wait>(
     ensures free { IsFree seat.new }
     ensures ends { (added : List Entry) × EndAdds (view_of seat.old).number job.task given result added
         × Turned (view_of seat.old) (view_of seat.new) added }
+    ensures stops { result ≡ Ok false
+        → WasFaulty D.faults W.faults K.first K.faults (logged_in (view_of seat.new).seen) }
 {
     let mut story = queue.begin(rt, seat);
     story.kept();
     seat_laws();
     let ended = story.ended(alloc, seat.number(), job, given);
+    story.kept();
     queue.end(seat, story);
     ended
 }
@@ -142,6 +150,7 @@ pub(crate) fn close<K: Began, D: Disk, W: Sink>(
     requires all { HasAllNumbers seat (seats_of queue) }
     ensures left { IsLeft D.tells W.tells K.alike D.story W.written W.faults K.first K.faults K.gives
         (records_of (view_of seat)) result }
+    ensures seen { logged_in (view_of seat).seen ≡ result.tale }
     ensures none { NoneHold (records_of (view_of seat)) → NoneRuns (fates_of result) }
 {
     let story = queue.close(seat);

@@ -1,16 +1,17 @@
 // The state that seats hand on.
-ghost use Rattle.std.specs.Prelude.{◌≡◌, ◌≤◌, [], IsSome, List, None, length, true};
+ghost use Rattle.std.specs.Prelude.{◌≡◌, ◌≤◌, [], IsSome, List, None, Ok, false, length, true};
 ghost use Rattle.meta_model.specs.declared.event.Event.TheVariants as events;
 ghost use Rattle.tale_model.specs.Fates.{IsFree};
 ghost use Rattle.tale_model.specs.History.{EachAfter};
 ghost use Rattle.run_core.specs.History.{IsOrderly};
 ghost use Rattle.run_model.specs.Opening.{Opening};
-ghost use Rattle.run_queue.specs.Keeps.{IsRun};
+ghost use Rattle.run_queue.specs.Keeps.{IsRun, IsState};
 ghost use Rattle.run_queue.specs.Seen.{seen};
 ghost use Rattle.run_queue.specs.Turns.{IsCleanJob, IsGivenBy, RunsUnder, fates_of};
 ghost use Rattle.task_worker.specs.Jobs.{IsGiven};
 ghost use Rattle.run_workers.specs.Seats.{Adds, BreakAdds, ClaimAdds, EndAdds, HandsClean, HandsScript, HeardOn, ended_as, tale_of};
 ghost use Rattle.run_workers.specs.Since.{Kept};
+ghost use Rattle.run_workers.specs.Ended.{ClaimSays};
 ghost use Rattle.run_workers.specs.declared.shared.Told.{Told as Entry};
 
 use crate::began::Began;
@@ -118,6 +119,7 @@ impl<K: Began, D: Disk, W: Sink> Shared<K, D, W> {
     pub(crate) fn kept(&self)
         ensures since { Kept D.tells W.tells K.alike D.story W.written W.faults K.first K.faults K.gives self.now }
         ensures orderly { EachAfter (IsOrderly self.now.state.plan.tasks) self.now.state.tale }
+        ensures state { IsState (D.faults self.now.state.store.disk) self.now.state }
     {
         self.state.kept();
     }
@@ -128,6 +130,7 @@ impl<K: Began, D: Disk, W: Sink> Shared<K, D, W> {
         requires free { IsFree (fates_of self.old.state) number }
         ensures adds { (added : List Entry) × Adds number (tale_of self.old) (tale_of self.new) added
             × ClaimAdds number result added }
+        ensures says { ClaimSays K.first self.new.state.tale (IsSome self.new.state.fault) result }
         ensures script { HandsScript K.first.plan result }
         ensures clean { D.tells → K.alike → (o : Opening) → o.gives ≡ K.gives → IsRun o K.first
             → HandsClean o K.first result }
@@ -158,6 +161,7 @@ impl<K: Began, D: Disk, W: Sink> Shared<K, D, W> {
             → IsGivenBy o.gives job given × IsCleanJob o K.first job }
         ensures adds { (added : List Entry) × Adds number (tale_of self.old) (tale_of self.new) added
             × EndAdds number job.task given result added }
+        ensures stops { result ≡ Ok false → IsSome self.new.state.fault }
     {
         let ended = self.state.ended(alloc, number, job, given);
         self.state.kept();

@@ -1,6 +1,6 @@
 // One worker of a run.
 ghost use Rattle.std.specs.Prelude.{◌≡◌, ◌≤◌, [], List, None, Some, false, true};
-ghost use Rattle.outside_traits.specs.Fault.{Counts};
+ghost use Rattle.outside_traits.specs.Fault.{Counts, Rose};
 ghost use Rattle.run_model.specs.Opening.{Opening};
 ghost use Rattle.run_queue.specs.Keeps.{IsRun};
 ghost use Rattle.run_queue.specs.Turns.{IsCleanJob};
@@ -8,6 +8,7 @@ ghost use Rattle.turn_lock.specs.Seats.{view_of, IsFree, IsSeatOf};
 ghost use Rattle.run_workers.specs.Runs.{by_bench};
 ghost use Rattle.run_workers.specs.Seats.{HasUnprinted, Holds, HoldsNone, IsSameSeat};
 ghost use Rattle.run_workers.specs.Told.{logged_in};
+ghost use Rattle.run_workers.specs.Ended.{Ended, HaltsIn, WasFaulty, by_memory};
 ghost use Rattle.run_workers.specs.Worked.{BrokeOff, Closes, IsWorked, RanOnce, Worked};
 
 use crate::began::Began;
@@ -51,6 +52,8 @@ fn do_claimed<K: Began, D: Disk, B: Bench, W: Sink, R: Wait>(
     requires free { IsFree seat.old }
     requires holds { Holds job.task (view_of seat.old).number (view_of seat.old).own }
     requires unprinted { printed ≡ false → HasUnprinted (view_of seat.old).own }
+    requires faulty { printed ≡ false
+        → WasFaulty D.faults W.faults K.first K.faults (logged_in (view_of seat.old).seen) }
     requires gives { K.alike → B.tells × (B.gives bench.old ≡ K.gives) }
     requires clean { D.tells → K.alike → (o : Opening) → o.gives ≡ K.gives → IsRun o K.first
         → IsCleanJob o K.first job }
@@ -58,6 +61,8 @@ fn do_claimed<K: Began, D: Disk, B: Bench, W: Sink, R: Wait>(
     ensures free { IsFree seat.new }
     ensures same { IsSameSeat (view_of seat.old) (view_of seat.new) }
     ensures closes { Closes (view_of seat.old).number result (view_of seat.old).own (view_of seat.new).own }
+    ensures ends { HaltsIn K.first (WasFaulty D.faults W.faults K.first K.faults) result
+        (logged_in (view_of seat.new).seen) }
     ensures gives { B.gives bench.new ≡ B.gives bench.old }
     ensures ran { B.tells → RanOnce printed (BrokeOff job.task result (logged_in (view_of seat.new).own))
         (job.script, job.layout) (B.place bench.old).runs (B.place bench.new).runs }
@@ -108,6 +113,8 @@ fn turn<K: Began, D: Disk, B: Bench, W: Sink, R: Wait>(
         (view_of seat.old).number (view_of seat.old).own old bench.old
         → Worked D.tells B.tells K.alike B.place B.gives B.faults K.first K.gives result (view_of seat.old).number
         (view_of seat.new).own old bench.new }
+    ensures ends { HaltsIn K.first (WasFaulty D.faults W.faults K.first K.faults) result
+        (logged_in (view_of seat.new).seen) }
 {
     let heard = bell.heard(rt);
     match claim(rt, alloc, queue, seat) {
@@ -128,7 +135,18 @@ fn turn<K: Began, D: Disk, B: Bench, W: Sink, R: Wait>(
     }
 }
 
-/// Takes turns until there is nothing more to do for this worker, and then wakes all others: what ends it may end them.
+/// Whether a worker halts since memory was wanting.
+fn wants_memory(halt: Halt) -> bool
+    ensures { result ≡ by_memory halt }
+{
+    match halt {
+        Halt::Memory => true,
+        Halt::Finished | Halt::Stopped | Halt::Bench => false,
+    }
+}
+
+/// Takes turns until there is nothing more to do for this worker, and then wakes all others: what ends it may end them. It says whether memory
+/// was wanting to it.
 pub(crate) fn work<K: Began, D: Disk, B: Bench, W: Sink, R: Wait>(
     rt: &R,
     alloc: Global,
@@ -136,7 +154,7 @@ pub(crate) fn work<K: Began, D: Disk, B: Bench, W: Sink, R: Wait>(
     bell: &Bell,
     mut seat: RunSeat<K, D, W>,
     mut bench: B,
-) -> (RunSeat<K, D, W>, B)
+) -> (RunSeat<K, D, W>, B, bool)
     requires reach { 3600 ≤ D.reach }
     requires queue { IsSeatOf queue.now seat }
     requires free { IsFree seat }
@@ -147,11 +165,13 @@ pub(crate) fn work<K: Began, D: Disk, B: Bench, W: Sink, R: Wait>(
     ensures same { IsSameSeat (view_of seat) (view_of result.0) }
     ensures worked { IsWorked D.tells B.tells K.alike B.place B.gives B.faults K.first K.gives (view_of seat).number
         (view_of result.0).own bench result.1 }
+    ensures ended { Ended K.first (WasFaulty D.faults W.faults K.first K.faults) result.2
+        (Rose (B.faults bench) (B.faults result.1)) (logged_in (view_of result.0).seen) }
 {
     for _ in rt.forever() {
-        if turn(rt, alloc, queue, bell, &mut seat, &mut bench).is_some() {
+        if let Some(halt) = turn(rt, alloc, queue, bell, &mut seat, &mut bench) {
             bell.ring_for_all(rt);
-            return (seat, bench);
+            return (seat, bench, wants_memory(halt));
         }
     }
     unreachable!()

@@ -1,5 +1,5 @@
 // The workers of a run, each on its bench.
-ghost use Rattle.std.specs.Prelude.{◌≡◌, ◌≤◌, ◌<◌, ◌+◌, ◌++◌, ℕ, [], All, List, None, Some, length, take, vec_len, vec_capacity};
+ghost use Rattle.std.specs.Prelude.{◌≡◌, ◌≤◌, ◌<◌, ◌+◌, ◌++◌, ◌||◌, ℕ, [], All, List, None, Some, length, take, vec_len, vec_capacity};
 ghost use Rattle.std.specs.List.{slice_get};
 ghost use Rattle.std.specs.Thread.{IsSync};
 ghost use Rattle.outside_traits.specs.Fault.{Rose};
@@ -13,6 +13,8 @@ ghost use Rattle.turn_lock.specs.Seats.{view_of, IsFree, IsSeatOf};
 ghost use Rattle.run_workers.specs.Worked.{AllWorked, Breaks, HasBegun, IsJoined, RanPrinted};
 ghost use Rattle.run_model.specs.Seats.{RanStarted, own};
 ghost use Rattle.run_workers.specs.Left.{AllDid};
+ghost use Rattle.run_workers.specs.Ended.{AllEnded, WasFaulty};
+ghost use Rattle.run_workers.specs.Told.{logged_in};
 
 use crate::began::Began;
 use crate::bell::Bell;
@@ -26,8 +28,15 @@ use std::marker::Brand;
 use std::sync::Wait;
 use std::thread::{Threads, join};
 
+/// Whether memory was wanting to one of two.
+fn some_wants(one: bool, other: bool) -> bool
+    ensures { result ≡ (one || other) }
+{
+    one || other
+}
+
 /// Each bench has a worker, on a thread of its own but for one of them, with a seat that is split off this one. Then the seat takes the
-/// others in. The seat of the bench of number k, from 0, is k + 1.
+/// others in. The seat of the bench of number k, from 0, is k + 1. It says whether memory was wanting to one of them.
 fn spread<K, D, B, W, R>(
     rt: &R,
     alloc: Global,
@@ -35,7 +44,7 @@ fn spread<K, D, B, W, R>(
     bell: &Bell,
     mut seat: RunSeat<K, D, W>,
     mut benches: Vec<B>,
-) -> (RunSeat<K, D, W>, Vec<B>)
+) -> (RunSeat<K, D, W>, Vec<B>, bool)
 where
     K: Began + Send + Sync,
     D: Disk + Drop + Send,
@@ -52,22 +61,24 @@ where
     ensures joined { IsJoined (view_of result.0) }
     ensures worked { AllWorked D.tells B.tells K.alike B.place B.gives B.faults K.first K.gives 1 benches.items
         result.1.items (view_of result.0).others }
+    ensures ended { AllEnded K.first (WasFaulty D.faults W.faults K.first K.faults) B.faults result.2
+        (logged_in (view_of result.0).seen) benches.items result.1.items }
     ensures many { vec_len result.1 ≡ vec_len benches }
     ensures capacity { vec_capacity result.1 ≡ vec_capacity benches }
 {
     let Some(bench) = benches.pop() else {
-        return (seat, benches);
+        return (seat, benches, false);
     };
     let other = queue.split(&mut seat);
     if benches.is_empty() {
-        let (other, bench) = work(rt, alloc, queue, bell, other, bench);
+        let (other, bench, wanting) = work(rt, alloc, queue, bell, other, bench);
         queue.join(&mut seat, other);
         benches.push_reserved(bench);
-        return (seat, benches);
+        return (seat, benches, wanting);
     }
-    let ((mut seat, mut benches), (other, bench)) = join(
+    let ((mut seat, mut benches, others_want), (other, bench, wanting)) = join(
         rt,
-        move || -> (RunSeat<K, D, W>, Vec<B>)
+        move || -> (RunSeat<K, D, W>, Vec<B>, bool)
             requires sync { IsSync R.row }
             requires reach { 3600 ≤ D.reach }
             requires queue { IsSeatOf queue.now seat }
@@ -79,6 +90,8 @@ where
             ensures joined { IsJoined (view_of result.0) }
             ensures worked { AllWorked D.tells B.tells K.alike B.place B.gives B.faults K.first K.gives 1
                 benches.items result.1.items (view_of result.0).others }
+            ensures ended { AllEnded K.first (WasFaulty D.faults W.faults K.first K.faults) B.faults result.2
+                (logged_in (view_of result.0).seen) benches.items result.1.items }
             ensures many { vec_len result.1 ≡ vec_len benches }
             ensures capacity { vec_capacity result.1 ≡ vec_capacity benches }
         { spread(rt, alloc, queue, bell, seat, benches) },
@@ -86,16 +99,16 @@ where
     );
     queue.join(&mut seat, other);
     benches.push_reserved(bench);
-    (seat, benches)
+    (seat, benches, some_wants(others_want, wanting))
 }
 
-/// The same over a state, where contracts know by K how the run began. Want of memory leaves all as it is.
+/// The same over a state, where contracts know by K how the run began. Want of memory for the lock leaves all as it is, and is told.
 fn run_shared<K, D, B, W, R>(
     rt: &R,
     alloc: Global,
     state: RunState<D, W>,
     benches: Vec<B>,
-) -> (RunState<D, W>, Vec<B>)
+) -> (RunState<D, W>, Vec<B>, bool)
 where
     K: Began + Send + Sync,
     D: Disk + Drop + Send,
@@ -110,23 +123,26 @@ where
     requires gives { K.alike → B.tells × All (λ b. B.gives b ≡ K.gives) benches.items }
     ensures did { AllDid D.tells B.tells W.tells K.alike D.story B.place B.gives B.faults W.written W.faults K.first
         K.faults K.gives benches.items result.1.items result.0 }
+    ensures ended { AllEnded K.first (WasFaulty D.faults W.faults K.first K.faults) B.faults result.2 result.0.tale
+        benches.items result.1.items }
     ensures capacity { vec_capacity result.1 ≡ vec_capacity benches }
 {
     match start::<K, D, W>(alloc, state, benches.len() as u32 + 1) {
         Ok((queue, seat)) => {
             let bell = Bell::new();
-            let (seat, benches) = spread(rt, alloc, &queue, &bell, seat, benches);
-            (close(queue, seat), benches)
+            let (seat, benches, wanting) = spread(rt, alloc, &queue, &bell, seat, benches);
+            (close(queue, seat), benches, wanting)
         }
         Err(state) => {
             seat_laws();
-            (state, benches)
+            (state, benches, true)
         }
     }
 }
 
 /// Does the jobs of a run that has begun, by as many workers as there are benches, until nothing more may be done by them. The worker on the
-/// bench of number k, from 0, has the seat k + 1. The benches come back in their order. Want of memory for the lock leaves all as it is.
+/// bench of number k, from 0, has the seat k + 1. The benches come back in their order, and with them whether memory was wanting to a worker, or
+/// for the lock, which leaves all as it is.
 ///
 /// A worker returns where nothing is left to do, or nothing new may begin, and where memory was wanting or its bench failed; then it marks
 /// that the task in its hand broke, and nothing more. The others go on. So whoever calls this finishes what is left by itself.
@@ -135,7 +151,7 @@ pub fn run_workers<D, B, W, R>(
     alloc: Global,
     state: RunState<D, W>,
     benches: Vec<B>,
-) -> (RunState<D, W>, Vec<B>)
+) -> (RunState<D, W>, Vec<B>, bool)
 where
     D: Disk + Drop + Send,
     B: Bench + Drop + Send,
@@ -173,6 +189,11 @@ where
     ensures breaks { (k : ℕ) (old new : _) → slice_get benches.items k ≡ Some old
         → slice_get result.1.items k ≡ Some new → Breaks (Unit {0}) (Rose (B.faults old) (B.faults new))
         (own (k + 1) result.0.tale) }
+
+    // Each bench had a worker, which ended only for a cause.
+    ensures ended { AllEnded (seen D.story W.written state)
+        (WasFaulty D.faults W.faults (seen D.story W.written state) (W.faults state.sink)) B.faults result.2
+        result.0.tale benches.items result.1.items }
 
     // Each bench ran the tasks that its seat started, each over the clean outputs of what it needs. Only the last one may have no run, where
     // the last entry of its seat is that it broke off.

@@ -1,11 +1,13 @@
-use Rattle.std.proofs.Common.{◌∙◌, ap, subst, inl, ◌∷◌, [], ℕ, List, map}
+use Rattle.std.proofs.Common.{◌∙◌, sym, ap, subst, inl, ◌∷◌, [], ℕ, List, map, vec_len}
 use Rattle.meta_model.specs.declared.plan.Plan.{Plan}
 use Rattle.run_model.specs.Runs.{Runs}
+use Rattle.run_model.specs.Benches.{AtSeats, BreaksByFault}
 use Rattle.run_model.specs.Build.{RanPrinted, TellsDifference}
+use Rattle.run_model.specs.Seated.{HaveBenches}
 use Rattle.build_resume.proofs.Statuses.{wider_cause}
 use Rattle.bitbake_top.proofs.Begun.{all_of_one, certain_ample, certain_apart}
 use Rattle.bitbake_top.proofs.Devices.{none_rose, rose_from}
-use Rattle.bitbake_top.proofs.Kept.{as_entry, begun_broke, begun_keeps, one_behind}
+use Rattle.bitbake_top.proofs.Kept.{as_entry, begun_each, begun_keeps, one_behind}
 use Rattle.bitbake_top.proofs.Written.{begun_text, printed_one}
 use Rattle.bitbake_top.proofs.whole.run_ready.Goals as goal
 
@@ -32,11 +34,19 @@ returns-clause-begun g c = record {
   plans_are = one_behind c.args.room.plans.items c.push_reserved.new.self.items c.build-plan.result.plan c.requires.none.0 c.push_reserved.ensures.items ∙ ap (λ p. p ∷ []) c.build-plan.ensures.plan;
   tales_are = one_behind c.args.room.tales.items c.push_reserved-2.new.self.items c.from_vec.result c.requires.none.1 c.push_reserved-2.ensures.items ∙ ap (λ t. t ∷ []) c.from_vec.ensures;
   ends = c.build-plan.ensures.told;
+  seated = c.build-plan.ensures.seated;
 }
+
+pub returns-clause-benches : goal.returns-clause-benches
+returns-clause-benches g c =
+    let long = c.args.benches.ok.0 in
+    begun_each (HaveBenches (vec_len c.args.benches)) c.push_reserved-2.new.self.items c.build-plan.result.tale.items
+    (one_behind c.args.room.tales.items c.push_reserved-2.new.self.items c.from_vec.result c.requires.none.1 c.push_reserved-2.ensures.items ∙ ap (λ t. t ∷ []) c.from_vec.ensures)
+    (subst (λ n. HaveBenches n c.build-plan.result.tale.items) (sym long) c.build-plan.ensures.benches)
 
 pub returns-clause-broke : goal.returns-clause-broke
 returns-clause-broke g c =
-    begun_broke c.push_reserved-2.new.self.items c.build-plan.result.tale.items (map g.B.Bench.faults c.args.benches.items) (map g.B.Bench.faults c.build-plan.result.benches.items)
+    begun_each (λ tale. AtSeats (BreaksByFault tale) (map g.B.Bench.faults c.args.benches.items) (map g.B.Bench.faults c.build-plan.result.benches.items)) c.push_reserved-2.new.self.items c.build-plan.result.tale.items
     (one_behind c.args.room.tales.items c.push_reserved-2.new.self.items c.from_vec.result c.requires.none.1 c.push_reserved-2.ensures.items ∙ ap (λ t. t ∷ []) c.from_vec.ensures) c.build-plan.ensures.broke
 
 pub returns-clause-text : goal.returns-clause-text

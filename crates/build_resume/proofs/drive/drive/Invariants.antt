@@ -1,4 +1,4 @@
-use Rattle.std.proofs.Common.{◌≡◌, ℕ, List, None}
+use Rattle.std.proofs.Common.{◌≡◌, ℕ, List, IsSome, None}
 use Rattle.outside_traits.specs.Fault.{Counts}
 use Rattle.meta_model.specs.declared.event.Logged.{Logged}
 use Rattle.tale_model.specs.Fates.{NoneRuns}
@@ -8,7 +8,7 @@ use Rattle.run_queue.specs.Seen.{seen}
 use Rattle.run_queue.specs.Keeps.{IsRun, IsSteady, Prints}
 use Rattle.run_queue.specs.Turns.{SameRun, fates_of}
 use Rattle.run_model.specs.Runs.{Runs}
-use Rattle.build_resume.specs.Drive.{Drove, Grows, RanSaid, left_over}
+use Rattle.build_resume.specs.Drive.{Broken, Drove, Grows, RanSaid, left_over}
 use Rattle.build_resume.proofs.drive.drive.Given as goal
 
 abbrev pub invariant-loop-halt : goal.invariant-loop-halt
@@ -16,6 +16,7 @@ invariant-loop-halt g l = record {
   none : NoneRuns (fates_of l.state);
   same : SameRun l.fn.state l.state;
   grows : Grows None l.fn.state.tale l.state.tale;
+  broken : Broken (IsSome l.state.fault) l.fn.state.tale l.state.tale;
   sink : (before : ℕ) → Counts before (g.W.Sink.faults l.fn.state.sink) l.fn.state.sink_failed → Counts before (g.W.Sink.faults l.state.sink) l.state.sink_failed;
   text : g.W.Sink.tells → (base : List ℕ) → Prints base (g.W.Sink.written l.fn.state.sink) (tale_text l.fn.state.plan.tasks l.fn.state.tale) l.fn.state.sink_failed → Prints base (g.W.Sink.written l.state.sink) (tale_text l.fn.state.plan.tasks l.state.tale) l.state.sink_failed;
   printed : g.W.Sink.tells → g.B.Bench.tells → (from : List Logged) (base : List ℕ) (before : Runs) → RanSaid l.fn.state.plan None l.fn.state.fault from l.fn.state.tale before (g.B.Bench.place l.fn.bench).runs base (g.W.Sink.written l.fn.state.sink) → RanSaid l.fn.state.plan None l.state.fault from l.state.tale before (g.B.Bench.place l.bench).runs base (g.W.Sink.written l.state.sink);

@@ -8,9 +8,9 @@ use Rattle.run_queue.specs.Seen.{seen}
 use Rattle.run_model.specs.Report.{tale_text}
 use Rattle.meta_model.specs.declared.plan.Plan.{Plan}
 use Rattle.run_queue.specs.Keeps.{Prints}
-use Rattle.build_resume.proofs.Driving.{clean_run, drove_job, drove_none, grows_job, grows_none, grows_one}
-use Rattle.build_resume.proofs.Turning.{closed_less, closed_none, runs_here, settled_by, settled_calm, settled_less, settled_starts}
-use Rattle.build_resume.proofs.Halting.{clean_still, goes_or_halts, none_before, none_settled}
+use Rattle.build_resume.proofs.Driving.{broken_job, broken_none, broken_one, clean_run, drove_job, drove_none, grows_job, grows_none, grows_one}
+use Rattle.build_resume.proofs.Turning.{closed_less, closed_none, runs_here, settled_by, settled_calm, settled_less, settled_starts, settled_whole}
+use Rattle.build_resume.proofs.Halting.{clean_still, goes_or_halts, none_before, none_settled, unkept}
 use Rattle.build_resume.proofs.Seating.{alone_one}
 use Rattle.build_resume.proofs.Printing.{grew, said_halts, said_job, said_settled, said_whole}
 use Rattle.run_workers.specs.declared.worker.Halt.TheVariants as halts
@@ -161,3 +161,58 @@ returns-in-Ok-Stopped-clause-grows g c =
 
 pub returns-in-Err-clause-grows : goal.returns-in-Err-clause-grows
 returns-in-Err-clause-grows g c = grows_none (Some halts.Memory) c.args.state.now.tale c.claim.new.self.tale c.in-Err.ensures.claims
+
+pub returns-in-Ok-Run-clause-broken : goal.returns-in-Ok-Run-clause-broken
+returns-in-Ok-Run-clause-broken g c =
+    let claims : Claims 0 c.args.state.now c.claim.new.self (Ok c.in-Ok-Run.field-0) = c.in-Ok-Run.ensures.claims in
+    let begins : Begins 0 c.args.state.now.plan.tasks c.args.state.now.tale c.claim.new.self.tale c.in-Ok-Run.job = subst (λ x. Claims 0 c.args.state.now c.claim.new.self (Ok x)) c.in-Ok-Run.field-0-is claims in
+    broken_job c.do_claimed-halt.result c.do_claimed-halt.new.state.fault c.in-Ok-Run.job.task c.args.state.now.tale c.claim.new.self.tale c.do_claimed-halt.new.state.tale begins.marks c.do_claimed-halt.ensures.closes c.do_claimed-halt.ensures.stops
+
+pub returns-in-Ok-Settled-clause-broken : goal.returns-in-Ok-Settled-clause-broken
+returns-in-Ok-Settled-clause-broken g c =
+    let claims : Claims 0 c.args.state.now c.claim.new.self (Ok c.in-Ok-Settled.field-0) = c.in-Ok-Settled.ensures.claims in
+    let settles : Settles 0 c.in-Ok-Settled.field-0-0 c.args.state.now.tale c.claim.new.self.tale = subst (λ x. Claims 0 c.args.state.now c.claim.new.self (Ok x)) c.in-Ok-Settled.field-0-is claims in
+    let s = settled_by 0 c.in-Ok-Settled.field-0-0 c.args.state.now.tale c.claim.new.self.tale settles in
+    broken_one _ s.event c.args.state.now.tale c.claim.new.self.tale s.marks (settled_whole c.in-Ok-Settled.field-0-0 s.event s.which)
+
+pub returns-in-Ok-Finished-clause-broken : goal.returns-in-Ok-Finished-clause-broken
+returns-in-Ok-Finished-clause-broken g c =
+    let claims : Claims 0 c.args.state.now c.claim.new.self (Ok c.in-Ok-Finished.field-0) = c.in-Ok-Finished.ensures.claims in
+    let same : Claims 0 c.args.state.now c.claim.new.self (Ok claim.Finished) = subst (λ x. Claims 0 c.args.state.now c.claim.new.self (Ok x)) c.in-Ok-Finished.field-0-is claims in
+    broken_none _ c.args.state.now.tale c.claim.new.self.tale same.0
+
+pub returns-in-Ok-Stopped-clause-broken : goal.returns-in-Ok-Stopped-clause-broken
+returns-in-Ok-Stopped-clause-broken g c =
+    let claims : Claims 0 c.args.state.now c.claim.new.self (Ok c.in-Ok-Stopped.field-0) = c.in-Ok-Stopped.ensures.claims in
+    let same : Claims 0 c.args.state.now c.claim.new.self (Ok claim.Stopped) = subst (λ x. Claims 0 c.args.state.now c.claim.new.self (Ok x)) c.in-Ok-Stopped.field-0-is claims in
+    broken_none _ c.args.state.now.tale c.claim.new.self.tale same.0
+
+pub returns-in-Err-clause-broken : goal.returns-in-Err-clause-broken
+returns-in-Err-clause-broken g c = broken_none _ c.args.state.now.tale c.claim.new.self.tale c.in-Err.ensures.claims
+
+-- ---- where a fault is kept nothing is marked
+
+pub returns-in-Ok-Run-clause-rests : goal.returns-in-Ok-Run-clause-rests
+returns-in-Ok-Run-clause-rests g c some =
+    let stops : IsSome c.args.state.now.fault → ◌≡◌ {A = Result Claim Mem} (Ok c.in-Ok-Run.field-0) (Ok claim.Stopped) = c.in-Ok-Run.ensures.stops in
+    absurd (unkept c.args.state.now.fault (none_before c.args.state.now.fault c.in-Ok-Run.job (λ kept. ap (λ x. Ok x) (sym c.in-Ok-Run.field-0-is) ∙ stops kept)) some)
+
+pub returns-in-Ok-Settled-clause-rests : goal.returns-in-Ok-Settled-clause-rests
+returns-in-Ok-Settled-clause-rests g c some =
+    let stops : IsSome c.args.state.now.fault → ◌≡◌ {A = Result Claim Mem} (Ok c.in-Ok-Settled.field-0) (Ok claim.Stopped) = c.in-Ok-Settled.ensures.stops in
+    absurd (unkept c.args.state.now.fault (none_settled c.args.state.now.fault c.in-Ok-Settled.field-0-0 (λ kept. ap (λ x. Ok x) (sym c.in-Ok-Settled.field-0-is) ∙ stops kept)) some)
+
+pub returns-in-Ok-Finished-clause-rests : goal.returns-in-Ok-Finished-clause-rests
+returns-in-Ok-Finished-clause-rests g c some =
+    let claims : Claims 0 c.args.state.now c.claim.new.self (Ok c.in-Ok-Finished.field-0) = c.in-Ok-Finished.ensures.claims in
+    let same : Claims 0 c.args.state.now c.claim.new.self (Ok claim.Finished) = subst (λ x. Claims 0 c.args.state.now c.claim.new.self (Ok x)) c.in-Ok-Finished.field-0-is claims in
+    (same.0, refl)
+
+pub returns-in-Ok-Stopped-clause-rests : goal.returns-in-Ok-Stopped-clause-rests
+returns-in-Ok-Stopped-clause-rests g c some =
+    let claims : Claims 0 c.args.state.now c.claim.new.self (Ok c.in-Ok-Stopped.field-0) = c.in-Ok-Stopped.ensures.claims in
+    let same : Claims 0 c.args.state.now c.claim.new.self (Ok claim.Stopped) = subst (λ x. Claims 0 c.args.state.now c.claim.new.self (Ok x)) c.in-Ok-Stopped.field-0-is claims in
+    (same.0, refl)
+
+pub returns-in-Err-clause-rests : goal.returns-in-Err-clause-rests
+returns-in-Err-clause-rests g c some = (c.in-Err.ensures.claims, refl)

@@ -1,24 +1,23 @@
-use Rattle.std.proofs.Common.{◌≡◌, ◌∙◌, sym, ap, subst, refl, [], append-nil, List, map}
+use Rattle.std.proofs.Common.{◌≡◌, ◌∙◌, sym, ap, subst, refl, [], append-nil, length, List, map}
 use Rattle.outside_traits.specs.Fault.{Rose}
 use Rattle.meta_model.specs.declared.event.Status.TheVariants as status
 use Rattle.meta_model.specs.declared.plan.Options.{Options}
 use Rattle.meta_model.specs.declared.plan.Plan.{Plan}
-use Rattle.std.proofs.lemmas.Bool.{false≢true}
-use Rattle.run_model.specs.Causes.{fault_broke}
 use Rattle.run_queue.specs.Keeps.{IsFront}
 use Rattle.run_model.specs.Runs.{Runs}
 use Rattle.run_model.specs.Benches.{AtSeats, BreaksByFault, SomeRose, broken_at, started_by}
 use Rattle.run_model.specs.Build.{AllClean, DiffersOver, MayEndSo, RanJust, RanPrinted, RanStarted, TellsDifference, is_unsteady}
 use Rattle.build_resume.specs.Build.{WritesReport}
 use Rattle.build_resume.specs.Ends.{EndsBy}
-use Rattle.run_model.specs.Ends.{bench_broke, memory_broke}
 use Rattle.run_model.specs.Outcome.{EndsAs}
-use Rattle.build_resume.proofs.Begun.{just_nothing, ran_nothing}
+use Rattle.run_model.specs.Seated.{IsSeated}
+use Rattle.build_resume.proofs.Begun.{just_nothing, ran_nothing, unbegun_ends}
 use Rattle.build_resume.proofs.Benches.{broke_nothing, seats_same, some_mapped}
 use Rattle.build_resume.proofs.Built.{WasOpened, as_begun, built_complete, built_leaves, is_opening, may_run, opening, unbegun_leaves}
 use Rattle.build_resume.proofs.Printing.{grew, said_nothing}
 use Rattle.build_resume.proofs.Reports.{reports_as}
-use Rattle.build_resume.proofs.Statuses.{ended_exactly, memory_ends, nothing_differs, refused_differs, refused_ends, refused_never, refused_steady}
+use Rattle.build_resume.proofs.Statuses.{ended_exactly, memory_ends, nothing_differs, refused_bench, refused_differs, refused_ends, refused_never, refused_steady}
+use Rattle.build_resume.proofs.Working.{none_benches, none_seated}
 use Rattle.build_resume.proofs.running.build.Goals as goal
 
 pub returns-in-Ok-begin-clause-leaves : goal.returns-in-Ok-begin-clause-leaves
@@ -61,6 +60,9 @@ returns-in-Ok-begin-clause-told g c =
     subst (λ (p : Plan). EndsAs p c.args.options c.run_begun.result.tale.items c.run_begun.result.status) begun.plan_is
     (subst (λ (x : Options). EndsAs c.in-Ok-begin.state.plan x c.run_begun.result.tale.items c.run_begun.result.status) begun.options_are c.run_begun.ensures.ends)
 
+pub returns-in-Ok-begin-clause-seated : goal.returns-in-Ok-begin-clause-seated
+returns-in-Ok-begin-clause-seated g c = subst (λ (p : Plan). IsSeated p c.run_begun.result.tale.items) c.in-Ok-begin.ensures.begun.plan_is c.run_begun.ensures.seated
+
 pub returns-in-Ok-begin-clause-text : goal.returns-in-Ok-begin-clause-text
 returns-in-Ok-begin-clause-text g c heard =
     let begun = c.in-Ok-begin.ensures.begun in
@@ -84,15 +86,24 @@ returns-in-Err-begin-clause-leaves g c tells told gives all reading book entry =
     let runs : List Runs = map (λ b. (g.B.Bench.place b).runs) c.args.benches.items in
     let now : List Runs = map (λ b. (g.B.Bench.place b).runs) c.unbegun.result.benches.items in
     let tale = c.unbegun.result.tale.items in
-    let ends = memory_ends c.unbegun.result.status (c.unbegun.ensures.status ∙ c.end_wanting-status.ensures.ends) in
+    let status_is = c.unbegun.ensures.status ∙ c.end_wanting-status.ensures.ends in
+    let ends = memory_ends c.unbegun.result.status status_is in
+    let disk = ap g.D.Disk.story (c.unbegun.ensures.disk ∙ sym (ap (λ p. p.disk) c.in-Err-begin.field-0-is) ∙ c.in-Err-begin.ensures.refused.0) in
+    let ran = seats_same (RanStarted gives c.args.plan tale) runs now (some_mapped (λ b. (g.B.Bench.place b).runs) c.args.benches.items c.requires.bench) (ap (map (λ b. (g.B.Bench.place b).runs)) c.unbegun.ensures.benches) (ran_nothing gives c.args.plan tale c.unbegun.ensures.tale) in
     unbegun_leaves gives reading book c.args.plan c.args.options (g.D.Disk.story c.args.disk) (g.D.Disk.story c.in-Ok.store.disk) (g.D.Disk.story c.unbegun.result.disk) tale c.unbegun.result.status runs now (c.requires.fresh tells) entry (c.in-Ok.ensures.images tells)
-    (ap g.D.Disk.story (c.unbegun.ensures.disk ∙ sym (ap (λ p. p.disk) c.in-Err-begin.field-0-is) ∙ c.in-Err-begin.ensures.refused.0)) c.unbegun.ensures.tale ends.0 ends.1 (ap is_unsteady (c.unbegun.ensures.status ∙ c.end_wanting-status.ensures.ends))
-    (seats_same (RanStarted gives c.args.plan tale) runs now (some_mapped (λ b. (g.B.Bench.place b).runs) c.args.benches.items c.requires.bench) (ap (map (λ b. (g.B.Bench.place b).runs)) c.unbegun.ensures.benches) (ran_nothing gives c.args.plan tale c.unbegun.ensures.tale))
+    disk c.unbegun.ensures.tale ends.0 ends.1 (ap is_unsteady status_is) ran
 
 pub returns-in-Err-begin-clause-told : goal.returns-in-Err-begin-clause-told
 returns-in-Err-begin-clause-told g c =
-    let ends = (memory_ends c.unbegun.result.status (c.unbegun.ensures.status ∙ c.end_wanting-status.ensures.ends)) in
-    record { ok = λ e. absurd (ends.0 e); failed = λ e. absurd (ends.1 e); went_on = λ e. absurd (ends.1 e); unbroken = λ e. (ap bench_broke c.unbegun.ensures.tale, ap memory_broke c.unbegun.ensures.tale); by_fault = λ e. absurd (false≢true (sym (ap fault_broke c.unbegun.ensures.tale) ∙ e)) }
+    let status_is = c.unbegun.ensures.status ∙ c.end_wanting-status.ensures.ends in
+    let ends = memory_ends c.unbegun.result.status status_is in
+    unbegun_ends c.args.plan c.args.options c.unbegun.result.tale.items c.unbegun.result.status c.unbegun.ensures.tale ends.0 ends.1 (λ e. let n : status.OutOfMemory ≡ status.BenchFault = sym status_is ∙ e in cc)
+
+pub returns-in-Err-begin-clause-seated : goal.returns-in-Err-begin-clause-seated
+returns-in-Err-begin-clause-seated g c = none_seated c.args.plan c.unbegun.result.tale.items c.unbegun.ensures.tale
+
+pub returns-in-Err-begin-clause-benches : goal.returns-in-Err-begin-clause-benches
+returns-in-Err-begin-clause-benches g c = none_benches (length c.args.benches.items) c.unbegun.result.tale.items c.unbegun.ensures.tale
 
 pub returns-in-Err-begin-clause-broke : goal.returns-in-Err-begin-clause-broke
 returns-in-Err-begin-clause-broke g c =
@@ -120,18 +131,26 @@ returns-in-Err-clause-leaves g c tells told gives all reading book entry =
     let sink : Type 0 = Rose (g.W.Sink.faults c.args.sink) (g.W.Sink.faults c.tell_end-status.new.sink) in
     let by = subst (λ x. EndsBy sink x c.tell_end-status.result) c.status_of_store.ensures c.tell_end-status.ensures.ends in
     let ends = refused_ends sink c.in-Err.field-0.fault c.tell_end-status.result by c.in-Err.ensures.fault in
+    let same = sym c.unbegun-in-Err.ensures.status in
+    let disk = ap g.D.Disk.story (c.unbegun-in-Err.ensures.disk ∙ sym (ap (λ p. p.disk) c.in-Err.field-0-is)) in
+    let steady = ap is_unsteady c.unbegun-in-Err.ensures.status ∙ refused_steady sink c.in-Err.field-0.fault c.tell_end-status.result by c.in-Err.ensures.fault in
+    let ran = seats_same (RanStarted gives c.args.plan tale) runs now (some_mapped (λ b. (g.B.Bench.place b).runs) c.args.benches.items c.requires.bench) (ap (map (λ b. (g.B.Bench.place b).runs)) c.unbegun-in-Err.ensures.benches) (ran_nothing gives c.args.plan tale c.unbegun-in-Err.ensures.tale) in
     unbegun_leaves gives reading book c.args.plan c.args.options (g.D.Disk.story c.args.disk) (g.D.Disk.story c.in-Err.field-0.disk) (g.D.Disk.story c.unbegun-in-Err.result.disk) tale c.unbegun-in-Err.result.status runs now (c.requires.fresh tells) entry (c.in-Err.ensures.images tells)
-    (ap g.D.Disk.story (c.unbegun-in-Err.ensures.disk ∙ sym (ap (λ p. p.disk) c.in-Err.field-0-is))) c.unbegun-in-Err.ensures.tale (λ (e : c.unbegun-in-Err.result.status ≡ status.Ok). ends.0 (sym c.unbegun-in-Err.ensures.status ∙ e))
-    (λ (e : c.unbegun-in-Err.result.status ≡ status.TaskFailed). ends.1 (sym c.unbegun-in-Err.ensures.status ∙ e)) (ap is_unsteady c.unbegun-in-Err.ensures.status
-    ∙ refused_steady sink c.in-Err.field-0.fault c.tell_end-status.result by c.in-Err.ensures.fault)
-    (seats_same (RanStarted gives c.args.plan tale) runs now (some_mapped (λ b. (g.B.Bench.place b).runs) c.args.benches.items c.requires.bench) (ap (map (λ b. (g.B.Bench.place b).runs)) c.unbegun-in-Err.ensures.benches) (ran_nothing gives c.args.plan tale c.unbegun-in-Err.ensures.tale))
+    disk c.unbegun-in-Err.ensures.tale (λ e. ends.0 (same ∙ e)) (λ e. ends.1 (same ∙ e)) steady ran
+
+pub returns-in-Err-clause-seated : goal.returns-in-Err-clause-seated
+returns-in-Err-clause-seated g c = none_seated c.args.plan c.unbegun-in-Err.result.tale.items c.unbegun-in-Err.ensures.tale
+
+pub returns-in-Err-clause-benches : goal.returns-in-Err-clause-benches
+returns-in-Err-clause-benches g c = none_benches (length c.args.benches.items) c.unbegun-in-Err.result.tale.items c.unbegun-in-Err.ensures.tale
 
 pub returns-in-Err-clause-told : goal.returns-in-Err-clause-told
 returns-in-Err-clause-told g c =
     let sink : Type 0 = Rose (g.W.Sink.faults c.args.sink) (g.W.Sink.faults c.tell_end-status.new.sink) in
-    let ends = refused_ends sink c.in-Err.field-0.fault c.tell_end-status.result (subst (λ x. EndsBy sink x c.tell_end-status.result) c.status_of_store.ensures c.tell_end-status.ensures.ends) c.in-Err.ensures.fault in
-    let failed = λ (e : c.unbegun-in-Err.result.status ≡ status.TaskFailed). ends.1 (sym c.unbegun-in-Err.ensures.status ∙ e) in
-    record { ok = λ e. absurd (ends.0 (sym c.unbegun-in-Err.ensures.status ∙ e)); failed = λ e. absurd (failed e); went_on = λ e. absurd (failed e); unbroken = λ e. (ap bench_broke c.unbegun-in-Err.ensures.tale, ap memory_broke c.unbegun-in-Err.ensures.tale); by_fault = λ e. absurd (false≢true (sym (ap fault_broke c.unbegun-in-Err.ensures.tale) ∙ e)) }
+    let by = subst (λ x. EndsBy sink x c.tell_end-status.result) c.status_of_store.ensures c.tell_end-status.ensures.ends in
+    let ends = refused_ends sink c.in-Err.field-0.fault c.tell_end-status.result by c.in-Err.ensures.fault in
+    let same = sym c.unbegun-in-Err.ensures.status in
+    unbegun_ends c.args.plan c.args.options c.unbegun-in-Err.result.tale.items c.unbegun-in-Err.result.status c.unbegun-in-Err.ensures.tale (λ e. ends.0 (same ∙ e)) (λ e. ends.1 (same ∙ e)) (λ e. refused_bench sink c.in-Err.field-0.fault c.tell_end-status.result by (same ∙ e))
 
 pub returns-in-Err-clause-broke : goal.returns-in-Err-clause-broke
 returns-in-Err-clause-broke g c =

@@ -30,7 +30,7 @@ returns-clause-ends g c =
 
 pub returns-clause-went : goal.returns-clause-went
 returns-clause-went g c =
-    went_on c.drive-halt.result c.args.state.tale c.drive-halt.new.state.tale c.conclude.result.tale.items (g.B.Bench.faults c.args.last.now) (g.B.Bench.faults c.drive-halt.new.bench) (c.conclude.ensures.tale ∙ c.into_parts-parts.ensures.tale) c.drive-halt.ensures.grows c.drive-halt.ensures.cause
+    went_on c.drive-halt.result c.args.state.tale c.drive-halt.new.state.tale c.conclude.result.tale.items (g.B.Bench.faults c.args.last.now) (g.B.Bench.faults c.drive-halt.new.bench) (c.conclude.ensures.tale ∙ c.into_parts-parts.ensures.tale) c.drive-halt.ensures.grows c.drive-halt.ensures.broken c.drive-halt.ensures.cause
 
 pub returns-clause-text : goal.returns-clause-text
 returns-clause-text g c heard base before first counts =

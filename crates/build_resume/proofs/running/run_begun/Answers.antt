@@ -3,11 +3,13 @@ use Rattle.std.proofs.lemmas.List.{length-map}
 use Rattle.outside_traits.specs.Bench.{Gives}
 use Rattle.outside_traits.specs.Fault.{Rose}
 use Rattle.meta_model.specs.declared.plan.Plan.{Plan}
+use Rattle.tale_model.specs.Fates.{NoneRuns, fates_told}
 use Rattle.run_model.specs.Report.{tale_text}
 use Rattle.run_queue.specs.Keeps.{Prints}
 use Rattle.run_queue.proofs.Steady.{steady_none}
 use Rattle.run_model.specs.Runs.{Runs}
 use Rattle.run_model.specs.Benches.{AtSeats, BreaksByFault, SomeRose, broken_at, started_by}
+use Rattle.run_model.specs.Seated.{HaveBenches}
 use Rattle.build_resume.specs.Benches.{SomeBreak}
 use Rattle.run_model.specs.Build.{RanJust, RanStarted, TellsDifference}
 use Rattle.build_resume.specs.Build.{WritesReport}
@@ -17,7 +19,7 @@ use Rattle.build_resume.proofs.Benches.{at_seats, broke_before, broke_behind, br
 use Rattle.build_resume.proofs.Printing.{said_first}
 use Rattle.build_resume.proofs.Reports.{counts_first, prints_first}
 use Rattle.build_resume.proofs.Statuses.{wider_cause}
-use Rattle.build_resume.proofs.Working.{break_seat}
+use Rattle.build_resume.proofs.Working.{break_seat, have_benches, left_on}
 use Rattle.build_resume.proofs.running.run_begun.Goals as goal
 
 pub returns-clause-plan : goal.returns-clause-plan
@@ -25,6 +27,26 @@ returns-clause-plan g c = c.finish-plan.ensures.plan ∙ c.with_workers-state.en
 
 pub returns-clause-ends : goal.returns-clause-ends
 returns-clause-ends g c = ends_still c.args.state c.with_workers-state.result.0 c.finish-plan.result.tale.items c.finish-plan.result.status c.with_workers-state.ensures.same c.finish-plan.ensures.ends
+
+pub returns-clause-seated : goal.returns-clause-seated
+returns-clause-seated g c =
+    let mid = c.with_workers-state.result.0 in
+    let went = c.finish-plan.ensures.went in record {
+      front = mid.tale;
+      back = went.more;
+      cut = went.is;
+      workers = c.with_workers-state.ensures.threads;
+      rests = subst (λ (p : Plan). NoneRuns (fates_told (length p.tasks) mid.tale)) c.with_workers-state.ensures.same.plan c.with_workers-state.ensures.none;
+      alone = went.alone.seats;
+      left = left_on (length c.take_last-last.new.benches.items) mid.tale went.more c.finish-plan.result.tale.items went.is went.alone c.with_workers-state.ensures.wide c.with_workers-state.ensures.left went.left;
+    }
+
+pub returns-clause-benches : goal.returns-clause-benches
+returns-clause-benches g c =
+    let went = c.finish-plan.ensures.went in
+    let rest = c.take_last-last.new.benches.items in
+    let long : length c.args.benches.items ≡ length rest + 1 = ap length c.take_last-last.ensures.items ∙ length-append rest (c.take_last-last.result ∷ []) in
+    subst (λ n. HaveBenches n c.finish-plan.result.tale.items) (sym long) (have_benches (length rest) c.with_workers-state.result.0.tale went.more c.finish-plan.result.tale.items went.is went.alone c.with_workers-state.ensures.wide)
 
 pub returns-clause-text : goal.returns-clause-text
 returns-clause-text g c heard =

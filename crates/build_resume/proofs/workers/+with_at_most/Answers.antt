@@ -10,7 +10,10 @@ use Rattle.run_model.specs.Build.{RanJust, RanStarted}
 use Rattle.build_resume.proofs.Begun.{just_nothing, ran_nothing}
 use Rattle.build_resume.proofs.Benches.{others_have, workers_same}
 use Rattle.build_resume.proofs.Reports.{prints_first}
-use Rattle.build_resume.proofs.Working.{broke_by, calm_behind, has_seats, ran_behind, said_by_workers, said_pushed, seats_wider, workers_pushed}
+use Rattle.build_resume.proofs.Working.{broke_by, calm_behind, has_seats, no_seats, ran_behind, said_by_workers, said_pushed, seats_wider, workers_pushed}
+use Rattle.run_queue.specs.Seen.{seen}
+use Rattle.run_workers.specs.Ended.{WasFaulty}
+use Rattle.build_resume.proofs.Working.{ended_none, ended_pushed, ended_whole, left_none, left_workers}
 use Rattle.build_resume.proofs.workers.+with_at_most.Goals as goal
 
 -- ---- there is no bench
@@ -34,7 +37,33 @@ returns-then-is_empty-clause-run g t c tells told gives all o same run =
     let state = c.args.state in
     (run, workers_same (λ s a b. RanStarted gives state.plan state.tale s (g.B.Bench.place a).runs (g.B.Bench.place b).runs) c.args.benches.items c.args.benches.items refl (λ s a. ran_nothing gives state.plan state.tale c.requires.none s (g.B.Bench.place a).runs))
 
+pub returns-then-is_empty-clause-threads : goal.returns-then-is_empty-clause-threads
+returns-then-is_empty-clause-threads g t c = no_seats c.args.workers c.args.state.tale c.requires.none
+
+pub returns-then-is_empty-clause-ended : goal.returns-then-is_empty-clause-ended
+returns-then-is_empty-clause-ended g t c =
+    let first = seen g.D.Disk.story g.W.Sink.written c.args.state in
+    ended_none first (WasFaulty g.D.Disk.faults g.W.Sink.faults first (g.W.Sink.faults c.args.state.sink)) g.B.Bench.faults false c.args.state.tale c.args.workers c.args.benches.items c.args.benches.items ?
+
+pub returns-then-is_empty-clause-left : goal.returns-then-is_empty-clause-left
+returns-then-is_empty-clause-left g t c = left_none c.args.state.tale c.requires.none
+
 -- ---- each bench has a worker
+
+pub returns-then-len-workers-clause-left : goal.returns-then-len-workers-clause-left
+returns-then-len-workers-clause-left g t c =
+    let now = c.run_workers-state in
+    left_workers g.B.Bench.faults c.args.benches.items now.result.1.items now.result.0.tale now.ensures.benches (has_seats (length c.args.benches.items) now.result.0.tale now.ensures.seats) now.ensures.breaks
+
+pub returns-then-len-workers-clause-ended : goal.returns-then-len-workers-clause-ended
+returns-then-len-workers-clause-ended g t c =
+    let first = seen g.D.Disk.story g.W.Sink.written c.args.state in
+    let now = c.run_workers-state in
+    ended_whole first (WasFaulty g.D.Disk.faults g.W.Sink.faults first (g.W.Sink.faults c.args.state.sink)) g.B.Bench.faults now.result.2 now.result.0.tale c.args.workers c.args.benches.items now.result.1.items ? now.ensures.benches now.ensures.ended
+
+pub returns-then-len-workers-clause-threads : goal.returns-then-len-workers-clause-threads
+returns-then-len-workers-clause-threads g t c =
+    seats_wider (length c.args.benches.items) c.args.workers c.run_workers-state.result.0.tale (let long = c.args.benches.ok.0 in let few = c.then-len-workers in let len = c.len.ensures in ?) (has_seats (length c.args.benches.items) c.run_workers-state.result.0.tale c.run_workers-state.ensures.seats)
 
 pub returns-then-len-workers-clause-seats : goal.returns-then-len-workers-clause-seats
 returns-then-len-workers-clause-seats g t c = has_seats (length c.args.benches.items) c.run_workers-state.result.0.tale c.run_workers-state.ensures.seats
@@ -114,3 +143,11 @@ returns-clause-run g t c tells told gives all o same run =
 pub returns-clause-steady : goal.returns-clause-steady
 returns-clause-steady g t c tells told gives all o same run held =
     c.with_at_most-state.ensures.steady tells told gives (others_have (λ b. g.B.Bench.gives b ≡ gives) c.args.benches.items c.take_last-bench.new.benches.items c.take_last-bench.result c.take_last-bench.ensures.items all) o same run held
+
+pub returns-clause-ended : goal.returns-clause-ended
+returns-clause-ended g t c =
+    let first = seen g.D.Disk.story g.W.Sink.written c.args.state in
+    let now = c.with_at_most-state in
+    let rest = c.take_last-bench.new.benches.items in
+    ended_pushed first (WasFaulty g.D.Disk.faults g.W.Sink.faults first (g.W.Sink.faults c.args.state.sink)) g.B.Bench.faults now.result.2 now.result.0.tale c.args.workers rest now.result.1.items c.args.benches.items c.push_reserved.new.self.items c.take_last-bench.result
+    c.take_last-bench.ensures.items c.push_reserved.ensures.items now.ensures.broke.long ? now.ensures.ended

@@ -1,4 +1,5 @@
 use Rattle.std.proofs.Common.{◌≡◌, ◌↔◌, ℕ, Some, sym, subst, ap, ◌∙◌}
+use Rattle.std.specs.Prelude.{IsSome}
 use Rattle.meta_model.specs.declared.event.Event.TheVariants as events
 use Rattle.tale_model.specs.declared.fate.Fate.TheVariants.{Running}
 use Rattle.tale_model.specs.Fates.{fate_at, IsFree}
@@ -8,6 +9,10 @@ use Rattle.turn_lock.specs.declared.rule.Stage.TheVariants.{Holding}
 use Rattle.turn_lock.specs.Seats.{view_of}
 use Rattle.turn_lock.specs.Views.{tale_out}
 use Rattle.run_workers.specs.Seats.{ClaimAdds, tale_of}
+use Rattle.run_workers.specs.Ended.{WasFaulty}
+use Rattle.run_workers.specs.Told.{logged_in}
+use Rattle.run_workers.proofs.Ending.{says_on, was_faulty}
+use Rattle.run_workers.proofs.Telling.{logged_told}
 use Rattle.run_workers.proofs.Turning.{free_by_own, own_of, turned}
 use Rattle.run_workers.proofs.queue.claim.Goals as goal
 
@@ -33,3 +38,11 @@ returns-clause-claims g c =
       subst (λ n. ClaimAdds n c.claim-claim.result a.0) (c.number.ensures ∙ ap (λ x. x.number) turn.1) a.2,
       turned v (view_of c.begin-story.new.seat) (view_of c.end.new.seat) turn.0 (tale_of c.begin-story.result) (tale_of c.claim-claim.new.self) a.0 c.begin-story.ensures.seen turn.1 a.1.is c.end.ensures.seat,
     )
+
+pub returns-clause-says : goal.returns-clause-says
+returns-clause-says g c =
+    let s = c.claim-claim.new.self in
+    let seen = (view_of c.end.new.seat).seen in
+    let is : seen ≡ tale_of s = ap (λ x. x.seen) c.end.ensures.seat in
+    says_on g.K.Began.first s.state.tale (logged_in seen) (IsSome s.state.fault) (WasFaulty g.D.Disk.faults g.W.Sink.faults g.K.Began.first g.K.Began.faults (logged_in seen)) c.claim-claim.result (sym (ap logged_in is ∙ logged_told s.state.tale s.printed))
+    (was_faulty g.D.Disk.tells g.W.Sink.tells g.K.Began.alike g.D.Disk.story g.W.Sink.written g.D.Disk.faults g.W.Sink.faults g.K.Began.first g.K.Began.faults g.K.Began.gives s seen c.kept-2.ensures.since c.kept-2.ensures.state is) c.claim-claim.ensures.says

@@ -8,6 +8,7 @@ use Rattle.turn_lock.specs.declared.rule.Stage.TheVariants.{Holding}
 use Rattle.turn_lock.specs.Seats.{view_of}
 use Rattle.turn_lock.specs.Views.{tale_out}
 use Rattle.run_workers.specs.Seats.{EndAdds, tale_of}
+use Rattle.run_workers.proofs.Ending.{was_faulty}
 use Rattle.run_workers.proofs.Turning.{runs_by_own, own_of, turned}
 use Rattle.run_workers.proofs.queue.ended.Goals as goal
 
@@ -33,3 +34,10 @@ returns-clause-ends g c =
       subst (λ n. EndAdds n c.args.job.task c.args.given c.ended-ended.result a.0) (c.number.ensures ∙ ap (λ x. x.number) turn.1) a.2,
       turned v (view_of c.begin-story.new.seat) (view_of c.end.new.seat) turn.0 (tale_of c.begin-story.result) (tale_of c.ended-ended.new.self) a.0 c.begin-story.ensures.seen turn.1 a.1.is c.end.ensures.seat,
     )
+
+pub returns-clause-stops : goal.returns-clause-stops
+returns-clause-stops g c false =
+    let s = c.ended-ended.new.self in
+    let seen = (view_of c.end.new.seat).seen in
+    let is : seen ≡ tale_of s = ap (λ x. x.seen) c.end.ensures.seat in
+    was_faulty g.D.Disk.tells g.W.Sink.tells g.K.Began.alike g.D.Disk.story g.W.Sink.written g.D.Disk.faults g.W.Sink.faults g.K.Began.first g.K.Began.faults g.K.Began.gives s seen c.kept-2.ensures.since c.kept-2.ensures.state is (c.ended-ended.ensures.stops false)

@@ -5,7 +5,10 @@ use Rattle.turn_lock.specs.Seats.{view_of}
 use Rattle.run_workers.specs.declared.shared.Told.{Told}
 use Rattle.run_workers.specs.declared.worker.Halt.TheVariants as halts
 use Rattle.run_workers.specs.Seats.{AddsBy, Entry, HasUnprinted, IsCleanClaim, IsScripted}
+use Rattle.run_workers.specs.Ended.{SaysWhy, WasFaulty}
+use Rattle.run_workers.specs.Told.{logged_in}
 use Rattle.run_workers.specs.Worked.{Closes, Worked}
+use Rattle.run_workers.proofs.Ending.{halts_now}
 use Rattle.run_workers.proofs.Working.{quiet_settled, worked_job, worked_on}
 use Rattle.run_workers.proofs.Unprinted.{unprinted_here}
 use Rattle.run_workers.proofs.worker.turn.Goals as goal
@@ -63,3 +66,21 @@ returns-in-Err-clause-worked g c old w =
     let claims = c.in-Err.ensures.claims in
     subst (λ (l : List Told). Worked g.D.Disk.tells g.B.Bench.tells g.K.Began.alike g.B.Bench.place g.B.Bench.gives g.B.Bench.faults g.K.Began.first g.K.Began.gives (Some halts.Memory) v.number l old c.args.bench.now) (sym claims.2.mine)
     (worked_on g.D.Disk.tells g.B.Bench.tells g.K.Began.alike g.B.Bench.place g.B.Bench.gives g.B.Bench.faults g.K.Began.first g.K.Began.gives v.number v.own old c.args.bench.now w (Some halts.Memory) claims.0 refl (inl claims.1))
+
+pub do_claimed-requires-clause-faulty : goal.do_claimed-requires-clause-faulty
+do_claimed-requires-clause-faulty g c = c.in-Ok.ensures.says.1
+
+pub returns-in-Finished-clause-ends : goal.returns-in-Finished-clause-ends
+returns-in-Finished-clause-ends g c =
+    let faulty = WasFaulty g.D.Disk.faults g.W.Sink.faults g.K.Began.first g.K.Began.faults in
+    let tale = logged_in (view_of c.claim.new.seat).seen in
+    halts_now g.K.Began.first faulty halts.Finished tale (subst (λ (x : Claim). SaysWhy g.K.Began.first tale (faulty tale) x) c.in-Finished.is c.in-Ok.ensures.says.0)
+
+pub returns-in-Stopped-clause-ends : goal.returns-in-Stopped-clause-ends
+returns-in-Stopped-clause-ends g c =
+    let faulty = WasFaulty g.D.Disk.faults g.W.Sink.faults g.K.Began.first g.K.Began.faults in
+    let tale = logged_in (view_of c.claim.new.seat).seen in
+    halts_now g.K.Began.first faulty halts.Stopped tale (subst (λ (x : Claim). SaysWhy g.K.Began.first tale (faulty tale) x) c.in-Stopped.is c.in-Ok.ensures.says.0)
+
+pub returns-in-Err-clause-ends : goal.returns-in-Err-clause-ends
+returns-in-Err-clause-ends g c = halts_now g.K.Began.first (WasFaulty g.D.Disk.faults g.W.Sink.faults g.K.Began.first g.K.Began.faults) halts.Memory (logged_in (view_of c.claim.new.seat).seen) tt

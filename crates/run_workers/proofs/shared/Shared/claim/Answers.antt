@@ -1,13 +1,15 @@
 use Rattle.std.proofs.Common.{◌++◌, sym, refl, subst, ap, ◌∙◌, map}
 use Rattle.std.proofs.lemmas.Result.{err_from_is_err_and}
 use Rattle.run_queue.specs.Seen.{seen}
-use Rattle.std.specs.Prelude.{Result, Ok, Err}
+use Rattle.std.specs.Prelude.{IsSome, Result, Ok, Err, length}
+use Rattle.run_workers.specs.Ended.{ClaimSays}
 use Rattle.tree_model.specs.declared.text.Mem.{Mem}
 use Rattle.run_queue.specs.declared.state.Claim.{Claim}
 use Rattle.run_workers.specs.declared.shared.Claimed.{Claimed}
 use Rattle.run_queue.specs.Turns.{Claims, ClaimsClean}
 use Rattle.run_workers.specs.Seats.{ClaimAdds, tale_of}
 use Rattle.run_workers.specs.Told.{tell}
+use Rattle.run_workers.proofs.Ending.{says_why, unheard_faulty}
 use Rattle.run_workers.proofs.Sinces.{grows, kept_turn, since_turn}
 use Rattle.run_workers.proofs.Handing.{adds_by, hands, marked_by}
 use Rattle.run_workers.proofs.shared.Shared.claim.Goals as goal
@@ -57,6 +59,23 @@ returns-in_err-claim-clause-adds g c =
       },
       subst (λ (r : Result Claimed Mem). ClaimAdds c.args.number r added) (sym answer.1) refl,
     )
+
+pub returns-clause-says : goal.returns-clause-says
+returns-clause-says g c =
+    let e = c.claim-claim.ensures in
+    let old = c.self.inside.state in
+    let new = c.claim-claim.new.self in
+    let since = c.self.invariant.since in
+    let claims : Claims c.args.number old new (Ok c.in_ok-claim.field-0) = subst (λ (r : Result Claim Mem). Claims c.args.number old new r) c.in_ok-claim.was e.claims in (
+      says_why c.args.number old new g.K.Began.first since.plan since.options c.in_ok-claim.field-0 claims,
+      unheard_faulty old.fault new.fault (length new.tale) c.self.inside.printed c.heard_on-printed.result.0 c.self.inside.whole c.heard_on-printed.result.1 c.heard_on-printed.ensures c.self.invariant.faulty (λ some. (e.rests some).1),
+    )
+
+pub returns-in_err-claim-clause-says : goal.returns-in_err-claim-clause-says
+returns-in_err-claim-clause-says g c =
+    let new = c.claim-claim.new.self in
+    let answer = err_from_is_err_and c.from_residual.result c.from_residual.ensures.1 in
+    subst (λ (r : Result Claimed Mem). ClaimSays g.K.Began.first new.tale (IsSome new.fault) r) (sym answer.1) tt
 
 pub returns-clause-clean : goal.returns-clause-clean
 returns-clause-clean g c t u o is run =

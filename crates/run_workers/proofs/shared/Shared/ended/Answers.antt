@@ -6,6 +6,7 @@ use Rattle.tree_model.specs.declared.text.Mem.{Mem}
 use Rattle.run_queue.specs.Turns.{IsCleanJob}
 use Rattle.run_workers.specs.Seats.{EndAdds, tale_of}
 use Rattle.run_workers.specs.Told.{tell}
+use Rattle.run_workers.proofs.Ending.{ended_stops}
 use Rattle.run_workers.proofs.Sinces.{grows, kept_turn, since_turn}
 use Rattle.run_workers.proofs.Handing.{clean_job, ended_adds, marked_ended}
 use Rattle.run_workers.proofs.shared.Shared.ended.Goals as goal
@@ -40,4 +41,5 @@ returns g c =
         },
         subst (λ (r : Result Bool Mem). EndAdds c.args.number c.args.job.task c.args.given r added) (sym c.goes_on.ensures) (ended_adds c.args.number c.args.job.task c.args.given old new still c.has_fault.result answer c.has_fault.ensures e.ends),
       );
+      stops = λ is. ended_stops answer c.has_fault.result new.fault c.has_fault.ensures (sym c.goes_on.ensures ∙ is);
     }

@@ -1,0 +1,141 @@
+-- Why workers came to an end, told of longer tales and of more benches.
+use Rattle.std.proofs.Common.{◌≡◌, ◌∙◌, sym, ap, subst, refl, arith, ℕ, zero, suc, Bool, true, false, List, [], ◌∷◌, ◌++◌, length, append_assoc, append-nil, Some, None, Ok, Err, inl, inr}
+use Rattle.std.specs.Prelude.{◌⊎◌, IsSome, MatchBool, Option, Result, ◌||◌}
+use Rattle.std.specs.List.{slice_get}
+use Rattle.std.proofs.lemmas.Bool.{false≢true}
+use Rattle.outside_traits.specs.Fault.{Counts, Rose}
+use Rattle.outside_traits.specs.Story.{Story}
+use Rattle.tree_model.specs.declared.text.Mem.{Mem}
+use Rattle.meta_model.specs.CleanBuild.{Gives}
+use Rattle.meta_model.specs.declared.event.Logged.{Logged}
+use Rattle.meta_model.specs.declared.plan.Options.{Options}
+use Rattle.meta_model.specs.declared.plan.Plan.{Plan}
+use Rattle.tale_model.specs.Fates.{HoldsFailure, fates_told}
+use Rattle.run_model.specs.Outcome.{IsAtEnd}
+use Rattle.run_queue.specs.Keeps.{IsState}
+use Rattle.run_queue.specs.Seen.{RunView, Seen}
+use Rattle.run_queue.specs.Turns.{Claims}
+use Rattle.run_queue.specs.declared.fault.RunFault.{RunFault}
+use Rattle.run_queue.specs.declared.state.Claim.{Claim}
+use Rattle.run_queue.specs.declared.state.Claim.TheVariants as claim
+use Rattle.turn_lock.specs.Views.{Begins}
+use Rattle.run_workers.specs.Ended.{AllEnded, ClaimSays, Ended, HaltsBy, HaltsIn, IsStopped, SaysWhy, WasFaulty, by_memory}
+use Rattle.run_workers.specs.Seats.{HeardOn, ended_as}
+use Rattle.run_workers.specs.Since.{Kept, SharedView}
+use Rattle.run_workers.specs.Told.{logged_in, told}
+use Rattle.run_workers.specs.declared.shared.Claimed.{Claimed}
+use Rattle.run_workers.specs.declared.shared.Told.{Told}
+use Rattle.run_workers.specs.declared.worker.Halt.{Halt}
+use Rattle.run_workers.specs.declared.worker.Halt.TheVariants as halts
+use Rattle.run_workers.proofs.Telling.{logged_split, logged_told}
+
+-- ---- what a claim says
+
+module _ {D W : Type 0} (n : ℕ) (old new : RunView D W) (first : Seen) (same_plan : old.plan ≡ first.plan) (same_options : old.options ≡ first.options) where
+  stopped_first : (tale : List Logged) → HoldsFailure (fates_told (length old.plan.tasks) tale) → old.options.keep_going ≡ false → IsStopped first tale
+  stopped_first tale failed ends = (subst (λ (p : Plan). HoldsFailure (fates_told (length p.tasks) tale)) same_plan failed, ap (λ (x : Options). x.keep_going) (sym same_options) ∙ ends)
+
+  pub says_why : (c : Claim) → Claims n old new (Ok c) → SaysWhy first new.tale (IsSome new.fault) c
+  says_why (claim.Run job) h = tt
+  says_why (claim.Settled t) h = tt
+  says_why claim.Wait h = tt
+  says_why claim.Finished h =
+      subst (λ (l : List Logged). IsAtEnd first.plan first.options l) (sym h.0) (subst (λ (x : Options). IsAtEnd first.plan x old.tale) same_options (subst (λ (p : Plan). IsAtEnd p old.options old.tale) same_plan h.1))
+  says_why claim.Stopped h = elim h.1 [
+    | inl failed ↦ inl (subst (IsStopped first) (sym h.0) (stopped_first old.tale failed.0 failed.1))
+    | inr fault ↦ inr fault
+  ]
+
+-- the same over another tale, and of another fault
+pub says_on : (first : Seen) (tale other : List Logged) (faulty more : Type 0) (r : Result Claimed Mem) → tale ≡ other → (faulty → more) → ClaimSays first tale faulty r → ClaimSays first other more r
+says_on first tale other faulty more (Ok c) same goes h = (why c.claim h.0, λ unheard. goes (h.1 unheard))
+  where
+    why : (x : Claim) → SaysWhy first tale faulty x → SaysWhy first other more x
+    why (claim.Run job) w = tt
+    why (claim.Settled t) w = tt
+    why claim.Wait w = tt
+    why claim.Finished w = subst (λ (l : List Logged). IsAtEnd first.plan first.options l) same w
+    why claim.Stopped (inl stopped) = inl (subst (IsStopped first) same stopped)
+    why claim.Stopped (inr fault) = inr (goes fault)
+says_on first tale other faulty more (Err e) same goes h = tt
+
+-- where not all had been printed behind a turn, a fault is kept
+pub unheard_faulty : (was now : Option RunFault) (events printed later : ℕ) (whole still : Bool) → HeardOn now events printed whole later still → (whole ≡ false → IsSome was) → (IsSome was → now ≡ was) → still ≡ false → IsSome now
+unheard_faulty was now events printed later whole still h faulty rests unheard = elim (h.stops unheard) [
+  | inl before ↦ subst (λ (f : Option RunFault). IsSome f) (sym (rests (faulty before))) (faulty before)
+  | inr here ↦ here
+]
+
+-- a job that came to an end where a fault is kept
+pub ended_stops : (r : Result (Unit {0}) Mem) (faulty : Bool) (kept : Option RunFault) → MatchBool faulty (IsSome kept) (kept ≡ None) → ended_as r faulty ≡ Ok false → IsSome kept
+ended_stops (Ok u) true kept m is = m
+ended_stops (Ok u) false kept m is = absurd (let n : ◌≡◌ {A = Result Bool Mem} (Ok true) (Ok false) = is in cc)
+ended_stops (Err e) faulty kept m is = absurd (let n : ◌≡◌ {A = Result Bool Mem} (Err e) (Ok false) = is in cc)
+
+-- a shared state that keeps a fault
+module _ {D W : Type 0} (dt wt alike : Type 0) (story : D → Story) (written : W → List ℕ) (disk_faults : D → ℕ) (faults : W → ℕ) (first : Seen) (count : ℕ) (gives : Gives) where
+  pub was_faulty : (s : SharedView D W) (seen : List Told) → Kept dt wt alike story written faults first count gives s → IsState (disk_faults s.state.store.disk) s.state → seen ≡ told s.state.tale s.printed → IsSome s.state.fault → WasFaulty disk_faults faults first count (logged_in seen)
+  was_faulty s seen kept state is some = record {
+    then = s.state;
+    plan = kept.since.plan;
+    tale_is = sym (ap logged_in is ∙ logged_told s.state.tale s.printed);
+    kept = state;
+    sink = kept.since.sink;
+    faulty = some;
+  }
+
+-- ---- workers
+
+module _ (first : Seen) (faulty : List Logged → Type 0) where
+  pub halts_now : (halt : Halt) (tale : List Logged) → HaltsBy first faulty halt tale → HaltsIn first faulty (Some halt) tale
+  halts_now halt tale why = (tale, [], sym (append-nil tale), why)
+
+  pub halts_later : (halt : Option Halt) (tale later more : List Logged) → later ≡ tale ++ more → HaltsIn first faulty halt tale → HaltsIn first faulty halt later
+  halts_later None tale later more is h = tt
+  halts_later (Some halt) tale later more is h = (h.0, h.1 ++ more, is ∙ ap (λ (l : List Logged). l ++ more) h.2 ∙ append_assoc h.0 h.1 more, h.3)
+
+  pub ended_later : (wanting still : Bool) (failed : Type 0) (tale later more : List Logged) → later ≡ tale ++ more → (wanting ≡ true → still ≡ true) → Ended first faulty wanting failed tale → Ended first faulty still failed later
+  ended_later wanting still failed tale later more is goes e = record { halt = e.halt; why = halts_later (Some e.halt) tale later more is e.why; memory = λ m. goes (e.memory m); bench = e.bench }
+
+  module _ {B : Type 0} (faults : B → ℕ) where
+    pub none_ended : (wanting : Bool) (tale : List Logged) (news : List B) → AllEnded first faulty faults wanting tale [] news
+    none_ended wanting tale news k old new was is = absurd (let n : None ≡ Some old = was in cc)
+
+    -- one more
+    pub ended_push : (wanting : Bool) (tale : List Logged) (olds news : List B) (x y : B) → length news ≡ length olds → AllEnded first faulty faults wanting tale olds news → Ended first faulty wanting (Rose (faults x) (faults y)) tale → AllEnded first faulty faults wanting tale (olds ++ x ∷ []) (news ++ y ∷ [])
+    ended_push wanting tale [] [] x y long all one zero old new was is =
+        let a : x ≡ old = (let e : Some x ≡ Some old = was in cc) in
+        let b : y ≡ new = (let e : Some y ≡ Some new = is in cc) in
+        subst (λ (u : B). Ended first faulty wanting (Rose (faults u) (faults new)) tale) a (subst (λ (v : B). Ended first faulty wanting (Rose (faults x) (faults v)) tale) b one)
+    ended_push wanting tale [] [] x y long all one (suc k) old new was is = absurd (let n : None ≡ Some old = was in cc)
+    ended_push wanting tale [] (b ∷ news) x y long all one k old new was is = absurd (let e : suc (length news) ≡ 0 = long in omega (arith, e))
+    ended_push wanting tale (a ∷ olds) [] x y long all one k old new was is = absurd (let e : 0 ≡ suc (length olds) = long in omega (arith, e))
+    ended_push wanting tale (a ∷ olds) (b ∷ news) x y long all one zero old new was is = all zero old new was is
+    ended_push wanting tale (a ∷ olds) (b ∷ news) x y long all one (suc k) old new was is = ended_push wanting tale olds news x y (let e : suc (length news) ≡ suc (length olds) = long in omega (arith, e)) (λ j. all (suc j)) one k old new was is
+
+    pub all_later : (wanting still : Bool) (tale later more : List Logged) (olds news : List B) → later ≡ tale ++ more → (wanting ≡ true → still ≡ true) → AllEnded first faulty faults wanting tale olds news → AllEnded first faulty faults still later olds news
+    all_later wanting still tale later more olds news is goes all k old new was at = ended_later wanting still (Rose (faults old) (faults new)) tale later more is goes (all k old new was at)
+
+    -- where nothing was done for want of memory
+    pub all_wanting : (tale : List Logged) (olds news : List B) → AllEnded first faulty faults true tale olds news
+    all_wanting tale olds news k old new was is = record { halt = halts.Memory; why = ([], tale, refl, tt); memory = λ m. refl; bench = λ b. absurd (let n : halts.Memory ≡ halts.Bench = b in cc) }
+
+    -- one worker, by its last turn
+    pub ended_one : (halt : Halt) (wanting : Bool) (tale : List Logged) (old new : B) → wanting ≡ by_memory halt → HaltsIn first faulty (Some halt) tale → (halt ≡ halts.Bench → Rose (faults old) (faults new)) → Ended first faulty wanting (Rose (faults old) (faults new)) tale
+    ended_one halt wanting tale old new is why bench = record { halt = halt; why = why; memory = λ m. is ∙ m; bench = bench }
+
+    -- what a seat that took others in has seen begins with what they had seen
+    pub all_seen : (wanting still : Bool) (seen later : List Told) (olds news : List B) → Begins later seen → (wanting ≡ true → still ≡ true) → AllEnded first faulty faults wanting (logged_in seen) olds news → AllEnded first faulty faults still (logged_in later) olds news
+    all_seen wanting still seen later olds news b goes all = all_later wanting still (logged_in seen) (logged_in later) (logged_in b.0) olds news (ap logged_in b.1 ∙ logged_split seen b.0) goes all
+
+  pub one_seen : (wanting still : Bool) (failed : Type 0) (seen later : List Told) → Begins later seen → (wanting ≡ true → still ≡ true) → Ended first faulty wanting failed (logged_in seen) → Ended first faulty still failed (logged_in later)
+  one_seen wanting still failed seen later b goes e = ended_later wanting still failed (logged_in seen) (logged_in later) (logged_in b.0) (ap logged_in b.1 ∙ logged_split seen b.0) goes e
+
+-- a choice of two
+pub want_first : (a b : Bool) → a ≡ true → (a || b) ≡ true
+want_first true b e = refl
+want_first false b e = absurd (false≢true e)
+
+pub want_second : (a b : Bool) → b ≡ true → (a || b) ≡ true
+want_second true b e = refl
+want_second false b e = e
