@@ -1,10 +1,10 @@
 #!/bin/sh
 # Refuses each allocation of the program once, apart from the gate, over examples/library_and_application (`-e app`, `-s`, `-p`, and a
-# target that nothing provides) and examples/hello (a run). It needs a C compiler and the program that the gate leaves, or the one that
+# target that nothing provides), examples/hello (a run), and a run behind an edit that changes no output. It needs a C compiler and the program that the gate leaves, or the one that
 # is named: `sh tests/refusals.sh [PROGRAM]`.
 #
 # A run with a refused allocation has to answer as with ample memory, or with status 11 and `fault 11 memory` as its last line: in a
-# reading mode that is all it prints. After each run of hello, a run with ample memory has to leave the clean files.
+# reading mode that is all it prints. After each run of tasks, a run with ample memory has to leave the clean files.
 top=$(CDPATH='' cd -- "$(dirname -- "$0")/.." && pwd -P) || exit 1
 program=${1:-$top/crates/bitbake_cli/out/bitbake_cli}
 if [ ! -x "$program" ]; then
@@ -41,30 +41,47 @@ is_answer() {
         { [ "$kind" = run ] || [ "$(wc -l <"$room/text")" -eq 1 ]; }
 }
 
+# Lays the store over which a run of the project begins: none, or the one that is kept beside it.
+lay() {
+    rm -rf build
+    [ ! -d "../$store" ] || cp -R "../$store" build
+}
+
 # Refuses each allocation of a run with these words in the project, of the kind `run` or `mode`.
 refuse_each() {
     kind=$1
+    store=$2.store
     cd "$room/$2" || exit 1
     shift 2
-    rm -rf build
+    lay
     LD_PRELOAD="$room/fail_alloc.so" COUNT_ALLOC=1 "$program" "$@" >"$room/wanted" 2>"$room/count"
     wanted=$?
     count=$(tail -n 1 "$room/count")
     holds "allocations of '$*' are counted" test "$count" -gt 10
+    rm -rf "$room/clean"
+    [ "$kind" = mode ] || cp -R build/work "$room/clean"
     number=1
     while [ "$number" -le "$count" ]; do
-        rm -rf build
+        lay
         FAIL_ALLOC=$number LD_PRELOAD="$room/fail_alloc.so" "$program" "$@" >"$room/text" 2>/dev/null
         status=$?
         holds "allocation $number of '$*' is refused" is_answer
         if [ "$kind" = run ]; then
             "$program" "$@" >"$room/text" 2>/dev/null
-            status=$?
-            holds "the run after allocation $number of '$*'" test "$status" -eq 0 -a "$(cat build/work/hello/do_build/hello.txt)" = hello
+            holds "the run after allocation $number of '$*'" test $? -eq 0
+            holds "its files after allocation $number of '$*'" diff -r build/work "$room/clean"
         fi
         number=$((number + 1))
     done
 }
+
+# A recipe with this line in its first task, whose output that doesn't change.
+noted() {
+    printf 'do_gen() {\n%s    echo 1 > n.txt\n}\ndo_build() {\n    cat n.txt > m.txt\n}\naddtask gen\naddtask build after gen\n' "$1" >"$room/noted/recipes/c.bb"
+}
+mkdir -p "$room/noted/recipes" && noted '' && cd "$room/noted" && "$program" c >/dev/null && mv build ../noted.store || exit 1
+noted '    # note
+'
 
 refuse_each mode library -e app
 refuse_each mode library -s
@@ -72,5 +89,6 @@ refuse_each mode library -p
 refuse_each mode library nosuch
 refuse_each mode library --nope
 refuse_each run hello hello
+refuse_each run noted c
 echo "$passed passed, $failed failed"
 [ "$failed" -eq 0 ]
