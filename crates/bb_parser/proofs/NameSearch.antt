@@ -1,7 +1,6 @@
 -- The shortest name that an operator follows.
-use Rattle.std.proofs.Common.{◌≡◌, ℕ, suc, ◌+◌, ◌<◌, ◌≤◌, Bool, true, false, cond, ◌&&◌, List, [], ◌∷◌, ◌++◌, map, length, take, drop, get_or, refl, ap, Option, Some, None, is_some, find, codes, append_assoc, add-one, drop-cons}
+use Rattle.std.proofs.Common.{◌≡◌, ℕ, suc, ◌+◌, ◌<◌, Bool, true, false, cond, ◌&&◌, List, [], ◌∷◌, ◌++◌, map, length, take, drop, get_or, refl, ap, Option, Some, None, is_some, find, codes, append_assoc, add-one, drop-cons}
 use Rattle.std.proofs.Math.Seq.{take-suc}
-use Rattle.std.proofs.lemmas.List.{drop_all}
 use Rattle.std.specs.List.{list_all}
 use Rattle.std.specs.Option.{option_map}
 use Rattle.meta_model.specs.Text.{cuts, is_letter_digit_or}
@@ -78,9 +77,6 @@ found_behind-next xs n h t = let t' = rw add-one at t in
 
 pub found_behind-end : (xs : List ℕ) (n : ℕ) → n < length xs → name_char (get_or xs n 0) ≡ false → found_behind (take n xs) (drop n xs) ≡ None
 found_behind-end xs n h t = rw (drop-cons xs n 0 h) (found_behind-none (take n xs) (get_or xs n 0) (drop (suc n) xs) t)
-
-pub found_behind-all : (xs : List ℕ) (n : ℕ) → length xs ≤ n → found_behind (take n xs) (drop n xs) ≡ None
-found_behind-all xs n h = rw (drop_all n xs h)
 
 list_all-push : (p : ℕ → Bool) (xs : List ℕ) (c : ℕ) → list_all p xs ≡ true → p c ≡ true → list_all p (xs ++ c ∷ []) ≡ true
 list_all-push p [] c h t = rw t

@@ -1,17 +1,15 @@
 -- Whole lines, what a line keeps at its end, and words one behind another.
-use Rattle.std.proofs.Common.{◌≡◌, ℕ, ◌+◌, ◌-◌, ◌<◌, ◌≤◌, Bool, true, false, cond, not, ◌&&◌, ◌==◌, List, [], ◌∷◌, ◌++◌, length, take, get_or, refl, sym, ap, ◌∙◌, Option, Some, None, Result, Ok, Err, codes, is_some, ◌||◌, bytes_eq, append_assoc, append-nil, arith}
+use Rattle.std.proofs.Common.{◌≡◌, ℕ, ◌+◌, ◌-◌, ◌<◌, ◌≤◌, Bool, true, false, cond, not, ◌&&◌, ◌==◌, List, [], ◌∷◌, ◌++◌, length, take, get_or, refl, sym, ap, ◌∙◌, Option, Some, None, codes, is_some, ◌||◌, bytes_eq, append_assoc, append-nil, arith}
 use Rattle.std.specs.List.{list_all}
 use Rattle.std.proofs.lemmas.Bool.{eqb-true, false≢true, false_from_ne_true}
 use Rattle.std.proofs.lemmas.Slice.Eq.{bytes_eq-Decides}
 use Rattle.std.proofs.lemmas.List.{take_more, length-append}
 use Rattle.meta_model.specs.Text.{newline, space, without_end, end_kept, without_last, split_at_first}
-use Rattle.std.specs.Result.{IfOk}
 use Rattle.std.specs.Option.{option_map}
 use Rattle.meta_model.specs.Lines.{pieces, opens_body}
 use Rattle.meta_model.specs.Grammar.{assignment}
-use Rattle.bb_parser.specs.declared.fault.PrintFault.{PrintFault}
 use Rattle.bb_parser.proofs.WrittenLines.{pieces-line}
-use Rattle.bb_parser.specs.Written.{is_dropped, is_body_line, ends_line, are_whole_lines, words_text, part_words, task_words, exports_text, Writes}
+use Rattle.bb_parser.specs.Written.{is_dropped, is_body_line, ends_line, are_whole_lines, words_text, part_words, task_words, exports_text}
 use Rattle.meta_model.proofs.Edges.{without_end-goes, without_end-stays}
 use Rattle.bb_parser.proofs.NameSearch.{with_char}
 use Rattle.bb_parser.proofs.QuoteFacts.{with_last}
@@ -115,14 +113,6 @@ exports-plain names line e a o = e ∙ sym (rw (ap (λ l. is_some (assignment fa
 
 pub exports-odd : (names : List (List ℕ)) (line : List ℕ) → line ≡ codes "EXPORT_FUNCTIONS" ++ words_text names → (is_some (assignment false line) || opens_body line) ≡ true → (codes "EXPORT_FUNCTIONS \r" ++ words_text names) ++ codes " " ≡ exports_text names
 exports-odd names line e a = append_assoc (codes "EXPORT_FUNCTIONS \r") (words_text names) (codes " ") ∙ sym (rw (ap (λ l. is_some (assignment false l) || opens_body l) (sym e) ∙ a) refl)
-
--- what is made is written, where it can be
-pub writes-from : (made : Result (List ℕ) PrintFault) (can : Bool) (a b : List ℕ) → can ≡ true → a ≡ b → IfOk made (λ t. t ≡ a) → Writes made can b
-writes-from (Ok t) can a b h e k = (h, k ∙ e)
-writes-from (Err x) can a b h e k = k
-
-pub all_four : (a b c d : Bool) → a ≡ false → b ≡ true → c ≡ true → d ≡ true → (not a && b && c && d) ≡ true
-all_four a b c d h k l m = rw (h, k, l, m) refl
 
 pub words_text-pushed : (old : List ℕ) (ws : List (List ℕ)) (i : ℕ) (w a b d t : List ℕ) → i < length ws → w ≡ get_or ws i w → a ≡ old ++ words_text (take i ws) → b ≡ a ++ codes " " → d ≡ b ++ t → t ≡ w → d ≡ old ++ words_text (take (i + 1) ws)
 words_text-pushed old ws i w a b d t h e k l m n = m ∙ (ap (λ x. x ++ t) l ∙ (append_assoc a (codes " ") t ∙ (ap (λ x. a ++ (codes " " ++ x)) n ∙ (ap (λ x. x ++ (codes " " ++ w)) k

@@ -3,7 +3,7 @@ use Rattle.std.proofs.Common.{◌≡◌, ℕ, ◌-◌, Bool, true, false, cond, 
 use Rattle.std.specs.List.{list_all, list_any, before_first}
 use Rattle.std.proofs.lemmas.Bool.{and_parts, and_right, eqb-true, false≢true}
 use Rattle.std.proofs.lemmas.List.{append-nil}
-use Rattle.std.proofs.lemmas.List.Folds.{list_all-append, list_any-append}
+use Rattle.std.proofs.lemmas.List.Folds.{list_all-append}
 use Rattle.std.specs.Str.{IsUtf8}
 use Rattle.meta_model.specs.declared.entry.Op.{Op}
 use Rattle.meta_model.specs.declared.entry.Op.TheVariants.{Set, Now, Soft, Weak, AddBlank, PutBlank, Add, Put}
@@ -13,7 +13,7 @@ use Rattle.meta_model.specs.declared.statement.Statement.TheVariants.{Assign, Fl
 use Rattle.meta_model.specs.Text.{newline, space, equals, is_blank, is_quote, is_empty, is_in, begins_with, skip_blanks, without_end, without_last}
 use Rattle.meta_model.specs.Names.{is_name, is_flag}
 use Rattle.meta_model.specs.Lines.{is_comment, is_joined, opens_body, lines_of_text}
-use Rattle.meta_model.specs.Grammar.{Fit, ◌>>=◌, operator, operation, quoted, behind_word, assignment, flag_of_name, flag_assignment, fit_of, value_forms_of, directive_forms_of}
+use Rattle.meta_model.specs.Grammar.{Fit, operator, operation, quoted, behind_word, assignment, flag_of_name, flag_assignment, fit_of, value_forms_of, directive_forms_of}
 use Rattle.meta_model.specs.Statements.{AreStatements, statement_of, is_fakeroot, is_python_word, holds_python, statement_holds_python, statement_is_reserved, is_reserved, is_allowed, first_word}
 use Rattle.bb_parser.specs.Written.{is_word, is_one_line, is_dropped, is_quotable, is_python_name, is_refused_name, times_of, is_free_name, can_follow, line_of_text, name_and_flag_text, operator_text, quote_of, operation_text, flag_text, needs_join, whole_line}
 use Rattle.meta_model.proofs.Edges.{without_end-stays}
@@ -166,12 +166,6 @@ all-append p xs ys h k = list_all-append p xs ys ∙ rw (h, k) refl
 pub any-right : (p : ℕ → Bool) (xs ys : List ℕ) → list_any p ys ≡ true → list_any p (xs ++ ys) ≡ true
 any-right p [] ys h = h
 any-right p (x ∷ xs) ys h = rw (any-right p xs ys h) (or_true (p x))
-
-any-left : (p : ℕ → Bool) (xs ys : List ℕ) → list_any p xs ≡ true → list_any p (xs ++ ys) ≡ true
-any-left p xs ys h = list_any-append p xs ys ∙ rw h refl
-
-any-cons : (p : ℕ → Bool) (c : ℕ) (xs : List ℕ) → list_any p xs ≡ true → list_any p (c ∷ xs) ≡ true
-any-cons p c xs h = rw h (or_true (p c))
 
 sign_opens_none : (line : List ℕ) → list_any is_sign line ≡ true → opens_body line ≡ false
 sign_opens_none line h = rw h refl

@@ -1,9 +1,9 @@
 -- The logical lines of a text that is written of one statement.
-use Rattle.std.proofs.Common.{◌≡◌, ℕ, suc, ◌-◌, Bool, true, false, cond, not, ◌==◌, List, [], ◌∷◌, ◌++◌, map, length, drop, get_or, refl, sym, ap, ◌∙◌, Ok, Err, arith, append_assoc, bytes_eq, codes}
+use Rattle.std.proofs.Common.{◌≡◌, ℕ, suc, ◌-◌, Bool, true, false, cond, not, ◌==◌, List, [], ◌∷◌, ◌++◌, map, length, drop, refl, sym, ap, ◌∙◌, Ok, Err, arith, append_assoc, bytes_eq, codes}
 use Rattle.std.specs.List.{list_all}
 use Rattle.std.proofs.lemmas.Bool.{and_parts, and_right, eqb-true}
 use Rattle.std.proofs.lemmas.Slice.Eq.{bytes_eq-Decides}
-use Rattle.std.proofs.lemmas.List.{map-append, append-nil, get_or_at, take_at}
+use Rattle.std.proofs.lemmas.List.{map-append, append-nil, take_at}
 use Rattle.std.specs.Str.{IsUtf8}
 use Rattle.meta_model.specs.declared.line.Line.{Line}
 use Rattle.meta_model.specs.declared.line.Place.TheVariants.{Plain, Body, Close}
@@ -25,9 +25,6 @@ pub pieces-line : (line rest : List ℕ) → is_one_line line ≡ true → piece
 pieces-line [] rest h = refl
 pieces-line (c ∷ cs) rest h = let p = and_parts (not (c == newline)) (is_one_line cs) h in
     rw (not_false (c == newline) p.0, pieces-line cs rest p.1) refl
-
-last-is : (c : ℕ) (ys : List ℕ) (n : ℕ) → n ≡ length ys → get_or (ys ++ c ∷ []) n 0 ≡ c
-last-is c ys n e = get_or_at ys c [] 0 n (sym e)
 
 length-push : (c : ℕ) (ys : List ℕ) → length (ys ++ c ∷ []) ≡ suc (length ys)
 length-push c [] = refl

@@ -3,7 +3,7 @@ use Rattle.std.proofs.Common.{◌≡◌, ℕ, zero, suc, ◌-◌, Bool, true, fa
 use Rattle.std.specs.List.{list_all, list_any, before_first, slice_split, ends_with}
 use Rattle.std.proofs.lemmas.Bool.{and_parts, and_right, false≢true}
 use Rattle.std.proofs.lemmas.Slice.Eq.{bytes_eq-Decides}
-use Rattle.std.proofs.lemmas.List.Folds.{list_all-append, list_any-append}
+use Rattle.std.proofs.lemmas.List.Folds.{list_all-append}
 use Rattle.meta_model.specs.Text.{is_blank, is_white, is_in, words, without_end, end_kept, without_last, equals, is_quote}
 use Rattle.meta_model.specs.Lines.{opens_body, without_opening}
 use Rattle.meta_model.specs.Statements.{first_word, first_or_empty, is_python_word, is_fakeroot}
@@ -103,10 +103,6 @@ signed : (a b c x : Bool) → (not (a || (b || true || c)) && x) ≡ false
 signed true b c x = refl
 signed false true c x = refl
 signed false false c x = refl
-
-pub quote_opens_none : (front : List ℕ) (q : ℕ) (rest : List ℕ) → is_quote q ≡ true → opens_body (front ++ q ∷ rest) ≡ false
-quote_opens_none front q rest h = rw (list_any-append (λ c. c == equals || is_quote c) front (q ∷ rest), h)
-    (signed (list_any (λ c. c == equals || is_quote c) front) (q == equals) (list_any (λ c. c == equals || is_quote c) rest) (is_some (without_opening (front ++ q ∷ rest))))
 
 -- nor one that ends in a blank
 pub blank_opens_none : (line : List ℕ) → opens_body (line ++ 32 ∷ []) ≡ false

@@ -19,9 +19,3 @@ block_fits p hay at total more room short e m =
     let most = count_by-le-length p (take (at + 32) hay) in
     let long = length-take-le (at + 32) hay room in
     record { fits = omega (arith, is, most, long, room, short) }
-
-pub rest_fits : (p : ℕ → Bool) (hay : List ℕ) (at total more : ℕ) → length hay < 2 ^ 64 → total ≡ count_by p (take at hay) → more ≡ count_by p (drop at hay) → Fits w64 (total + more)
-rest_fits p hay at total more short e m =
-    let is = rest_more p hay at total more e m in
-    let most = count_by-le-length p hay in
-    record { fits = omega (arith, is, most, short) }

@@ -28,9 +28,6 @@ pub then_added : (a b : List EntryLine) (old : Loaded) → with_lines b (with_li
 unfolding with_all
 then_added a b old = ap (λ l. with_all l old) (append_assoc old.lines a b)
 
-pub two_added : (a b : EntryLine) (old now new : Loaded) → now ≡ with_lines (a ∷ []) old → new ≡ with_lines (b ∷ []) now → new ≡ with_lines (a ∷ b ∷ []) old
-two_added a b old now new e f = f ∙ ap (with_lines (b ∷ [])) e ∙ then_added (a ∷ []) (b ∷ []) old
-
 pub one_more : {A : Type 0} (f : A → EntryLine) (xs : List A) (i : ℕ) (x : A) (old now new : Loaded) → now ≡ with_lines (map f (take i xs)) old → new ≡ with_lines (f x ∷ []) now → x ≡ get_or xs i x → i < length xs → new ≡ with_lines (map f (take (i + 1) xs)) old
 one_more f xs i x old now new e n is lt =
     n ∙ ap (with_lines (f x ∷ [])) e ∙ then_added (map f (take i xs)) (f x ∷ []) old

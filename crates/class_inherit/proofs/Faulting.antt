@@ -1,5 +1,5 @@
 -- Faults of loading, passed on.
-use Rattle.std.proofs.Common.{◌≡◌, refl, sym, ◌∙◌, ap, subst, [], Option, Some, None, Result, Ok, Err, MatchOption, IfOk, IfErr, List, ℕ}
+use Rattle.std.proofs.Common.{◌≡◌, refl, sym, ◌∙◌, ap, subst, Option, Some, None, Result, Ok, Err, MatchOption, IfOk, IfErr, List, ℕ}
 use Rattle.std.specs.Option.{option_map}
 use Rattle.meta_model.specs.declared.entry.EntryLine.{EntryLine}
 use Rattle.meta_model.specs.Active.{expand}
@@ -12,9 +12,8 @@ use Rattle.datastore.specs.declared.fault.DataFault.TheVariants as data_fault
 use Rattle.datastore.specs.Faults.{IsDataFault, refusal_of, data_refusal}
 use Rattle.load_model.specs.LoadRefusal.{LoadCause, no_value, LoadRefusal, refused_at, Place as Where, ◌>>=◌, asked_at}
 use Rattle.class_inherit.specs.declared.fault.LoadFault.{LoadFault}
-use Rattle.class_inherit.specs.declared.fault.LoadKind.{LoadKind}
-use Rattle.class_inherit.specs.declared.fault.LoadKind.TheVariants.{MissingRequired, MissingClass, IncludeDepth, Read, Parse, Data, FileBytes, Memory}
-use Rattle.class_inherit.specs.Faults.{cause_of, IsFree, place_of, IsLoadFault, IsSaid, IsOutOfMemory, IsUntold}
+use Rattle.class_inherit.specs.declared.fault.LoadKind.TheVariants.{Memory}
+use Rattle.class_inherit.specs.Faults.{cause_of, place_of, IsLoadFault, IsSaid}
 
 -- of the same
 pub fault_same : {A : Type 0} (fault : LoadFault) (m n : Result A LoadRefusal) → m ≡ n → IsLoadFault fault n → IsLoadFault fault m
@@ -31,26 +30,6 @@ fault_on fault m f h = record { told = on_option (cause_of fault.kind) _ (place_
 -- and of the second, where the first is no refusal
 pub fault_behind : {A B : Type 0} (fault : LoadFault) (m : Result A LoadRefusal) (f : A → Result B LoadRefusal) (a : A) → m ≡ Ok a → IsLoadFault fault (f a) → IsLoadFault fault (m >>= f)
 fault_behind fault m f a e h = fault_same fault (m >>= f) (f a) (ap (λ k. k >>= f) e) h
-
-free_told : (kind : LoadKind) (P R : Type 0) (Q : LoadCause → Type 0) → IsFree kind → P → R → MatchOption (cause_of kind) (IsFree kind × P × R) Q
-free_told (MissingRequired path) P R Q f p r = absurd f
-free_told (MissingClass name) P R Q f p r = absurd f
-free_told IncludeDepth P R Q f p r = absurd f
-free_told Read P R Q f p r = (f, p, r)
-free_told (Parse wrong) P R Q f p r = absurd f
-free_told (Data fault) P R Q f p r = absurd f
-free_told FileBytes P R Q f p r = absurd f
-free_told Memory P R Q f p r = (f, p, r)
-
--- where nothing is told, nothing is said
-pub fault_untold : {A : Type 0} (fault : LoadFault) (m : Result A LoadRefusal) → IsUntold fault → IsLoadFault fault m
-fault_untold fault m h = record { told = free_told fault.kind (fault.file ≡ []) (fault.line ≡ 0) (λ cause. m ≡ Err (refused_at (place_of fault) cause)) h.free h.file h.line }
-
-pub memory_untold : (fault : LoadFault) → IsOutOfMemory fault → IsUntold fault
-memory_untold fault h = record { free = subst IsFree (sym h.kind) tt; file = h.file; line = h.line }
-
-pub fault_memory : {A : Type 0} (fault : LoadFault) (m : Result A LoadRefusal) → IsOutOfMemory fault → IsLoadFault fault m
-fault_memory fault m h = fault_untold fault m (memory_untold fault h)
 
 said_at : {A : Type 0} (cause found : Option LoadCause) (P : Type 0) (place at : Where) (m : Result A LoadRefusal) → MatchOption found P (λ c. (cause ≡ Some c) × (at ≡ place)) → ((c : LoadCause) → cause ≡ Some c → m ≡ Err (refused_at place c)) → MatchOption found P (λ c. m ≡ Err (refused_at at c))
 said_at cause None P place at m h f = h

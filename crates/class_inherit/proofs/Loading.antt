@@ -13,14 +13,14 @@ use Rattle.meta_model.specs.Text.{is_in, words}
 use Rattle.meta_model.specs.Active.{expand}
 use Rattle.meta_model.specs.Entries.{lines_of}
 use Rattle.load_model.specs.Paths.{paths_in, is_absolute, folder_of}
-use Rattle.load_model.specs.LoadRefusal.{LoadCause, LoadRefusal, missing_required, missing_class, include_depth, refused_at, Place as Where, asked_at, ◌>>=◌}
-use Rattle.load_model.specs.Loading.{class_of, Contents, Sources, sources_of, Loaded, with_lines, with_class, Origin, origin_of, included_by, Found, found_there, first_found, search_folders, searched, Reads, include_found, include_after, includes_after, class_path, class_searched, class_found, class_after, classes_after, statement_after, place_in, statements_after, contents_after, read_within}
+use Rattle.load_model.specs.LoadRefusal.{LoadRefusal, missing_required, missing_class, include_depth, refused_at, Place as Where, asked_at, ◌>>=◌}
+use Rattle.load_model.specs.Loading.{class_of, Contents, Sources, sources_of, Loaded, with_lines, with_class, Origin, origin_of, included_by, Found, found_there, first_found, search_folders, searched, Reads, include_found, include_after, includes_after, class_path, class_searched, class_found, class_after, classes_after, statement_after, statements_after, contents_after, read_within}
 use Rattle.load_model.specs.Layers.{contents_in_layer, sources_in_layer, with_folder}
 use Rattle.class_inherit.specs.declared.fault.LoadFault.{LoadFault}
 use Rattle.class_inherit.specs.Faults.{IsLoadFault}
 use Rattle.class_inherit.specs.Adding.{added}
 use Rattle.class_inherit.specs.Reading.{sources_for, contents_for, statement_for, text_for, words_in}
-use Rattle.class_inherit.proofs.Told.{told, pick_first, pick_second}
+use Rattle.class_inherit.proofs.Told.{told, pick_second}
 use Rattle.class_inherit.proofs.Searching.{relative, absolute, class_relative, class_absolute}
 use Rattle.class_inherit.proofs.Faulting.{fault_same, fault_on}
 
@@ -95,28 +95,15 @@ pub read_deeper : (left : ℕ) (sources : Sources) (place : Where) (origin : Ori
 read_deeper zero sources place origin contents loaded lt = absurd (omega arith)
 read_deeper (suc left) sources place origin contents loaded lt = let e : suc left - 1 ≡ left = omega arith in ap (λ n. contents_after (read_within n sources) sources origin contents loaded) (sym e)
 
-abbrev pub each_for : Option (List ℕ) → ℕ × Statement → ℕ × Statement
-each_for layer s = (s.0, statement_for layer s.1)
-
 pub whole_for : (layer : Option (List ℕ)) (list : List (ℕ × Statement)) → contents_for layer (Ok list) ≡ Ok (map (λ s. (s.0, statement_for layer s.1)) list)
 whole_for None list = ap Ok (sym (map-id list))
 whole_for (Some layer) list = refl
-
-pub wrong_for : (layer : Option (List ℕ)) (e : ℕ × LoadCause) → contents_for layer (Err e) ≡ Err e
-wrong_for None e = refl
-wrong_for (Some layer) e = refl
 
 pub read_whole : (left : ℕ) (layer : Option (List ℕ)) (sources : Sources) (place : Where) (origin : Origin) (contents : Contents) (list : List (ℕ × Statement)) (loaded : Loaded) → 0 < left → contents ≡ Ok list
     → read_within left sources place origin (contents_for layer contents) loaded ≡ statements_after (read_within (left - 1) sources) sources origin (map (λ s. (s.0, statement_for layer s.1)) list) loaded
 read_whole left layer sources place origin contents list loaded lt e =
     read_deeper left sources place origin (contents_for layer contents) loaded lt
     ∙ ap (λ c. contents_after (read_within (left - 1) sources) sources origin c loaded) (ap (contents_for layer) e ∙ whole_for layer list)
-
-pub read_wrong : (left : ℕ) (layer : Option (List ℕ)) (sources : Sources) (place : Where) (origin : Origin) (contents : Contents) (e : ℕ × LoadCause) (loaded : Loaded) → 0 < left → contents ≡ Err e
-    → read_within left sources place origin (contents_for layer contents) loaded ≡ Err (refused_at (place_in origin e.0) e.1)
-read_wrong left layer sources place origin contents e loaded lt is =
-    read_deeper left sources place origin (contents_for layer contents) loaded lt
-    ∙ ap (λ c. contents_after (read_within (left - 1) sources) sources origin c loaded) (ap (contents_for layer) is ∙ wrong_for layer e)
 
 -- a statement
 
@@ -233,9 +220,6 @@ include_fault read layer files place origin must word folder loaded fault f h =
     (fault_on fault m (λ f. Ok (option_map (found_for layer) f)) (subst (λ d. IsLoadFault fault (asked_at place (searched (sources_of files) origin.kind loaded.lines (d ∷ []) word))) f h))
 
 -- a class
-
-pub class_begun : (read : Reads) (sources : Sources) (place : Where) (must : Bool) (name : List ℕ) (loaded : Loaded) → is_in name loaded.classes ≡ true → class_after read sources place must name loaded ≡ Ok loaded
-class_begun read sources place must name loaded e = pick_first (is_in name loaded.classes) (Ok loaded) (asked_at place (class_searched sources loaded.lines name) >>= (λ found. class_found read place must name found loaded)) e
 
 class_for : (read : Reads) (layer : Option (List ℕ)) (files : List ℕ → Option (List ℕ)) (place : Where) (must : Bool) (name : List ℕ) (loaded : Loaded) (m : Result (Option Found) LoadRefusal) → is_in name loaded.classes ≡ false
     → asked_at place (class_searched (sources_of files) loaded.lines name) ≡ m

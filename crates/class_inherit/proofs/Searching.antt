@@ -1,8 +1,7 @@
 -- The search for files, one folder after another.
-use Rattle.std.proofs.Common.{◌≡◌, refl, sym, ◌∙◌, ap, subst, ℕ, ◌+◌, ◌<◌, ◌≤◌, Bool, true, false, List, [], ◌∷◌, ◌++◌, length, drop, get_or, Option, Some, None, unwrap_or, Result, Ok, Err, codes}
+use Rattle.std.proofs.Common.{◌≡◌, refl, sym, ◌∙◌, ap, subst, ℕ, ◌+◌, Bool, true, false, List, [], ◌∷◌, ◌++◌, Option, Some, None, unwrap_or, Result, Ok, Err, codes}
 use Rattle.std.specs.List.{cons_option}
 use Rattle.std.specs.Option.{option_map}
-use Rattle.std.proofs.lemmas.List.{drop_more, drop_all}
 use Rattle.meta_model.specs.declared.line.Kind.{Kind}
 use Rattle.meta_model.specs.declared.line.Kind.TheVariants.{Class}
 use Rattle.meta_model.specs.declared.entry.EntryLine.{EntryLine}
@@ -31,17 +30,6 @@ one_found : (sources : Sources) (kind : Kind) (o : Option (List ℕ)) → first_
 one_found sources kind None = refl
 one_found sources kind (Some path) = refl
 
-pub no_path : (sources : Sources) (kind : Kind) (folder word : List ℕ) (o : Option (List ℕ)) → o ≡ path_named (folder ++ slash ∷ word) → o ≡ None → None ≡ first_found sources kind (paths_in (folder ∷ []) word)
-no_path sources kind folder word o e n = sym (ap (λ p. first_found sources kind (cons_option p [])) (sym e ∙ n))
-
-pub path_there : (sources : Sources) (kind : Kind) (folder word path : List ℕ) (o : Option (List ℕ)) (contents : Contents) (c : Option Contents) → o ≡ path_named (folder ++ slash ∷ word) → o ≡ Some path → c ≡ sources path kind → c ≡ Some contents → Some (path, contents) ≡ first_found sources kind (paths_in (folder ∷ []) word)
-path_there sources kind folder word path o contents c e n s t =
-    sym (ap (λ p. first_found sources kind (cons_option p [])) (sym e ∙ n) ∙ ap (λ x. found_there path x None) (sym s ∙ t))
-
-pub path_missing : (sources : Sources) (kind : Kind) (folder word path : List ℕ) (o : Option (List ℕ)) (c : Option Contents) → o ≡ path_named (folder ++ slash ∷ word) → o ≡ Some path → c ≡ sources path kind → c ≡ None → None ≡ first_found sources kind (paths_in (folder ∷ []) word)
-path_missing sources kind folder word path o c e n s t =
-    sym (ap (λ p. first_found sources kind (cons_option p [])) (sym e ∙ n) ∙ ap (λ x. found_there path x None) (sym s ∙ t))
-
 -- more folders
 
 found_on : (sources : Sources) (kind : Kind) (path : List ℕ) (paths : List (List ℕ)) (c : Option Contents) (x : Found) → found_there path c None ≡ Some x → found_there path c (first_found sources kind paths) ≡ Some x
@@ -60,30 +48,9 @@ none_at : (sources : Sources) (kind : Kind) (o : Option (List ℕ)) (paths : Lis
 none_at sources kind None paths e = refl
 none_at sources kind (Some path) paths e = none_on sources kind path paths (sources path kind) e
 
--- a file that is found in the first folder is the first
-pub first_here : (sources : Sources) (kind : Kind) (folder : List ℕ) (folders : List (List ℕ)) (word : List ℕ) (x : Found) → Some x ≡ first_found sources kind (paths_in (folder ∷ []) word) → Some x ≡ first_found sources kind (paths_in (folder ∷ folders) word)
-first_here sources kind folder folders word x e = sym (some_at sources kind (path_named (folder ++ slash ∷ word)) (paths_in folders word) x (sym e))
-
 -- else the search goes on
 pub first_later : (sources : Sources) (kind : Kind) (folder : List ℕ) (folders : List (List ℕ)) (word : List ℕ) → None ≡ first_found sources kind (paths_in (folder ∷ []) word) → first_found sources kind (paths_in (folder ∷ folders) word) ≡ first_found sources kind (paths_in folders word)
 first_later sources kind folder folders word e = none_at sources kind (path_named (folder ++ slash ∷ word)) (paths_in folders word) (sym e)
-
-cut_folder : (folders : List (List ℕ)) (i : ℕ) (folder : List ℕ) → folder ≡ get_or folders i folder → i < length folders → drop i folders ≡ folder ∷ drop (i + 1) folders
-cut_folder folders i folder is lt = drop_more folders i folder lt ∙ ap (λ x. x ∷ drop (i + 1) folders) (sym is)
-
--- one folder of a list
-pub folder_here : (sources : Sources) (kind : Kind) (folders : List (List ℕ)) (i : ℕ) (folder word : List ℕ) (x : Found) → folder ≡ get_or folders i folder → i < length folders → Some x ≡ first_found sources kind (paths_in (folder ∷ []) word)
-    → first_found sources kind (paths_in (drop i folders) word) ≡ first_found sources kind (paths_in folders word) → Some x ≡ first_found sources kind (paths_in folders word)
-folder_here sources kind folders i folder word x is lt e h =
-    first_here sources kind folder (drop (i + 1) folders) word x e ∙ ap (λ fs. first_found sources kind (paths_in fs word)) (sym (cut_folder folders i folder is lt)) ∙ h
-
-pub folder_later : (sources : Sources) (kind : Kind) (folders : List (List ℕ)) (i : ℕ) (folder word : List ℕ) → folder ≡ get_or folders i folder → i < length folders → None ≡ first_found sources kind (paths_in (folder ∷ []) word)
-    → first_found sources kind (paths_in (drop i folders) word) ≡ first_found sources kind (paths_in folders word) → first_found sources kind (paths_in (drop (i + 1) folders) word) ≡ first_found sources kind (paths_in folders word)
-folder_later sources kind folders i folder word is lt e h =
-    sym (first_later sources kind folder (drop (i + 1) folders) word e) ∙ ap (λ fs. first_found sources kind (paths_in fs word)) (sym (cut_folder folders i folder is lt)) ∙ h
-
-pub folders_end : (sources : Sources) (kind : Kind) (folders : List (List ℕ)) (i : ℕ) (word : List ℕ) → length folders ≤ i → first_found sources kind (paths_in (drop i folders) word) ≡ first_found sources kind (paths_in folders word) → None ≡ first_found sources kind (paths_in folders word)
-folders_end sources kind folders i word le h = ap (λ fs. first_found sources kind (paths_in fs word)) (sym (drop_all i folders le)) ∙ h
 
 -- the folders of BBPATH
 
@@ -117,9 +84,6 @@ relative sources kind lines first word e = pick_second (is_absolute word) (Ok No
 
 pub absolute : (sources : Sources) (kind : Kind) (lines : List EntryLine) (first : List (List ℕ)) (word : List ℕ) → is_absolute word ≡ true → searched sources kind lines first word ≡ Ok None
 absolute sources kind lines first word e = pick_first (is_absolute word) (Ok None) (search_folders lines first >>= (λ folders. Ok (first_found sources kind (paths_in folders word)))) e
-
-pub search_absolute : (sources : Sources) (kind : Kind) (lines : List EntryLine) (first : List (List ℕ)) (word : List ℕ) (place : Where) (b : Bool) → b ≡ is_absolute word → b ≡ true → asked_at place (searched sources kind lines first word) ≡ Ok None
-search_absolute sources kind lines first word place b e t = ap (asked_at place) (absolute sources kind lines first word (sym e ∙ t))
 
 pub search_found : (sources : Sources) (kind : Kind) (lines : List EntryLine) (first folders : List (List ℕ)) (word : List ℕ) (place : Where) (b : Bool) (found : Option Found) → b ≡ is_absolute word → b ≡ false → path_folders lines ≡ Ok folders
     → found ≡ first_found sources kind (paths_in (first ++ (codes "." ∷ folders)) word) → asked_at place (searched sources kind lines first word) ≡ Ok found

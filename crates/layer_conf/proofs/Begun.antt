@@ -78,12 +78,6 @@ any_more test (x ∷ xs) y = ap (λ b. test x || b) (any_more test xs y) ∙ or_
 pub either_head : (heads : List (List ℕ)) (head path : List ℕ) → begun_by (heads ++ head ∷ []) path ≡ (begun_by heads path || begins_with head path)
 either_head heads head path = any_more (λ h. begins_with h path) heads head
 
-pub still_begun : (heads : List (List ℕ)) (head path : List ℕ) → begun_by heads path ≡ true → begun_by (heads ++ head ∷ []) path ≡ true
-still_begun heads head path h = either_head heads head path ∙ or_first (begun_by heads path) (begins_with head path) h
-
-pub now_begun : (heads : List (List ℕ)) (head path : List ℕ) → begins_with head path ≡ true → begun_by (heads ++ head ∷ []) path ≡ true
-now_begun heads head path h = either_head heads head path ∙ or_later (begun_by heads path) (begins_with head path) h
-
 -- a head that begins with another one isn't missed
 pub begun_through : (heads : List (List ℕ)) (head path : List ℕ) → begun_by heads head ≡ true → begins_with head path ≡ true → begun_by heads path ≡ true
 begun_through [] head path h b = h

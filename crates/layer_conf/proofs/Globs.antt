@@ -15,24 +15,6 @@ or_false false = refl
 
 -- one byte that is no wildcard
 
-plain_behind : (a b : Bool) (x y z : List (List ℕ)) → a ≡ false → b ≡ false → (if a then x else (if b then y else z)) ≡ z
-plain_behind true b x y z e f = absurd cc
-plain_behind false true x y z e f = absurd cc
-plain_behind false false x y z e f = refl
-
-pub shared_step : (byte next : ℕ) (more after : List ℕ) → (byte == 42) ≡ false → (byte == 63) ≡ false → (byte == next) ≡ true → matches (byte ∷ more) (next ∷ after) ≡ matches more after
-shared_step byte next more after e f g =
-    ap (list_any (matches more)) (plain_behind (byte == 42) (byte == 63) (behind_runs (next ∷ after)) (behind_one (next ∷ after)) (behind_byte byte (next ∷ after)) e f)
-    ∙ rw g (or_false (matches more after))
-
-pub differs_here : (byte next : ℕ) (more after : List ℕ) → (byte == 42) ≡ false → (byte == 63) ≡ false → (byte == next) ≡ false → matches (byte ∷ more) (next ∷ after) ≡ false
-differs_here byte next more after e f g =
-    ap (list_any (matches more)) (plain_behind (byte == 42) (byte == 63) (behind_runs (next ∷ after)) (behind_one (next ∷ after)) (behind_byte byte (next ∷ after)) e f)
-    ∙ rw g refl
-
-pub ends_here : (byte : ℕ) (more : List ℕ) → (byte == 42) ≡ false → (byte == 63) ≡ false → matches (byte ∷ more) [] ≡ false
-ends_here byte more e f = ap (list_any (matches more)) (plain_behind (byte == 42) (byte == 63) (behind_runs []) (behind_one []) (behind_byte byte []) e f)
-
 -- the row of the empty pattern
 
 pub one_more_false : (n : ℕ) → replicate n false ++ false ∷ [] ≡ replicate (suc n) false
@@ -198,9 +180,3 @@ row_answer pattern path row left answer z e is =
     let long = row_is_long (drop left pattern) path row e in
     is ∙ get_or_default row (length path) answer false (omega arith)
     ∙ ap (λ r. get_or r (length path) false) (e ∙ ap (λ n. rows (drop n pattern) path) none) ∙ rows_last pattern path
-
--- one byte more of the pattern
-pub pattern_next : (pattern path : List ℕ) (left : ℕ) (row row' : List Bool) → 0 < left → left ≤ length pattern → row ≡ rows (drop left pattern) path → ((p : List ℕ) → row ≡ rows p path → row' ≡ rows (get_or pattern (left - 1) 0 ∷ p) path) → row' ≡ rows (drop (left - 1) pattern) path
-pattern_next pattern path left row row' some le e made =
-    let one : suc (left - 1) ≡ left = omega arith in
-    made (drop left pattern) e ∙ ap (λ l. rows l path) (ap (λ n. get_or pattern (left - 1) 0 ∷ drop n pattern) (sym one) ∙ sym (drop-cons pattern (left - 1) 0 (omega arith)))

@@ -70,9 +70,6 @@ told_data (Some r) m h = ap (refused_as no_list) h
 pub data_fault : {A : Type 0} (fault : DataFault) (made : LayerFault) (m : Result A Refusal) → layer_refusal made ≡ option_map no_list (data_refusal fault) → IsDataFault fault m → IsLayerFault made (refused_as no_list m)
 data_fault fault made m e h = record { told = subst (λ o. IsRefused o (refused_as no_list m)) (sym e) (told_data (data_refusal fault) m (said fault m h)) }
 
-pub load_fault : (fault : LoadFault) (made : LayerFault) (m : Result Loaded LoadRefusal) → layer_refusal made ≡ option_map load (load_refusal fault) → IsLoadFault fault m → IsLayerFault made (refused_as load m)
-load_fault fault made m e h = record { told = subst (λ o. IsRefused o (refused_as load m)) (sym e) (told_load (load_refusal fault) m (load_said fault m h)) }
-
 abbrev pub first_file : List ℕ
 first_file = codes "conf/bblayers.conf"
 

@@ -1,14 +1,14 @@
 -- The places of layers.
-use Rattle.std.proofs.Common.{◌≡◌, refl, sym, ◌∙◌, ap, ℕ, zero, suc, ◌+◌, ◌<◌, arith, List, [], ◌∷◌, ◌++◌, length, take, drop, get_or, map, filter, flat_map, Bool, true, false, ◌&&◌, cond, Option, eqb, nat_eq, inl, inr, append-nil, append_assoc, add-one, eq-eqb, ne_eqb}
+use Rattle.std.proofs.Common.{◌≡◌, refl, sym, ◌∙◌, ap, ℕ, zero, suc, ◌+◌, ◌<◌, arith, List, [], ◌∷◌, ◌++◌, length, take, drop, get_or, map, filter, flat_map, Bool, false, ◌&&◌, cond, eqb, nat_eq, inl, inr, append-nil, add-one}
 use Rattle.std.specs.Option.{option_map_or}
-use Rattle.std.proofs.lemmas.List.{take_more, drop_more}
+use Rattle.std.proofs.lemmas.List.{take_more}
 use Rattle.std.proofs.lemmas.List.Elements.{filter-append}
 use Rattle.std.proofs.lemmas.List.Concat.{flat_map-append}
 use Rattle.meta_model.proofs.Bools.{either_way}
 use Rattle.meta_model.specs.Text.{begins_with}
 use Rattle.load_model.specs.Paths.{slash, path_named}
 use Rattle.load_model.specs.Layers.{longer, folder_length, nearest_from, layer_place, numbers_to}
-use Rattle.layer_conf.specs.Places.{length_in, nearest_in, place_in}
+use Rattle.layer_conf.specs.Places.{nearest_in, place_in}
 
 -- folders that are named once
 
@@ -23,11 +23,6 @@ map_length (layer ∷ layers) = ap suc (map_length layers)
 pub place_named : (layers : List (List ℕ)) (path : List ℕ) → place_in (map path_named layers) path ≡ layer_place layers path
 place_named layers path =
     ap (λ o. option_map_or (λ (found : ℕ × ℕ). found.0) o (length (map path_named layers))) (nearest_named 0 layers path) ∙ ap (option_map_or (λ (found : ℕ × ℕ). found.0) (nearest_from 0 layers path)) (map_length layers)
-
-pub nearest_more : (folders : List (Option (List ℕ))) (path : List ℕ) (left : ℕ) (folder : Option (List ℕ)) → folder ≡ get_or folders left folder → left < length folders → longer left (length_in path folder) (nearest_in (left + 1) (drop (left + 1) folders) path) ≡ nearest_in left (drop left folders) path
-nearest_more folders path left folder is lt =
-    ap (λ k. longer left (length_in path folder) (nearest_in k (drop (left + 1) folders) path)) (add-one left)
-    ∙ ap (λ l. nearest_in left l path) (sym (drop_more folders left folder lt ∙ ap (λ f. f ∷ drop (left + 1) folders) (sym is)))
 
 -- a folder that holds a path
 
@@ -67,25 +62,6 @@ get_map place (p ∷ paths) (suc i) x is lt = get_map place paths i x is (omega 
 
 filter_more : (test : List ℕ → Bool) (paths : List (List ℕ)) (i : ℕ) (x : List ℕ) → x ≡ get_or paths i x → i < length paths → filter test (take (i + 1) paths) ≡ filter test (take i paths) ++ cond (test x) (x ∷ []) []
 filter_more test paths i x is lt = ap (filter test) (take_more paths i x lt ∙ ap (λ y. take i paths ++ y ∷ []) (sym is)) ∙ filter-append test (take i paths) (x ∷ [])
-
-pub placed_here : (paths old made made' : List (List ℕ)) (places : List ℕ) (i k : ℕ) (x y : List ℕ) (place : List ℕ → ℕ) → x ≡ get_or paths i x → i < length paths → places ≡ map place paths → get_or places i 0 ≡ k → made ≡ old ++ filter (λ path. eqb (place path) k) (take i paths) → y ≡ x → made' ≡ made ++ y ∷ []
-    → made' ≡ old ++ filter (λ path. eqb (place path) k) (take (i + 1) paths)
-placed_here paths old made made' places i k x y place is lt e at h same p =
-    let here : place x ≡ k = sym (ap (λ l. get_or l i 0) e ∙ get_map place paths i x is lt) ∙ at in
-    let test : eqb (place x) k ≡ true = rw here (eq_itself k) in
-    p ∙ ap (λ l. l ++ y ∷ []) h ∙ ap (λ z. (old ++ filter (λ path. eqb (place path) k) (take i paths)) ++ z ∷ []) same ∙ append_assoc old (filter (λ path. eqb (place path) k) (take i paths)) (x ∷ [])
-    ∙ ap (λ l. old ++ l) (ap (λ b. filter (λ path. eqb (place path) k) (take i paths) ++ cond b (x ∷ []) []) (sym test) ∙ sym (filter_more (λ path. eqb (place path) k) paths i x is lt))
-  where
-    eq_itself : (n : ℕ) → eqb n n ≡ true
-    eq_itself n = eq-eqb n n refl
-
-pub placed_elsewhere : (paths old made : List (List ℕ)) (places : List ℕ) (i k : ℕ) (x : List ℕ) (place : List ℕ → ℕ) → x ≡ get_or paths i x → i < length paths → places ≡ map place paths → (get_or places i 0 ≡ k → ⊥) → made ≡ old ++ filter (λ path. eqb (place path) k) (take i paths)
-    → made ≡ old ++ filter (λ path. eqb (place path) k) (take (i + 1) paths)
-placed_elsewhere paths old made places i k x place is lt e away h =
-    let same : get_or places i 0 ≡ place x = ap (λ l. get_or l i 0) e ∙ get_map place paths i x is lt in
-    let test : eqb (place x) k ≡ false = ne_eqb (place x) k (λ z. away (same ∙ z)) in
-    h ∙ ap (λ l. old ++ l) (sym (append-nil (filter (λ path. eqb (place path) k) (take i paths)))
-    ∙ ap (λ b. filter (λ path. eqb (place path) k) (take i paths) ++ cond b (x ∷ []) []) (sym test) ∙ sym (filter_more (λ path. eqb (place path) k) paths i x is lt))
 
 -- the paths of one more layer
 

@@ -2,14 +2,11 @@
 use Rattle.std.proofs.Common.{◌≡◌, ℕ, zero, suc, ◌+◌, ◌-◌, ◌<◌, ◌≤◌, true, false, List, [], ◌∷◌, ◌++◌, length, take, drop, get_or, refl, ap, arith, add-one, sub-one, drop-cons, Bool}
 use Rattle.std.proofs.Math.Seq.{take-suc}
 use Rattle.std.proofs.lemmas.Bool.Decides.{nat_tests}
-use Rattle.meta_model.specs.Text.{is_blank, is_white, skip_blanks, end_kept, without_end}
+use Rattle.meta_model.specs.Text.{is_blank, skip_blanks, end_kept, without_end}
 
 -- blanks and white space are ASCII
 pub blank-ascii : (c : ℕ) → is_blank c ≡ true → c < 128
 blank-ascii c e = grind (arith, nat_tests)
-
-pub white-ascii : (c : ℕ) → is_white c ≡ true → c < 128
-white-ascii c e = grind (arith, nat_tests)
 
 -- the blank at the place n goes
 pub skip_blanks-more : (xs : List ℕ) (n : ℕ) → n < length xs → is_blank (get_or xs n 0) ≡ true → skip_blanks (drop (n + 1) xs) ≡ skip_blanks (drop n xs)

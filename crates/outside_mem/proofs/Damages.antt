@@ -3,7 +3,7 @@ use Rattle.std.proofs.Common.{◌≡◌, ◌≢◌, ◌⊎◌, inl, inr, ⊎_eli
 use Rattle.std.specs.Prelude.{IsSome, Contains}
 use Rattle.std.specs.Option.{is_some, option_copied}
 use Rattle.std.proofs.lemmas.Bool.{false≢true, cases_lt}
-use Rattle.std.proofs.lemmas.List.{get_or_default, get_or_append_left, reverse-append, take_more}
+use Rattle.std.proofs.lemmas.List.{get_or_append_left, reverse-append, take_more}
 use Rattle.std.proofs.Math.Seq.{get_or-append_seam}
 use Rattle.tree_model.specs.declared.entry.Entry.{Entry}
 use Rattle.tree_model.specs.Tree.{entry_at}
@@ -75,12 +75,6 @@ first_more {paths} {n} {a} {b} {c} p is so_far change more = record {
     | inl same ↦ so_far.no_more q (subst (λ (r : List ℕ). IsSome (b r)) (sym same) (more (subst (λ (r : List ℕ). IsSome (c r)) same some)))
     | inr ne ↦ so_far.no_more q (subst IsSome (change.others q ne) some)
   ];
-}
-
-pub all_damaged : {paths : List (List ℕ)} {n : ℕ} {a b : Store} → length paths ≡ n → FirstDamaged paths n a b → IsDamaged paths a b
-all_damaged {paths} {n} all so_far = record {
-  others = λ q not. so_far.others q (λ k less is. not (k, omega (arith, less, all), get_or_default paths k q [] (omega (arith, less, all)) ∙ is));
-  no_more = so_far.no_more;
 }
 
 -- a path at which nothing is held any more, or something else where something was

@@ -1,8 +1,8 @@
 -- The story of a disk in memory after one call more.
-use Rattle.std.proofs.Common.{◌≡◌, ◌≢◌, inl, inr, subst, Bool, true, false, cond, Result, Ok, Err, OnOk, OnErr, None, List, [], ◌∷◌, ◌++◌, ℕ, Option, length, take, reverse, refl, sym, ap, ◌∙◌, ◌-◌, arith, length-append}
+use Rattle.std.proofs.Common.{◌≡◌, ◌≢◌, inl, inr, subst, false, Result, Ok, Err, OnOk, OnErr, None, List, [], ◌∷◌, ◌++◌, ℕ, Option, reverse, sym, ap, ◌∙◌, ◌-◌}
 use Rattle.std.specs.Result.{is_err}
 use Rattle.std.proofs.lemmas.Bool.{false≢true}
-use Rattle.std.proofs.lemmas.List.{reverse-append, take_at}
+use Rattle.std.proofs.lemmas.List.{reverse-append}
 use Rattle.tree_model.specs.declared.entry.Entry.{Entry}
 use Rattle.tree_model.specs.Tree.{entry_at}
 use Rattle.outside_traits.specs.declared.call.Call.{Call}
@@ -19,18 +19,6 @@ reverse_push calls call = reverse-append calls (call ∷ [])
 pub story_after : (tree : Entries) (h : Store) (old new : List Call) (call : Call) → entry_at tree ≡ h → new ≡ old ++ call ∷ []
     → story_by tree new ≡ record { held = h; calls = call ∷ reverse old }
 story_after tree h old new call is pushed = let e = ap reverse pushed ∙ reverse_push old call in λ i. record { held = is i; calls = e i }
-
--- the call taken back
-pub story_back : (s t : Entries) (old new back : List Call) (call : Call) → t ≡ s → new ≡ old ++ call ∷ [] → back ≡ take (length new - 1) new → story_by t back ≡ story_by s old
-story_back s t old new back call is pushed taken =
-    let e : back ≡ old = taken ∙ ap (λ (l : List Call). take (length l - 1) l) pushed ∙ take_at old (call ∷ []) (length (old ++ call ∷ []) - 1) (omega (arith, length-append old (call ∷ []))) in
-    λ i. story_by (is i) (e i)
-
--- a call kept or not
-pub sound_pushed : (tree : Entries) (old new : List Call) (call : Call) (b : Bool) → new ≡ cond b (old ++ call ∷ []) old
-    → IsSound (story_by tree old) → IsSound (record { held = entry_at tree; calls = call ∷ reverse old }) → IsSound (story_by tree new)
-sound_pushed tree old new call true pushed was is = subst IsSound (sym (story_after tree (entry_at tree) old new call refl pushed)) is
-sound_pushed tree old new call false pushed was is = subst (λ (l : List Call). IsSound (story_by tree l)) (sym pushed) was
 
 -- a step taken or not
 pub sound_either : {T E : Type 0} (r : Result T E) (s t new : Story) → OnOk r (new ≡ t) → OnErr r (new ≡ s) → IsSound s → IsSound t → IsSound new
@@ -63,8 +51,3 @@ moved_onto h p q x is = λ i r. at r i
 pub ok_of : {T E : Type 0} (r : Result T E) (P : Type 0) → false ≡ is_err r → OnOk r P → P
 ok_of (Ok v) P is ok = ok
 ok_of (Err e) P is ok = absurd (false≢true is)
-
--- the fact of an answer that was an error
-pub err_of : {T E : Type 0} (r : Result T E) (P : Type 0) → true ≡ is_err r → OnErr r P → P
-err_of (Ok v) P is err = absurd (false≢true (sym is))
-err_of (Err e) P is err = err

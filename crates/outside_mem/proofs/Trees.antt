@@ -16,8 +16,8 @@ use Rattle.tree_model.specs.Tree as trees
 use Rattle.tree_model.specs.Tree.{IsTree, HasRoom, entry_at}
 use Rattle.tree_model.specs.Size.{Exceeds}
 use Rattle.tree_model.proofs.TreeLemmas.{place_held}
-use Rattle.outside_traits.specs.Bench.{Entries, IsVacant}
-use Rattle.outside_traits.specs.Store.{Store, IsFree, IsListing}
+use Rattle.outside_traits.specs.Bench.{Entries}
+use Rattle.outside_traits.specs.Store.{IsListing}
 use Rattle.outside_traits.specs.Story.{IsContent}
 use Rattle.outside_traits.proofs.Laid.{tree_level}
 
@@ -47,14 +47,6 @@ tree_content tree is_tree = record { treelike = treelike; clean = clean }
 pub room_where_held : (tree : Entries) (p : List ℕ) → IsTree tree → IsSome (entry_at tree p) → HasRoom (entry_at tree) p × IsClean p
 room_where_held tree p is_tree some = let content = tree_content tree is_tree in
     (record { above = λ q held up. content.treelike q p up held some; below = λ q held down. content.treelike p q down some held }, content.clean p some)
-
--- a free path has room in a tree
-pub room_from_free : (h : Store) (p : List ℕ) → IsFree h p → HasRoom h p
-room_from_free h p free = record { above = λ q held up. none_some (free.above q up) held; below = λ q held down. none_some (free.below q down) held }
-
--- so has a vacant one
-pub room_from_vacant : (laid : Entries) (p : List ℕ) → IsVacant laid p → HasRoom (entry_at laid) p
-room_from_vacant laid p vacant = room_from_free (entry_at laid) p vacant.around
 
 -- each element, by its index
 each_by_index : (P : List ℕ → Type 0) (ys : List (List ℕ)) → ((k : ℕ) (d : List ℕ) → k < length ys → P (get_or ys k d)) → AllByRecursion P ys

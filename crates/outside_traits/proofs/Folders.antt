@@ -10,11 +10,11 @@ use Rattle.tree_model.specs.Path.{IsBelow, inside}
 use Rattle.tree_model.specs.Tree.{IsTree}
 use Rattle.outside_traits.specs.Store.{Store, IsFree, IsApart, IsAround, AgreesApart, AgreesRound, IsOpen, ChangesAt}
 use Rattle.outside_traits.specs.Story.{Story}
-use Rattle.outside_traits.specs.Answers.{Lists, Writes, Removes}
+use Rattle.outside_traits.specs.Answers.{Writes, Removes}
 use Rattle.outside_traits.specs.Passes.{Clears, Passes}
 use Rattle.outside_traits.proofs.Puts.{path_cases}
 use Rattle.outside_traits.proofs.Runs.{passes_none, passes_so, passes_then}
-use Rattle.outside_traits.proofs.Calls.{then_same, same_so, lists_passes, writes_passes, removes_passes}
+use Rattle.outside_traits.proofs.Calls.{same_so, writes_passes, removes_passes}
 use Rattle.outside_traits.proofs.Held.{none_unless}
 use Rattle.outside_traits.proofs.Laid.{HoldsFirst, tree_distinct, tree_level}
 
@@ -105,9 +105,6 @@ stays_removes {folder} {p} {a} {b} below run did = stays_again folder run (passe
 
 pub stays_writes : {folder p : List ℕ} {e : Entry} {a b c : Story} {T : Type 0} {r : Result T DiskFault} → IsBelow folder p → Stays folder a b → Writes p e b c r → Stays folder a c
 stays_writes {folder} {p} {a = a} {b = b} below run did = stays_again folder run (passes_so (AgreesRound folder b.held) (writes_passes did) (λ i j change. AgreesRound-changes folder p b.held i j below change))
-
-pub stays_lists : {folder p : List ℕ} {a b c : Story} {r : Result (List (List ℕ)) DiskFault} → Stays folder a b → Lists p b c r → Stays folder a c
-stays_lists run did = then_same run (lists_passes did)
 
 -- a folder that is open stays so, where nothing comes to stand at it or above it
 pub open_changes : (folder p : List ℕ) (i j : Store) → IsBelow folder p → ChangesAt p i j → IsOpen folder i → IsOpen folder j

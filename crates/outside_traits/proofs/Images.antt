@@ -46,7 +46,3 @@ left_content h (Looked ∷ calls) content i left = left_content h calls (λ k. c
 left_content h (Synced ∷ calls) content i left = subst IsContent (sym left) (content 0)
 left_content h (Put p was ∷ calls) content i left = left.0
 left_content h (Moved p q was replaced ∷ calls) content i left = left.0
-
--- an image is what a disk may hold
-pub image-content : (s : Story) → IsSound s → (i : Store) → IsImage s i → IsContent i
-image-content s sound i left = left_content s.held s.calls sound.content i left

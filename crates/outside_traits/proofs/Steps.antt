@@ -12,12 +12,12 @@ use Rattle.tree_model.specs.Tree.{IsTree}
 use Rattle.outside_traits.specs.Store.{Store, ChangesAt, IsListing, IsFree, IsOpen, HoldsTree}
 use Rattle.outside_traits.proofs.Laid.{HoldsFirst, holds_tree}
 use Rattle.outside_traits.specs.Story.{Story}
-use Rattle.outside_traits.specs.Answers.{Lists, Reads, Writes, Removes}
+use Rattle.outside_traits.specs.Answers.{Reads, Writes, Removes}
 use Rattle.outside_traits.specs.Passes.{Clears}
 use Rattle.outside_traits.proofs.Puts.{path_cases}
 use Rattle.outside_traits.proofs.Calls.{ChangesAt-same, reads_passes, removes_passes, same_so, same_then}
-use Rattle.outside_traits.proofs.Held.{removes_others, writes_others, removes_ok, writes_ok, removed_none, removed_some, lists_held, none_unless}
-use Rattle.outside_traits.proofs.Folders.{Stays, stays_none, stays_clears, stays_removes, stays_writes, stays_lists, near_folder, near_above, open_changes, some_none, next_free, next_held}
+use Rattle.outside_traits.proofs.Held.{removes_others, writes_others, removes_ok, writes_ok, removed_none, removed_some, none_unless}
+use Rattle.outside_traits.proofs.Folders.{Stays, stays_none, stays_clears, stays_removes, stays_writes, near_folder, near_above, open_changes, some_none, next_free, next_held}
 
 -- the folder and the paths above it that are shorter than n are clear
 pub record Clearing (folder : List ℕ) (n : ℕ) (a b : Story) : Type 0 where
@@ -89,14 +89,6 @@ pub record Emptying (folder : List ℕ) (paths : List (List ℕ)) (n : ℕ) (a b
   pub gone : (k : ℕ) → n ≤ k → k < length paths → b.held (get_or paths k []) ≡ None
   pub shrinks : (q : List ℕ) → IsSome (b.held q) → IsSome (a.held q)
 
-pub emptying_start : {folder prefix : List ℕ} {paths : List (List ℕ)} {a b : Story} {r : Result (List (List ℕ)) DiskFault} → IsOpen folder a.held → Lists prefix a b r → Emptying folder paths (length paths) a b
-emptying_start {folder} {prefix} {paths} {a} {b} was did = record {
-  stays = stays_lists (stays_none folder a) did;
-  open_at = subst (IsOpen folder) (sym (lists_held did)) was;
-  gone = λ k le lt. absurd (omega arith);
-  shrinks = λ q some. subst (λ (h : Store). IsSome (h q)) (lists_held did) some;
-}
-
 pub emptying_stays : {folder p : List ℕ} {paths : List (List ℕ)} {n : ℕ} {a b c : Story} {T : Type 0} {r : Result T DiskFault} → IsBelow folder p → Emptying folder paths n a b → Removes p b c r → Stays folder a c × IsOpen folder c.held
 emptying_stays {folder} {p} {paths} {n} {a} {b} {c} below so_far did = (stays_removes below so_far.stays did, open_changes folder p b.held c.held below (removes_others did) so_far.open_at)
 
@@ -133,16 +125,6 @@ pub record Filling (folder : List ℕ) (tree : List (List ℕ × Entry)) (n : �
   pub stays : Stays folder a b
   pub open_at : IsOpen folder b.held
   pub first : HoldsFirst n folder tree b.held
-
-pub filling_start : (folder : List ℕ) (tree : List (List ℕ × Entry)) (a : Story) → IsOpen folder a.held → ((q : List ℕ) → a.held (inside folder q) ≡ None) → Filling folder tree 0 a a
-filling_start folder tree a was none = record {
-  stays = stays_none folder a;
-  open_at = was;
-  first = record {
-    each = λ k d lt. absurd (omega arith);
-    only = λ q some. absurd (false≢true (sym (ap is_some (none q)) ∙ some));
-  };
-}
 
 below_under : (folder p : List ℕ) → IsBelow folder (inside folder p)
 below_under folder p = (p, refl)

@@ -19,10 +19,6 @@ pub record Passes (old new : Story) (R : Store → Store → Type 0) : Type 0 wh
   pub since : (t : ℕ) (image : Store) → t ≤ moment old → IsImageSince new t image
       → IsImageSince old t image ⊎ ((earlier : Store) × IsImage old earlier × R earlier image)
 
--- each image since the run began is an image of its beginning, changed by R
-abbrev pub EachSince : Story → Story → (Store → Store → Type 0) → Type 0
-EachSince old new R = (image : Store) → IsImageSince new (moment old) image → (earlier : Store) × IsImage old earlier × R earlier image
-
 -- each image now has the property
 abbrev pub EachNow : Story → (Store → Type 0) → Type 0
 EachNow story P = (image : Store) → IsImage story image → P image

@@ -1,5 +1,5 @@
 -- Passes over a text that depends on the active overrides.
-use Rattle.std.proofs.Common.{◌≡◌, refl, sym, ap, ◌∙◌, codes, unwrap_or, ℕ, zero, suc, ◌+◌, Bool, true, false, ◌&&◌, List, [], ◌∷◌, Option, Some, None, Result, Ok, Err, IfSome, if◌then◌else◌, bytes_eq, add-one}
+use Rattle.std.proofs.Common.{◌≡◌, refl, sym, ap, ◌∙◌, codes, unwrap_or, ℕ, zero, suc, ◌+◌, Bool, true, false, ◌&&◌, List, [], ◌∷◌, Option, Result, Ok, Err, if◌then◌else◌, bytes_eq, add-one}
 use Rattle.std.specs.Cmp.Lexicographic.{pointwise}
 use Rattle.meta_model.specs.Refusal.{Refusal, unstable, ◌>>=◌}
 use Rattle.meta_model.specs.declared.entry.EntryLine.{EntryLine}
@@ -7,9 +7,6 @@ use Rattle.meta_model.specs.Text.{texts_eq, colon_pieces}
 use Rattle.meta_model.specs.Overrides.{resolved}
 use Rattle.meta_model.specs.Expansion.{value_by}
 use Rattle.meta_model.specs.Active.{pass, settled, active}
-use Rattle.override_eval.specs.declared.settling.OverrideFault.{OverrideFault}
-use Rattle.override_eval.specs.declared.settling.OverrideFault.TheVariants.{Unstable, Under, Memory}
-use Rattle.override_eval.specs.Faults.{IsFaultOf}
 use Rattle.override_eval.specs.Settled.{pass_of, settled_by, active_by, overrides_under}
 
 pub texts_pointwise : (xs ys : List (List ℕ)) → pointwise bytes_eq xs ys ≡ texts_eq xs ys
@@ -17,16 +14,6 @@ texts_pointwise [] [] = refl
 texts_pointwise [] (y ∷ ys) = refl
 texts_pointwise (x ∷ xs) [] = refl
 texts_pointwise (x ∷ xs) (y ∷ ys) = ap (λ b. bytes_eq x y && b) (texts_pointwise xs ys)
-
--- a refusal goes through what follows
-pub fault_through : {F A B : Type 0} (told : F → Option Refusal) (fault : OverrideFault F) (meant : Result A Refusal) (next : A → Result B Refusal) → IsFaultOf told fault meant → IsFaultOf told fault (meant >>= next)
-fault_through told (Unstable before last) meant next h = ap (λ m. m >>= next) h
-fault_through {F} {A} {B} told (Under fault) meant next h = through (told fault) h
-  where
-    through : (refusal : Option Refusal) → IfSome refusal (λ r. meant ≡ Err r) → IfSome refusal (λ r. (meant >>= next) ≡ Err r)
-    through None g = g
-    through (Some r) g = ap (λ m. m >>= next) g
-fault_through told Memory meant next h = h
 
 -- a pass more
 pub settled_step : (pass : List (List ℕ) → Result (List (List ℕ)) Refusal) (n m : ℕ) (before last : List (List ℕ)) → n ≡ m + 1 → texts_eq before last ≡ false → settled_by pass n before last ≡ (pass last >>= settled_by pass m last)

@@ -62,10 +62,6 @@ opens texts last text (next ∷ more) = refl
 pub closes : (texts : List (List ℕ)) (before last text : List ℕ) (more : List (List ℕ)) → with_open texts before (text ∷ more) ≡ with_open (before ∷ texts) last (bracket_before 41 (text ∷ more))
 closes texts before last text more = refl
 
-pub closes_none : (last text : List ℕ) (more : List (List ℕ)) → with_open [] (last ++ 41 ∷ []) (text ∷ more) ≡ with_open [] last (bracket_before 41 (text ∷ more))
-closes_none last text [] = append_assoc last (41 ∷ []) text
-closes_none last text (next ∷ more) = append_assoc last (41 ∷ []) (join_with_byte 41 (text ∷ (next ∷ more)))
-
 pub is_one : (c : ℕ) → is_bracket c ≡ true → (c ≡ 40) ⊎ (c ≡ 41)
 is_one c h = elim (either_way (eqb c 40)) [
   | inl e ↦ inl ((Decides-eqb c 40).0 e)

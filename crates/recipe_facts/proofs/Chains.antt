@@ -6,11 +6,10 @@ use Rattle.meta_model.specs.declared.facts.Package.{Package}
 use Rattle.meta_model.specs.declared.facts.TaskFacts.{TaskFacts}
 use Rattle.meta_model.specs.Refusal.{Refusal}
 use Rattle.meta_model.specs.Tasks.{tasks}
-use Rattle.meta_model.specs.Frozen.{frozen}
 use Rattle.load_model.specs.LoadRefusal.{◌>>=◌}
 use Rattle.load_model.specs.Layers.{words_of}
 use Rattle.load_model.specs.Recipes.{Recipe}
-use Rattle.load_model.specs.Facts.{flag_words, named_task, task_facts, facts_of, form, package_facts, needed_words, recipe_packages, all_tasks, Wishes, family, wishes, wishes_over}
+use Rattle.load_model.specs.Facts.{flag_words, named_task, facts_of, form, needed_words, recipe_packages, all_tasks, Wishes, family}
 use Rattle.recipe_facts.specs.Recipe.{facts_behind}
 
 -- a task's flags
@@ -29,9 +28,6 @@ task2 lines task depends deptask = flag_words lines task.0 (codes "rdeptask") >>
 
 abbrev pub task1 : List EntryLine → Asked → List (List ℕ) → Result TaskFacts Refusal
 task1 lines task depends = flag_words lines task.0 (codes "deptask") >>= task2 lines task depends
-
-pub task_chain : (lines : List EntryLine) (task : Asked) → task_facts lines task ≡ (flag_words lines task.0 (codes "depends") >>= task1 lines task)
-task_chain lines task = refl
 
 -- a recipe
 
@@ -105,12 +101,6 @@ wishes2 lines assumed providers = family lines (codes "PREFERRED_VERSION_") >>= 
 abbrev pub wishes1 : List EntryLine → Words → Result Wishes Refusal
 wishes1 lines assumed = family lines (codes "PREFERRED_PROVIDER_") >>= wishes2 lines assumed
 
-pub wishes_chain : (lines : List EntryLine) → wishes_over lines ≡ (words_of lines (codes "ASSUME_PROVIDED") >>= wishes1 lines)
-wishes_chain lines = refl
-
-pub wishes_frozen : (config : List EntryLine) → wishes config ≡ (frozen config >>= wishes_over)
-wishes_frozen config = refl
-
 -- a package
 
 abbrev pub package2 : Words → Words → List ℕ → Words → Words → Result Package Refusal
@@ -118,6 +108,3 @@ package2 provided needed name provides needs = Ok (record { name = name; rdepend
 
 abbrev pub package1 : List EntryLine → Words → Words → List ℕ → Words → Result Package Refusal
 package1 lines provided needed name provides = needed_words lines (form (codes "RDEPENDS") name) >>= package2 provided needed name provides
-
-pub package_chain : (lines : List EntryLine) (provided needed : Words) (name : List ℕ) → package_facts lines provided needed name ≡ (words_of lines (form (codes "RPROVIDES") name) >>= package1 lines provided needed name)
-package_chain lines provided needed name = refl

@@ -1,9 +1,8 @@
 -- Names with their values.
-use Rattle.std.proofs.Common.{◌≡◌, refl, sym, ◌∙◌, ap, subst, ℕ, ◌+◌, ◌<◌, List, [], ◌∷◌, ◌++◌, length, get_or, drop, filter, Bool, true, false, Option, Some, None, MatchOption, Result, Ok, Err, Bor, inl, inr}
+use Rattle.std.proofs.Common.{◌≡◌, refl, sym, ◌∙◌, ap, subst, ℕ, ◌+◌, ◌<◌, List, [], ◌∷◌, ◌++◌, length, get_or, drop, filter, true, false, Option, Some, None, MatchOption, Result, Ok, Err, Bor, inl, inr}
 use Rattle.std.specs.Str.{IsCharBoundary}
 use Rattle.std.specs.Str.Pattern.{FindsTextPrefix}
 use Rattle.std.proofs.lemmas.Str.Pattern.{starts_text}
-use Rattle.std.proofs.lemmas.List.Elements.{filter-append}
 use Rattle.meta_model.proofs.Bools.{either_way}
 use Rattle.meta_model.specs.declared.entry.EntryLine.{EntryLine}
 use Rattle.meta_model.specs.Refusal.{Refusal}
@@ -38,9 +37,6 @@ one_then lines front name rest = at (value lines name) (values_behind lines fron
     at (Err refusal) n = refl
     at (Ok text) (Err refusal) = refl
     at (Ok text) (Ok others) = ap Ok (with_first (drop (length front) name) text others)
-
-filtered_one : (p : List ℕ → Bool) (x : List ℕ) (rest : List (List ℕ)) → filter p (x ∷ rest) ≡ filter p (x ∷ []) ++ filter p rest
-filtered_one p x rest = filter-append p (x ∷ []) rest
 
 none_then : (n : Result (List (List ℕ × List ℕ)) Refusal) → n ≡ behind [] n
 none_then (Ok rest) = refl

@@ -31,14 +31,8 @@ one_put f g k a w u e t =
 pub alone : (stem append t : List ℕ) → stem ≡ append_stem append → is_open append ≡ false → cond (bytes_eq stem t) (append ∷ []) [] ≡ filter (is_named t) (append ∷ [])
 alone stem append t s o = rw (s, o) refl
 
-pub alone_apart : (append : List ℕ) → is_open append ≡ false → [] ≡ filter is_open (append ∷ [])
-alone_apart append o = rw o refl
-
 pub none_named : (append t : List ℕ) → is_open append ≡ true → [] ≡ filter (is_named t) (append ∷ [])
 none_named append t o = rw o refl
-
-pub one_apart : (append : List ℕ) → is_open append ≡ true → append ∷ [] ≡ filter is_open (append ∷ [])
-one_apart append o = rw o refl
 
 -- one more of a list that is filtered
 pub filter_more : (test : List ℕ → Bool) (xs : List (List ℕ)) (i : ℕ) (x : List ℕ) → x ≡ get_or xs i x → i < length xs → filter test (take i xs) ++ filter test (x ∷ []) ≡ filter test (take (i + 1) xs)

@@ -110,9 +110,6 @@ held_more wish xs r false = ap (held_of wish) (sym (append_nothing xs))
     append_nothing [] = refl
     append_nothing (y ∷ ys) = ap (λ l. y ∷ l) (append_nothing ys)
 
-one_kept : (t : List ℕ) (r : Recipe) → filter (λ (x : Recipe). bytes_eq x.pn t) (r ∷ []) ≡ cond (bytes_eq r.pn t) (r ∷ []) []
-one_kept t r = refl
-
 same_fit : (b c d : Bool) (o : Option Held) (r : Recipe) → (b ≡ true → c ≡ d) → cond b (turned_to c o r) o ≡ cond b (turned_to d o r) o
 same_fit true c d o r h = ap (λ x. turned_to x o r) (h refl)
 same_fit false c d o r h = refl

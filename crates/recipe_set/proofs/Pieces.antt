@@ -211,9 +211,6 @@ ends_not : (text : List ℕ) → (text ≡ [] → ⊥) → kind_of text ≡ End 
 ends_not [] n e = n refl
 ends_not (c ∷ rest) n e = byte_ends_not c (kinded c) e
 
-pub empty_ends : (text : List ℕ) → text ≡ [] → kind_of text ≡ End
-empty_ends text e = ap kind_of e
-
 pub not_empty : (text : List ℕ) (k : Kind) → (k ≡ End → ⊥) → k ≡ kind_of text → text ≡ [] → ⊥
 not_empty text k n e z = n (e ∙ ap kind_of z)
 

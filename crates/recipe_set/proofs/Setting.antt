@@ -1,5 +1,5 @@
 -- Refusals of recipes, passed on.
-use Rattle.std.proofs.Common.{◌≡◌, refl, sym, ◌∙◌, ap, subst, inl, inr, ◌∷◌, ◌<◌, List, ℕ, length, get_or, drop, map, [], suc, String, BTreeMap, string_bytes, Bool, true, false, Option, Some, None, Result, Ok, Err, MatchOption, IfErr}
+use Rattle.std.proofs.Common.{◌≡◌, refl, sym, ◌∙◌, ap, subst, ◌∷◌, ◌<◌, List, ℕ, length, get_or, drop, map, [], suc, String, BTreeMap, string_bytes, Bool, true, false, Option, Some, None, Result, Ok, Err, MatchOption, IfErr}
 use Rattle.std.specs.Prelude.{IsErrAnd, codes}
 use Rattle.std.specs.Option.{option_map}
 use Rattle.std.specs.Global.{Global}
@@ -10,8 +10,6 @@ use Rattle.std.specs.Cmp.Lexicographic.{slice_cmp}
 use Rattle.std.proofs.lemmas.Result.{err_from_is_err_and}
 use Rattle.meta_model.specs.Refusal.{Refusal}
 use Rattle.meta_model.specs.declared.entry.EntryLine.{EntryLine}
-use Rattle.datastore.specs.declared.fault.DataFault.{DataFault}
-use Rattle.datastore.specs.Faults.{IsDataFault, data_refusal}
 use Rattle.load_model.specs.LoadRefusal.{LoadRefusal, LoadCause, Place, refused_at, ◌>>=◌, refused_as, require}
 use Rattle.load_model.specs.Loading.{Sources}
 use Rattle.load_model.specs.Recipes as recipes
@@ -25,9 +23,8 @@ use Rattle.recipe_facts.specs.declared.of_recipe.Recipe.{Recipe as Read}
 use Rattle.recipe_facts.specs.Recipe.{recipe_meant}
 use Rattle.meta_model.specs.Passing.{IsRefused, behind}
 use Rattle.meta_model.proofs.Passing.{refused_on, goes_on, one_refused}
-use Rattle.recipe_facts.proofs.Binding.{said}
 use Rattle.recipe_set.specs.declared.fault.SetFault.{SetFault}
-use Rattle.recipe_set.specs.Faults.{set_refusal, IsSetFault, IsTold, IsWantOfMemory, is_failure, set_failed}
+use Rattle.recipe_set.specs.Faults.{set_refusal, IsSetFault, IsWantOfMemory, is_failure, set_failed}
 use Rattle.recipe_set.specs.declared.choice.Pick.{Pick}
 use Rattle.recipe_set.specs.Held.{held_of}
 use Rattle.recipe_set.specs.Picks.{held_at, pick_meant}
@@ -48,18 +45,9 @@ set_later fault m a f e h = set_same fault (m >>= f) (f a) (goes_on m a f e) h
 pub set_memory : {A : Type 0} (fault : SetFault) (m : Result A SetRefusal) → IsWantOfMemory fault → IsSetFault fault m
 set_memory fault m e = record { told = subst (λ f. IsRefused (set_refusal f) m) (sym e) tt }
 
--- what is told is what was meant
-pub set_told : {A : Type 0} (made : SetFault) (o : Option SetRefusal) (m : Result A SetRefusal) → IsTold made o → IsRefused o m → IsSetFault made m
-set_told made o m (inl e) h = record { told = subst (λ r. IsRefused r m) (sym e) h }
-set_told made o m (inr e) h = record { told = subst (λ r. IsRefused r m) (sym e) tt }
-
 told_value : {A : Type 0} (file : List ℕ) (o : Option Refusal) (m : Result A Refusal) → IsRefused o m → IsRefused (option_map (no_value file) o) (asked_of file m)
 told_value file None m h = tt
 told_value file (Some r) m h = ap (asked_of file) h
-
--- a value that can't be given
-pub set_data : {A : Type 0} (file : List ℕ) (fault : DataFault) (made : SetFault) (m : Result A Refusal) → IsTold made (option_map (no_value file) (data_refusal fault)) → IsDataFault fault m → IsSetFault made (asked_of file m)
-set_data file fault made m t h = set_told made (option_map (no_value file) (data_refusal fault)) (asked_of file m) t (told_value file (data_refusal fault) m (said fault m h))
 
 at_cause : {A : Type 0} (P : Type 0) (place : Place) (o : Option LoadCause) (m : Result A LoadRefusal) → MatchOption o P (λ c. m ≡ Err (refused_at place c)) → IsRefused (option_map (refused_at place) o) m
 at_cause P place None m h = tt
@@ -132,13 +120,6 @@ good_is path name false e = absurd cc
 
 pub name_good : (path : List ℕ) (name : FileName) → is_pn name.pn ≡ true → recipes.good_name path name ≡ Ok name
 name_good path name e = good_is path name (is_pn name.pn) e
-
-bad_is : (path : List ℕ) (name : FileName) (b : Bool) → b ≡ false → (require b (bad_name path) >>= λ good. Ok name) ≡ Err (bad_name path)
-bad_is path name true e = absurd cc
-bad_is path name false e = refl
-
-pub name_bad : (path : List ℕ) (name : FileName) → is_pn name.pn ≡ false → recipes.good_name path name ≡ Err (bad_name path)
-name_bad path name e = bad_is path name (is_pn name.pn) e
 
 -- the entries of a recipe, in their parts
 pub entries_are : (sources : Sources) (config : List EntryLine) (path : List ℕ) (name : FileName) (appends : List (List ℕ)) → recipes.entries_with sources config path name (appends_of path appends) ≡ recipe_entries sources config path name appends

@@ -1,13 +1,9 @@
 -- Folders at which, and above which, nothing is held.
-use Rattle.std.proofs.Common.{◌≡◌, ◌∙◌, sym, ap, refl, inl, inr, arith, ℕ, ◌+◌, ◌<◌, true, false, true≢false, List, ◌∷◌, ◌++◌, length, get_or, take, drop, Option, Some, None, is_some, take-append-drop}
+use Rattle.std.proofs.Common.{◌≡◌, ◌∙◌, sym, ap, refl, ℕ, ◌+◌, ◌<◌, true, false, true≢false, List, ◌∷◌, ◌++◌, length, get_or, take, drop, Option, Some, None, is_some, take-append-drop}
 use Rattle.std.proofs.lemmas.List.{drop_more}
-use Rattle.std.proofs.lemmas.Bool.{cases_eq}
 use Rattle.tree_model.specs.declared.entry.Entry.{Entry}
 use Rattle.tree_model.specs.Path.{IsBelow}
 use Rattle.outside_traits.specs.Store.{Store, IsOpen}
-use Rattle.outside_traits.specs.Story.{Story}
-use Rattle.outside_traits.proofs.Folders.{stays_none}
-use Rattle.outside_traits.proofs.Steps.{Clearing}
 
 -- a test that finds nothing says that nothing is there
 pub nothing_held : (o : Option Entry) → is_some o ≡ false → o ≡ None
@@ -17,20 +13,6 @@ nothing_held (Some x) e = absurd (true≢false e)
 pub something_held : (o : Option Entry) → is_some o ≡ true → o ≡ None → ⊥
 something_held None e f = true≢false (sym e)
 something_held (Some x) e f = cc
-
--- nothing is held at the folder
-pub open_start : (folder : List ℕ) (s : Story) → s.held folder ≡ None → Clearing folder 0 s s
-open_start folder s none = record { stays = stays_none folder s; at = none; above = λ k lt is. absurd (omega (arith, lt)) }
-
--- nor at one path above it more
-pub open_more : (folder : List ℕ) (n : ℕ) (s : Story) → Clearing folder n s s → s.held (take n folder) ≡ None → Clearing folder (n + 1) s s
-open_more folder n s so_far none = record { stays = so_far.stays; at = so_far.at; above = above }
-  where
-    above : (k : ℕ) → k < n + 1 → get_or folder k 0 ≡ 47 → s.held (take k folder) ≡ None
-    above k less at_k = elim (cases_eq k n) [
-      | inl same ↦ ap (λ (m : ℕ). s.held (take m folder)) same ∙ none
-      | inr other ↦ so_far.above k (omega (arith, less, other)) at_k
-    ]
 
 -- a path that ends before a slash of the folder is above it
 pub above_at : (folder : List ℕ) (n : ℕ) → n < length folder → get_or folder n 0 ≡ 47 → IsBelow (take n folder) folder

@@ -1,6 +1,6 @@
 -- Recipes whose names all have providers.
-use Rattle.std.proofs.Common.{◌≡◌, sym, ◌∙◌, subst, refl, arith, ℕ, zero, suc, ◌<◌, List, [], ◌∷◌, length, Some, None, ◌⊎◌, slice_get, Ok, Err, Result}
-use Rattle.std.specs.Result.{OnOk, IfErr}
+use Rattle.std.proofs.Common.{◌≡◌, sym, ◌∙◌, refl, arith, ℕ, zero, suc, ◌<◌, List, [], ◌∷◌, length, Some, None, ◌⊎◌, slice_get, Ok, Err, Result}
+use Rattle.std.specs.Result.{IfErr}
 use Rattle.meta_model.specs.declared.facts.FactSet.{FactSet}
 use Rattle.meta_model.specs.declared.facts.RecipeFacts.{RecipeFacts}
 use Rattle.task_graph.specs.declared.fault.GraphFault.{GraphFault}
@@ -8,7 +8,7 @@ use Rattle.task_graph.specs.declared.needed.Needed.{Needed}
 use Rattle.task_graph.specs.Faults.{IsRefusalOf}
 use Rattle.task_graph.specs.Needed.{AreNeeded}
 use Rattle.task_graph.specs.Context.{LacksToBuild, LacksToRun}
-use Rattle.task_graph.specs.Edges.{LacksAt, HasAllProviders}
+use Rattle.task_graph.specs.Edges.{LacksAt}
 use Rattle.graph_walk.proofs.Finding.{place_within}
 use Rattle.task_graph.proofs.Refusals.{refusal_weaker}
 
@@ -21,11 +21,6 @@ pub none_needed : {P : Type 0} (facts : FactSet) (all : List Needed) (n : ℕ) (
 none_needed facts all n recipe are at none =
     let got = there all n (omega (arith, place_within facts.recipes n recipe at, are.long)) in
     absurd (let f : None ≡ Some got.0 = sym none ∙ got.1 in cc)
-
-pub one_checked : {T : Type 0} (facts : FactSet) (n : ℕ) (recipe : RecipeFacts) (r : Result T GraphFault) → slice_get facts.recipes n ≡ Some recipe → OnOk r (HasAllProviders facts recipe)
-    → OnOk r ((other : RecipeFacts) → slice_get facts.recipes n ≡ Some other → HasAllProviders facts other)
-one_checked facts n recipe (Ok u) at h = λ other e. (let same : Some recipe ≡ Some other = sym at ∙ e in let one : recipe ≡ other = cc in subst (HasAllProviders facts) one h)
-one_checked facts n recipe (Err fault) at h = tt
 
 pub one_refused : {T : Type 0} (facts : FactSet) (n : ℕ) (recipe : RecipeFacts) (r : Result T GraphFault) → slice_get facts.recipes n ≡ Some recipe → IfErr r (IsRefusalOf (λ refusal. LacksToBuild facts recipe refusal ⊎ LacksToRun facts recipe refusal))
     → IfErr r (IsRefusalOf (LacksAt facts n))

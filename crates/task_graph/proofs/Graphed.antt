@@ -12,7 +12,7 @@ use Rattle.meta_model.specs.declared.facts.Target.{Target}
 use Rattle.meta_model.specs.declared.facts.TaskId.{TaskId}
 use Rattle.meta_model.specs.declared.facts.Node.{Node}
 use Rattle.meta_model.specs.declared.facts.Graph.{Graph}
-use Rattle.meta_model.specs.Walks.{IsDepth, IsCycle}
+use Rattle.meta_model.specs.Walks.{IsDepth}
 use Rattle.meta_model.specs.Needs.{Task, Needs}
 use Rattle.meta_model.specs.GraphRefusal.{target_task}
 use Rattle.meta_model.specs.TaskGraph.{IsReached, id_of, node_task, node_at, node_cmp, HasDependencies, IsGraph, HasNoRefusal}
@@ -229,10 +229,3 @@ module _ (facts : FactSet) (table : TaskTable) (targets : List Target) (found : 
 pub cycle_inside : (facts : FactSet) (table : TaskTable) (targets : List Target) (found places : List ℕ) → HasTaskCycle facts table targets found places → All (λ p. p < length found) places
 cycle_inside facts table targets found places has = all_from_has (λ p. p < length found) places (λ p h.
     let at = zip_left (λ q a. StandsAt table found q a × IsReached facts targets a) places has.tasks h.0 p has.at h.1 in place_within found p at.2.0.0 at.2.0.1)
-
-pub cycle_some : (facts : FactSet) (table : TaskTable) (targets : List Target) (found places : List ℕ) → HasTaskCycle facts table targets found places → 0 < length places
-cycle_some facts table targets found places has = by_tasks has.tasks has.closed (zip_length (λ q a. StandsAt table found q a × IsReached facts targets a) places has.tasks has.at)
-  where
-    by_tasks : (tasks : List Task) → IsCycle (Needs facts) tasks → length places ≡ length tasks → 0 < length places
-    by_tasks [] closed long = absurd closed
-    by_tasks (a ∷ tasks) closed long = omega (arith, long)

@@ -34,15 +34,6 @@ fault_weaker P Q C D B E to closes beyond Tasks h = beyond h
 fault_weaker P Q C D B E to closes beyond (BadThreads text) h = h
 fault_weaker P Q C D B E to closes beyond Memory h = h
 
-pub fault_of_refusal : (P : GraphRefusal → Type 0) (C : List TaskId → Type 0) (B : Type 0) → (fault : GraphFault) → IsRefusalOf P fault → IsFaultOf P C B fault
-fault_of_refusal P C B (NoSuchTask pn task) h = h
-fault_of_refusal P C B (TaskCycle tasks) h = absurd h
-fault_of_refusal P C B (NothingProvides name) h = h
-fault_of_refusal P C B (SeveralProvide name pns) h = h
-fault_of_refusal P C B Tasks h = absurd h
-fault_of_refusal P C B (BadThreads text) h = h
-fault_of_refusal P C B Memory h = h
-
 -- places
 
 pub slice_there : {A : Type 0} (xs : List A) (k : ℕ) (x : A) → k < length xs → get_or xs k x ≡ x → slice_get xs k ≡ Some x

@@ -3,7 +3,6 @@ use Rattle.std.proofs.Common.{◌≡◌, ◌<◌, ◌≤◌, ◌+◌, ◌-◌, �
 use Rattle.std.specs.Prelude.{Any, MatchBool}
 use Rattle.std.proofs.lemmas.Bool.{cases_lt}
 use Rattle.std.proofs.lemmas.List.{get_or_default, get_or_read, get_or_append_left, get_or_at, take_at}
-use borrow.Author.Count.{below_more}
 use Rattle.tree_model.specs.declared.entry.Entry.{Entry}
 use Rattle.tree_model.specs.Path.{IsBelow, IsBefore, IsUpTo, BeginsWith}
 use Rattle.tree_model.specs.Reach.{IsCommon}
@@ -19,13 +18,6 @@ pub record AreBefore (xs : List (List ℕ × Entry)) (place : ℕ) (path : List 
   pub within : place ≤ length xs
   pub before : (k : ℕ) (d : List ℕ × Entry) → k < place → IsBefore (get_or xs k d).0 path
 
-pub before_more : (xs : List (List ℕ × Entry)) (place : ℕ) (path here : List ℕ) (e : List ℕ × Entry) → place < length xs → e ≡ get_or xs place e → here ≡ e.0 → AreBefore xs place path → IsBefore here path → AreBefore xs (place + 1) path
-before_more xs place path here e lt is same so_far step = record {
-  within = omega arith;
-  before = λ k d h. below_more (λ m. IsBefore (get_or xs m d).0 path) place (λ m g. so_far.before m d g)
-      (subst (λ (z : List ℕ). IsBefore z path) (same ∙ ap (λ x. x.0) (is ∙ get_or_default xs place e d lt)) step) k h;
-}
-
 pub begins_at : (xs : List (List ℕ × Entry)) (place : ℕ) (path here : List ℕ) (e : List ℕ × Entry) → IsAscending xs → place < length xs → e ≡ get_or xs place e → here ≡ e.0 → AreBefore xs place path → IsUpTo path here → IsStart xs path place
 begins_at xs place path here e asc lt is same so_far up = record {
   within = omega arith;
@@ -39,13 +31,6 @@ begins_at xs place path here e asc lt is same so_far up = record {
     by : (k : ℕ) (d : List ℕ × Entry) → place ≤ k → k < length xs → (place < k) ⊎ (k ≤ place) → IsUpTo path (get_or xs k d).0
     by k d ge within (inl l) = up_to_trans path (get_or xs place d).0 (get_or xs k d).0 (at d) (up_to_from_before (get_or xs place d).0 (get_or xs k d).0 (asc place k d l within))
     by k d ge within (inr g) = let m : place ≡ k = omega arith in subst (λ (n : ℕ). IsUpTo path (get_or xs n d).0) m (at d)
-
-pub begins_behind : (xs : List (List ℕ × Entry)) (place : ℕ) (path : List ℕ) → length xs ≤ place → AreBefore xs place path → IsStart xs path (length xs)
-begins_behind xs place path le so_far = record {
-  within = omega arith;
-  before = λ k d h. so_far.before k d (omega arith);
-  after = λ k d ge within. absurd (omega arith);
-}
 
 -- all entries in front of one that comes before a path come before it too
 pub before_last : (xs : List (List ℕ × Entry)) (place : ℕ) (path here : List ℕ) (e : List ℕ × Entry) → IsAscending xs → place - 1 < length xs → 0 < place → e ≡ get_or xs (place - 1) e → here ≡ e.0 → IsBefore here path → (k : ℕ) (d : List ℕ × Entry) → k < place → IsBefore (get_or xs k d).0 path

@@ -150,9 +150,6 @@ tree_inside xs made folder tree is clean = record {
 
 -- ---- parts of a path in a folder
 
-onto_first_append : (x : ℕ) (part : List ℕ) (parts more : List (List ℕ)) → onto_first x ((part ∷ parts) ++ more) ≡ onto_first x (part ∷ parts) ++ more
-onto_first_append x part parts more = refl
-
 -- the parts of both, one behind the other
 pub parts_inside : (folder path : List ℕ) → parts_of (inside folder path) ≡ parts_of folder ++ parts_of path
 parts_inside [] path = refl

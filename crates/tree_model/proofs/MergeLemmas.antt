@@ -1,12 +1,11 @@
 -- Two sorted lists taken from their ends, the greatest entry first.
-use Rattle.std.proofs.Common.{◌≡◌, ◌<◌, ◌≤◌, ◌-◌, ◌∙◌, ◌⊎◌, inl, inr, sym, ap, subst, ℕ, List, [], ◌∷◌, ◌++◌, length, All, arith, get_or, append_assoc, length-append, reverse, Bool, true, false}
+use Rattle.std.proofs.Common.{◌≡◌, ◌<◌, ◌≤◌, ◌-◌, ◌∙◌, ◌⊎◌, inl, inr, sym, ap, subst, ℕ, List, [], ◌∷◌, ◌++◌, length, All, arith, get_or, append_assoc, reverse, Bool, true, false}
 use Rattle.std.specs.Prelude.{IsPermutation, MatchBool, not}
 use Rattle.std.proofs.lemmas.Bool.{cases_lt}
-use Rattle.std.proofs.Math.Seq.{get_or-append_seam}
-use Rattle.std.proofs.lemmas.List.{reverse-append, append-nil, get_or_default}
+use Rattle.std.proofs.lemmas.List.{reverse-append, get_or_default}
 use Rattle.std.proofs.lemmas.List.Elements.{All-cons, All-nil, All-head, All-tail}
 use Rattle.std.proofs.lemmas.List.Kept.{AllPairs-cons}
-use Rattle.std.proofs.lemmas.List.Sorted.{IsPermutation-refl, IsPermutation-trans, IsPermutation-append_comm, IsPermutation-append_left, IsPermutation-append_right}
+use Rattle.std.proofs.lemmas.List.Sorted.{IsPermutation-trans, IsPermutation-append_comm, IsPermutation-append_left, IsPermutation-append_right}
 use Rattle.tree_model.specs.declared.entry.Entry.{Entry}
 use Rattle.tree_model.specs.Path.{IsBefore, IsUpTo}
 use Rattle.tree_model.specs.Tree.{IsSortedByPath, IsTree}
@@ -38,19 +37,6 @@ sorted_rest (x ∷ xs) ys sorted = sorted_rest xs ys (all_pairs_tail (λ a b. Is
 
 pub sorted_tree_list : (xs : List (List ℕ × Entry)) → IsTree xs → IsSortedByPath xs
 sorted_tree_list xs tree i j d lt within = up_to_from_before (get_or xs i d).0 (get_or xs j d).0 ((tree.ordered i j d lt within).before)
-
--- nothing is taken yet
-pub merge_begins : (all xs ys zs : List (List ℕ × Entry)) → all ≡ xs ++ ys → zs ≡ [] → IsSortedByPath xs → IsSortedByPath ys → IsMerging all xs ys zs
-merge_begins all xs ys zs same none one other =
-    let e : reverse zs ≡ [] = ap reverse none in
-    let P : List (List ℕ × Entry) → Type 0 = λ l. IsSortedByPath l in
-    let Q : List (List ℕ × Entry) → Type 0 = λ l. IsPermutation all l in
-    let left : xs ++ (ys ++ reverse zs) ≡ all = ap (λ r. xs ++ (ys ++ r)) e ∙ ap (λ l. xs ++ l) (append-nil ys) ∙ sym same in
-    record {
-      permutation = subst Q (sym left) (IsPermutation-refl all);
-      one = subst P (sym (ap (λ r. xs ++ r) e ∙ append-nil xs)) one;
-      other = subst P (sym (ap (λ r. ys ++ r) e ∙ append-nil ys)) other;
-    }
 
 more_taken : (zs : List (List ℕ × Entry)) (e : List ℕ × Entry) → reverse (zs ++ e ∷ []) ≡ e ∷ reverse zs
 more_taken zs e = reverse-append zs (e ∷ [])
@@ -100,13 +86,6 @@ merge_goes_on all xs ys xs' ys' zs e so_far (inl t) = taken_first all xs ys xs' 
 merge_goes_on all xs ys xs' ys' zs e so_far (inr t) =
     turned_round all ys' xs' (zs ++ e ∷ []) (taken_first all ys xs ys' xs' zs e (turned_round all xs ys zs so_far) t)
 
--- nothing is left
-pub merge_ends : (all xs ys zs made : List (List ℕ × Entry)) → length xs ≡ 0 → length ys ≡ 0 → made ≡ reverse zs → IsMerging all xs ys zs → IsPermutation all made × IsSortedByPath made
-merge_ends all [] [] zs made nx ny is m =
-    (subst (λ (l : List (List ℕ × Entry)). IsPermutation all l) (sym is) m.permutation, subst (λ (l : List (List ℕ × Entry)). IsSortedByPath l) (sym is) m.one)
-merge_ends all (x ∷ xs) ys zs made nx ny is m = absurd (omega arith)
-merge_ends all [] (y ∷ ys) zs made nx ny is m = absurd (omega arith)
-
 -- the last of a sorted list comes behind all of it
 pub last_up : (xs : List (List ℕ × Entry)) (e d : List ℕ × Entry) → IsSortedByPath (xs ++ e ∷ []) → All (λ x. IsUpTo x.0 e.0) xs
 last_up [] e d sorted = All-nil (λ x. IsUpTo x.0 e.0)
@@ -146,17 +125,6 @@ ends_last xs ys a b sorted nx ny ax by le = record {
   last = λ d k f lt. subst (λ (z : List ℕ × Entry). IsUpTo (get_or ys k f).0 z.0) (sym (last_at xs a d nx ax))
       (up_to_trans (get_or ys k f).0 b.0 a.0 (up_to_last ys b sorted ny by k f lt) le);
 }
-
--- an entry that is taken from the end of the list that ends last
-pub taken_last : (xs ys xs' ys' : List (List ℕ × Entry)) (e : List ℕ × Entry) → EndsLast xs ys → xs ≡ xs' ++ e ∷ [] → ys' ≡ ys → IsTaken xs ys e xs' ys'
-taken_last xs ys xs' ys' e ends is same = record {
-  taken = is;
-  other = same;
-  greatest = λ k d lt. subst (λ (z : List ℕ × Entry). IsUpTo (get_or ys k d).0 z.0) at (ends.last e k d lt);
-}
-  where
-    at : get_or xs (length xs - 1) e ≡ e
-    at = ap (λ l. get_or l (length xs - 1) e) is ∙ ap (λ n. get_or (xs' ++ e ∷ []) n e) (let m : length xs - 1 ≡ length xs' = omega (arith, ap length is, length-append xs' (e ∷ [])) in m) ∙ get_or-append_seam xs' e [] e
 
 pub last_cases : (xs ys : List (List ℕ × Entry)) (a b : List ℕ × Entry) (pa pb : List ℕ) (before : Bool) → IsSortedByPath xs → IsSortedByPath ys → 0 < length xs → 0 < length ys → a ≡ get_or xs (length xs - 1) a → b ≡ get_or ys (length ys - 1) b → pa ≡ a.0 → pb ≡ b.0 → MatchBool before (IsBefore pa pb) (IsUpTo pb pa) → MatchBool (not before) (EndsLast xs ys) (EndsLast ys xs ⊎ (length xs ≡ 0))
 last_cases xs ys a b pa pb true sx sy nx ny ax by sa sb h =

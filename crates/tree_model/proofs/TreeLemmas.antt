@@ -52,18 +52,6 @@ ordered_more xs i path e lt is same sorted all below k j d k_lt kj j_lt =
     precedes_apart (get_or xs i d).0 (get_or xs j d).0 (sorted i j d ij j_lt) (subst P here (subst Q (ap (λ x. x.0) at.0) (all (j - (i + 1)) d at.1))))
     k k_lt kj
 
--- the entries behind a place are sorted, and the path at the place comes up to theirs
-pub sorted_behind : (xs : List (List ℕ × Entry)) (i : ℕ) → IsSortedByPath xs → IsSortedByPath (take (length xs - (i + 1)) (drop (i + 1) xs))
-sorted_behind xs i sorted =
-    let whole : take (length xs - (i + 1)) (drop (i + 1) xs) ≡ drop (i + 1) xs = take_all (length xs - (i + 1)) (drop (i + 1) xs) (omega (arith, length-drop (i + 1) xs)) in
-    let P : List (List ℕ × Entry) → Type 0 = λ l. IsSortedByPath l in
-    subst P (sym whole) (λ k j d kj lt.
-    let a = get_or-drop (i + 1) xs k d in
-    let b = get_or-drop (i + 1) xs j d in
-    let Q : List ℕ → Type 0 = λ p. IsUpTo p (get_or (drop (i + 1) xs) j d).0 in
-    let R : List ℕ → Type 0 = λ p. IsUpTo (get_or xs (i + 1 + k) d).0 p in
-    subst Q (sym (ap (λ x. x.0) a)) (subst R (sym (ap (λ x. x.0) b)) (sorted (i + 1 + k) (i + 1 + j) d (omega arith) (omega (arith, length-drop (i + 1) xs)))))
-
 pub up_to_behind : (xs : List (List ℕ × Entry)) (i : ℕ) (path : List ℕ) (e : List ℕ × Entry) → i < length xs → e ≡ get_or xs i e → path ≡ e.0 → IsSortedByPath xs → All (λ x. IsUpTo path x.0) (take (length xs - (i + 1)) (drop (i + 1) xs))
 up_to_behind xs i path e lt is same sorted =
     let whole : take (length xs - (i + 1)) (drop (i + 1) xs) ≡ drop (i + 1) xs = take_all (length xs - (i + 1)) (drop (i + 1) xs) (omega (arith, length-drop (i + 1) xs)) in

@@ -133,12 +133,6 @@ one_part values name (Ref' shape row) after sofar =
     (λ out. finish values name out after)
     (λ piece. put_grown name sofar piece (expanded_parts values name after))
 
-pub finish_begins : (values : Values) (name : List ℕ) (parts : Parts) → expanded_parts values name parts longest ≡ finish values name [] parts
-finish_begins values name parts = bind_nil (expanded_parts values name parts longest)
-
-pub finish_ends : (values : Values) (name sofar : List ℕ) → finish values name sofar end ≡ Ok sofar
-finish_ends values name sofar = ap Ok (append-nil sofar)
-
 pub finish_goes_on : (values : Values) (name : List ℕ) (part : Part) (after : Parts) (sofar out : List ℕ) → grown values name part sofar ≡ Ok out → finish values name sofar (part_before part after) ≡ finish values name out after
 finish_goes_on values name part after sofar out e = one_part values name part after sofar ∙ ap (λ m. m >>= (λ o. finish values name o after)) e
 
@@ -167,17 +161,6 @@ pub ref_text : (values : Values) (name : List ℕ) (pieces : Pieces) → part_te
 ref_text values name pieces =
     let row = row_of (Ref pieces) in
     ap (reference_text values name) (in_row row.0 row.1 ∙ ap parts_in_list (items_hidden-the_row-Part-0 pieces.list))
-
-pub ref_found : (values : Values) (name : List ℕ) (inner : Parts) (looked : List ℕ) (found : Option (List ℕ)) → expanded_parts values name inner longest ≡ Ok looked → look_up values looked (list_all is_name_character looked) ≡ Ok found
-    → reference_text values name inner ≡ Ok (or_reference looked found)
-ref_found values name inner looked found e f =
-    ap (λ m. m >>= (λ l. look_up values l (list_all is_name_character l) >>= (λ o. Ok (or_reference l o)))) e ∙ ap (λ m. m >>= (λ o. Ok (or_reference looked o))) f
-
-pub ref_fault : (values : Values) (name : List ℕ) (inner : Parts) (looked : List ℕ) (fault : ExpandFault) → expanded_parts values name inner longest ≡ Ok looked → IsFaultOf fault (look_up values looked (list_all is_name_character looked))
-    → IsFaultOf fault (reference_text values name inner)
-ref_fault values name inner looked fault e h =
-    fault_behind fault (expanded_parts values name inner longest) (λ l. look_up values l (list_all is_name_character l) >>= (λ o. Ok (or_reference l o))) looked e
-    (fault_on fault (look_up values looked (list_all is_name_character looked)) (λ o. Ok (or_reference looked o)) h)
 
 -- names in expansion
 
@@ -255,67 +238,20 @@ words_at : (m : Result (List (List ℕ)) Refusal) (text : List ℕ) → (m >>= (
 words_at (Ok removes) text = refl
 words_at (Err refusal) text = refl
 
-pub value_by_words : (values : Values) (name : List ℕ) (found : Resolved) → expanded_value values name found ≡ (expanded values name found.text >>= (λ text. removed values name found.removes >>= (λ ws. Ok (drop_words text ws))))
-value_by_words values name found =
-    bind_same (expanded values name found.text) (λ text. all_expanded values name found.removes >>= (λ removes. Ok (drop_words text (flat_map words removes)))) (λ text. removed values name found.removes >>= (λ ws. Ok (drop_words text ws)))
-    (λ text. words_at (all_expanded values name found.removes) text)
-
 pub value_alone : (values : Values) (name : List ℕ) (found : Resolved) (text : List ℕ) → expanded values name found.text ≡ Ok text → found.removes ≡ [] → expanded_value values name found ≡ Ok text
 value_alone values name found text e f =
     ap (λ m. m >>= (λ t. all_expanded values name found.removes >>= (λ removes. Ok (drop_words t (flat_map words removes))))) e
     ∙ ap (λ l. all_expanded values name l >>= (λ removes. Ok (drop_words text (flat_map words removes)))) f
     ∙ ap Ok (drop_none text)
 
-pub value_less : (values : Values) (name : List ℕ) (found : Resolved) (text : List ℕ) (ws : List (List ℕ)) → expanded values name found.text ≡ Ok text → removed values name found.removes ≡ Ok ws → expanded_value values name found ≡ Ok (drop_words text ws)
-value_less values name found text ws e f =
-    value_by_words values name found ∙ ap (λ m. m >>= (λ t. removed values name found.removes >>= (λ w. Ok (drop_words t w)))) e ∙ ap (λ m. m >>= (λ w. Ok (drop_words text w))) f
-
 pub value_fault : (values : Values) (name : List ℕ) (found : Resolved) (fault : ExpandFault) → IsFaultOf fault (expanded values name found.text) → IsFaultOf fault (expanded_value values name found)
 value_fault values name found fault h = fault_on fault (expanded values name found.text) (λ text. all_expanded values name found.removes >>= (λ removes. Ok (drop_words text (flat_map words removes)))) h
 
-pub removes_fault : (values : Values) (name : List ℕ) (found : Resolved) (text : List ℕ) (fault : ExpandFault) → expanded values name found.text ≡ Ok text → IsFaultOf fault (removed values name found.removes) → IsFaultOf fault (expanded_value values name found)
-removes_fault values name found text fault e h =
-    fault_same fault (expanded_value values name found) (expanded values name found.text >>= (λ t. removed values name found.removes >>= (λ ws. Ok (drop_words t ws)))) (value_by_words values name found)
-    (fault_behind fault (expanded values name found.text) (λ t. removed values name found.removes >>= (λ ws. Ok (drop_words t ws))) text e
-    (fault_on fault (removed values name found.removes) (λ ws. Ok (drop_words text ws)) h))
-
 -- removes
-
-removed_at : (m : Result (List ℕ) Refusal) (n : Result (List (List ℕ)) Refusal) → ((m >>= (λ first. n >>= (λ rest. Ok (first ∷ rest)))) >>= (λ removes. Ok (flat_map words removes)))
-    ≡ (m >>= (λ first. (n >>= (λ removes. Ok (flat_map words removes))) >>= (λ more. Ok (words first ++ more))))
-removed_at (Ok first) (Ok rest) = refl
-removed_at (Ok first) (Err refusal) = refl
-removed_at (Err refusal) n = refl
 
 -- removes behind the words so far
 abbrev pub gather : Values → List ℕ → List (List ℕ) → List (List ℕ) → Result (List (List ℕ)) Refusal
 gather values name sofar texts = removed values name texts >>= (λ more. Ok (sofar ++ more))
-
-gather_nil : (m : Result (List (List ℕ)) Refusal) → m ≡ (m >>= (λ more. Ok ([] ++ more)))
-gather_nil (Ok a) = refl
-gather_nil (Err refusal) = refl
-
-pub gather_begins : (values : Values) (name : List ℕ) (texts : List (List ℕ)) → removed values name texts ≡ gather values name [] texts
-gather_begins values name texts = gather_nil (removed values name texts)
-
-pub gather_ends : (values : Values) (name : List ℕ) (sofar : List (List ℕ)) → gather values name sofar [] ≡ Ok sofar
-gather_ends values name sofar = ap Ok (append-nil sofar)
-
-gather_at : (n : Result (List (List ℕ)) Refusal) (sofar ws : List (List ℕ)) → ((n >>= (λ more. Ok (ws ++ more))) >>= (λ more. Ok (sofar ++ more))) ≡ (n >>= (λ more. Ok ((sofar ++ ws) ++ more)))
-gather_at (Ok more) sofar ws = ap Ok (sym (append_assoc sofar ws more))
-gather_at (Err refusal) sofar ws = refl
-
-pub gather_goes_on : (values : Values) (name t e : List ℕ) (ts sofar : List (List ℕ)) → expanded values name t ≡ Ok e → gather values name sofar (t ∷ ts) ≡ gather values name (sofar ++ words e) ts
-gather_goes_on values name t e ts sofar h =
-    ap (λ m. m >>= (λ more. Ok (sofar ++ more))) (removed_at (expanded values name t) (all_expanded values name ts)
-    ∙ ap (λ m. m >>= (λ first. removed values name ts >>= (λ more. Ok (words first ++ more)))) h)
-    ∙ gather_at (removed values name ts) sofar (words e)
-
-pub gather_fault : (values : Values) (name t : List ℕ) (ts sofar : List (List ℕ)) (fault : ExpandFault) → IsFaultOf fault (expanded values name t) → IsFaultOf fault (gather values name sofar (t ∷ ts))
-gather_fault values name t ts sofar fault h =
-    fault_on fault (removed values name (t ∷ ts)) (λ more. Ok (sofar ++ more))
-    (fault_on fault (all_expanded values name (t ∷ ts)) (λ removes. Ok (flat_map words removes))
-    (fault_on fault (expanded values name t) (λ first. all_expanded values name ts >>= (λ rest. Ok (first ∷ rest))) h))
 
 -- texts
 
@@ -345,9 +281,6 @@ text_parts values name t p e h =
 
 pub text_deep : (values : Values) (name t : List ℕ) → deepest < depth (parts_of t) → expanded values name t ≡ Err (too_deep name)
 text_deep values name t h = ap (λ b. require b (too_deep name) >>= (λ shallow. expanded_parts values name (parts_of t) longest)) (lt-leb (depth (parts_of t)) deepest h)
-
-pub shallow_ok : (t : List ℕ) (p : Parts) → p ≡ parts_of t → depth (parts_of t) ≤ deepest → shallow_parts t ≡ Ok p
-shallow_ok t p e h = ap (λ b. require b (too_deep []) >>= (λ shallow. Ok (parts_of t))) (le-leb (depth (parts_of t)) deepest h) ∙ ap Ok (sym e)
 
 pub shallow_deep : (t : List ℕ) → deepest < depth (parts_of t) → shallow_parts t ≡ Err (too_deep [])
 shallow_deep t h = ap (λ b. require b (too_deep []) >>= (λ shallow. Ok (parts_of t))) (lt-leb (depth (parts_of t)) deepest h)
@@ -389,9 +322,6 @@ pub fit_whole : (fault : ExpandFault) (names names' : List (List ℕ)) (t t' : L
 fit_whole fault names names' t t' a b h =
     fault_same fault (require (nat_le (length t) longest) (too_long (last_name names))) (fitting names' longest (length t'))
     (sym (ap (λ n. fitting n longest (length t')) a ∙ ap (λ s. fitting names longest (length s)) b)) h
-
-pub fit_room : (sofar sofar' piece piece' : List ℕ) → sofar' ≡ sofar → piece' ≡ piece → length piece' ≤ longest - length sofar' → length piece ≤ longest - length sofar
-fit_room sofar sofar' piece piece' a b h = subst (λ s. length piece ≤ longest - length s) a (subst (λ p. length p ≤ longest - length sofar') b h)
 
 pub ref_depth : (part : Part) (pieces : Pieces) → part ≡ Ref pieces → depth (part_before part end) ≡ suc (depth (parts_in pieces))
 ref_depth part pieces e = ap (λ p. depth (part_before p end)) e ∙ ap depth (ref_part pieces end) ∙ above (depth (parts_in pieces))

@@ -39,14 +39,6 @@ grew_on find left a b c same first second = record {
   tells = λ values tells. first.tells values (second.tells values tells);
 }
 
-pub still_going : (find : Find) (left : ℕ) (a b : Going) → b.within.items ≡ a.within.items → IsGoing find left a → Grew find left a b → IsGoing find left b
-still_going find left a b same going grew = record {
-  right = grew.right;
-  apart = grew.apart;
-  clear = λ name there kept is. let before = subst (λ names. is_in name (innermost_first names) ≡ true) same there in going.clear name before kept (sym (grew.within name before) ∙ is);
-  low = grew.low;
-}
-
 -- What is known
 
 -- a value that is kept is known
@@ -115,9 +107,6 @@ lowest_told find a kept name none there values tells = by a.height refl
     by (Some most) e = let t : Tells (table_of find a.values) (Some most) values = subst (λ h. Tells (table_of find a.values) h values) e tells in t name kept there (omega (arith, none))
 
 -- Leaves
-
-absent_leaf : (find : Find) (name : List ℕ) → find name ≡ Ok None → leaf_of (find name) ≡ Some (record { height = 0; value = None })
-absent_leaf find name is = ap leaf_of is
 
 -- Entering and leaving a name
 

@@ -1,5 +1,5 @@
 -- How parts are put together, and what openings, braces and runs of plain text make of them.
-use Rattle.std.proofs.Common.{◌≡◌, refl, sym, ◌∙◌, ap, subst, arith, ℕ, suc, ◌+◌, ◌<◌, ◌≤◌, le_trans, le_refl, max, List, [], ◌∷◌, ◌++◌, length, take, drop, Bool, true, false, not, ◌&&◌, ◌||◌, ◌⊎◌, inl, inr, eq-eqb, ne_eqb, ◌==◌, codes, get_or, add-one}
+use Rattle.std.proofs.Common.{◌≡◌, refl, sym, ◌∙◌, ap, subst, arith, ℕ, suc, ◌+◌, ◌<◌, ◌≤◌, le_trans, le_refl, max, List, [], ◌∷◌, ◌++◌, length, take, drop, Bool, true, false, ◌&&◌, ◌||◌, ◌⊎◌, inl, inr, eq-eqb, ne_eqb, ◌==◌, codes, get_or, add-one}
 use Rattle.std.proofs.lemmas.Bool.{cases_eq, cases_Bool, true≢false}
 use Rattle.std.proofs.Math.Seq.{drop-cons, take-suc}
 use Rattle.meta_model.specs.Text.{begins_with, dollar, open_brace, close_brace}
@@ -96,13 +96,6 @@ plain_levels c r h =
       ]
     ]
 
--- what an opening and a brace make of the levels
-pub opening_levels : (r : List ℕ) → levels (codes "${" ++ r) ≡ opened (levels r)
-opening_levels r = refl
-
-pub brace_levels : (r : List ℕ) → levels (codes "}" ++ r) ≡ before_brace end (levels r)
-brace_levels r = refl
-
 -- one more reference that is open, the innermost
 pub wrapped_more : (outer : List Parts) (parts : Parts) (rest : Levels) → wrapped (outer ++ parts ∷ []) rest ≡ wrapped outer (in_front parts (opened rest))
 wrapped_more [] parts rest = refl
@@ -135,16 +128,10 @@ earlier_bad (plain c rest) t h = elim (cases_Bool (is_name_character c)) [
 ]
 earlier_bad (reference name rest) t h = earlier_bad rest t h
 
-bad_parts : (p : Parts) → is_nothing p ≡ false → is_name p ≡ false → are_name_parts p ≡ false
-bad_parts p n h = subst (λ b. (not b && are_name_parts p) ≡ false) n h
-
 joined_no_name : (f t : Parts) → is_name f ≡ false → is_name t ≡ false → is_name (joined_with f t) ≡ false
 joined_no_name end t h k = k
 joined_no_name (plain c rest) t h k = earlier_bad (plain c rest) t h
 joined_no_name (reference name rest) t h k = earlier_bad (reference name rest) t h
-
-plain_joined : (f t : Parts) → plain_opening (joined_with f t) ≡ joined_with (plain_opening f) t
-plain_joined f t = refl
 
 pub collapsed_last : (outer : List Parts) (t : Parts) → wrapped outer (last t) ≡ last (joined_with (flattened outer) t)
 collapsed_last [] t = refl

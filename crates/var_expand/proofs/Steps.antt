@@ -100,10 +100,6 @@ flat_ends rest whole opening inner target (Ok made) h e f g =
     ∙ sym (ap (λ l. joined_with (held whole) (plain_opening (joined_with (flattened (map held (reverse l))) (held inner)))) e) ∙ h
 flat_ends rest whole opening inner target (Err fault) h e f g = g
 
--- no frame stands before the innermost
-pub flat_alone : (outer : List Frame) (inner : Frame) → reverse outer ≡ [] → held inner ≡ joined_with (flattened (map held outer)) (held inner)
-flat_alone outer inner e = sym (ap (λ l. joined_with (flattened (map held l)) (held inner)) (sym (reverse-reverse outer) ∙ ap reverse e))
-
 pub nothing_left : {A : Type 0} (xs : List A) → length xs ≡ 0 → xs ≡ []
 nothing_left [] h = refl
 nothing_left (x ∷ xs) h = absurd (omega (arith, h))

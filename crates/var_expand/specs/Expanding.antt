@@ -1,7 +1,7 @@
 -- The steps of an expansion.
-use Rattle.std.specs.Prelude.{ℕ, ◌-◌, ⊤, nat_le, List, [], ◌∷◌, ◌++◌, length, Option, Some, Result, Ok, flat_map}
+use Rattle.std.specs.Prelude.{ℕ, ◌-◌, ⊤, nat_le, List, [], ◌∷◌, ◌++◌, length, Result, Ok, flat_map}
 use Rattle.std.specs.List.{list_all}
-use Rattle.meta_model.specs.Refusal.{Refusal, too_long, require, ◌>>=◌}
+use Rattle.meta_model.specs.Refusal.{Refusal, too_long, require}
 use Rattle.meta_model.specs.Text.{words}
 use Rattle.meta_model.specs.Names.{is_name_character}
 use Rattle.meta_model.specs.Parts.{Parts}
@@ -55,9 +55,3 @@ abbrev pub removed : Values → List ℕ → List (List ℕ) → Result (List (L
 removed values name texts = do
   removes ← all_expanded values name texts
   Ok (flat_map words removes)
-
--- an expanded text as what a name has
-abbrev pub as_found : Result (List ℕ) Refusal → Result (Option (List ℕ)) Refusal
-as_found made = do
-  text ← made
-  Ok (Some text)
