@@ -13,8 +13,8 @@ use Rattle.task_model.specs.Views.{is_function, seen_by}
 use Rattle.task_model.specs.Leads.{is_key_name}
 use Rattle.task_model.specs.Keys.{key}
 use Rattle.task_model.specs.TaskRefusal.{TaskRefusal, bad_flag, ◌>>=◌, asked, require}
-use Rattle.task_model.specs.Scripts.{Flags, Frame, all_folders, flag_at, places_of, script_of, value_at, all_functions, all_places, body, flag_text, folders, functions_in, is_folder, is_on, is_path, line_names, paired, place_of, places_from, script, script_from, store_flags, told_names, told_values}
-use Rattle.script_gen.specs.Steps.{folder_of, called, place_in, told_value, begun, written, placed, side}
+use Rattle.task_model.specs.Scripts.{Flags, Frame, flag_at, places_of, script_of, value_at, all_functions, all_places, body, flag_text, folders, functions_in, is_on, is_path, line_names, paired, place_of, places_from, script, script_from, store_flags, told_names, told_values}
+use Rattle.script_gen.specs.Steps.{called, place_in, told_value, begun, written, placed, side}
 use Rattle.script_gen.specs.declared.fault.ScriptFault.{ScriptFault}
 use Rattle.script_gen.specs.Faults.{IsScriptFault}
 use Rattle.script_gen.proofs.Passing.{fault_on, fault_later}
@@ -38,9 +38,6 @@ value_step : (m : Result (Option (List ℕ)) TaskRefusal) (name : List ℕ) (n :
     → (m >>= λ text. n >>= λ rest. Ok ((name, unwrap_or text []) ∷ rest)) ≡ ((m >>= λ text. Ok (name, unwrap_or text [])) >>= λ c. n >>= λ more. Ok (c ∷ more))
 value_step (Ok text) name n = refl
 value_step (Err refusal) name n = refl
-
-pub folders_in_turn : (f : List ℕ) → IsInTurn (folder_of f) (all_folders f)
-folders_in_turn f word rest = required (is_folder word) (bad_flag f word) word (all_folders f rest)
 
 pub functions_in_turn : (find : Find) (f : List ℕ) → IsInTurn (called find f) (all_functions find f)
 functions_in_turn find f word rest = called_step (is_key_name word) (asked (find word)) (bad_flag f word) word (all_functions find f rest)

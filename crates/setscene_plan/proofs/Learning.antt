@@ -1,9 +1,9 @@
 -- What is asked while the sweep goes on.
 use Rattle.std.proofs.Common.{◌≡◌, ◌≢◌, sym, ◌∙◌, ap, subst, refl, ℕ, zero, suc, ◌+◌, ◌-◌, ◌<◌, ◌≤◌, Bool, true, false, List, [], ◌∷◌, ◌++◌, Contains, get_or, length, length-set, set, take, drop, unwrap_or, slice_get, Option, Some, None, ◌⊎◌, inl, inr, arith}
 use Rattle.std.proofs.lemmas.Bool.{cases_eq, cases_lt}
-use Rattle.std.proofs.lemmas.List.{take_all, take_at, take_more}
+use Rattle.std.proofs.lemmas.List.{take_at, take_more}
 use Rattle.std.proofs.lemmas.List.Elements.{Contains-append_left, Contains-append_right, Contains-push, Contains-push_cases}
-use Rattle.std.proofs.lemmas.Option.{slice_get-get_or, slice_get_past, slice_get_within}
+use Rattle.std.proofs.lemmas.Option.{slice_get-get_or, slice_get_past}
 use Rattle.meta_model.specs.declared.event.Avail.{Avail}
 use Rattle.meta_model.specs.declared.event.Avail.TheVariants.{Missing}
 use Rattle.meta_model.specs.declared.plan.Plan.{Plan}
@@ -12,7 +12,7 @@ use Rattle.tale_model.specs.Need.{IsIn, IsNeed}
 use Rattle.setscene_plan.specs.Sets.{Adds, IsBelow}
 use Rattle.tree_model.specs.declared.hash.Hash.{Hash}
 use Rattle.setscene_plan.specs.View.{IsKnown, Says, View}
-use Rattle.setscene_plan.specs.Asked.{AreNeeds, AsksAll, AsksOne, Knows, SameAt, SameMissing, TakesOut, asks_from, asks_once, members_among, members_of_either, once_of_either}
+use Rattle.setscene_plan.specs.Asked.{AreNeeds, AsksAll, AsksOne, SameAt, SameMissing, TakesOut, asks_from, asks_once, members_among, members_of_either, once_of_either}
 use Rattle.setscene_plan.proofs.Sweeping.{IsSwept, swept_next, swept_all}
 
 -- a set that has more asks for more
@@ -33,15 +33,6 @@ pub record IsAsked (says : Says) (view : View) (unihashes : List Hash) (known : 
   pub learnt : (t : ℕ) → place ≤ t → IsIn set t → IsKnown says view unihashes t (slice_get avail t)
   pub right : (t : ℕ) → t < place → IsIn known t → IsKnown says view unihashes t (slice_get avail t)
   pub bound : asked ≤ before + asks_from set known place (length view.plan.tasks - place)
-
-pub asked_first : (says : Says) (view : View) (unihashes : List Hash) (known : List Bool) (before : ℕ) (set : List Bool) (avail : List Avail) → IsSwept view.plan avail set (length view.plan.tasks) → length avail ≡ length view.plan.tasks → Knows says view unihashes avail known → IsAsked says view unihashes known before set avail before (length view.plan.tasks)
-asked_first says view unihashes known before set avail swept wide right = record {
-  swept = swept;
-  wide = wide;
-  learnt = λ t past member. absurd (omega (arith, past, slice_get_within set t true member, swept.long));
-  right = λ t lt member. right t member;
-  bound = omega arith;
-}
 
 pub asked_next : (says : Says) (view : View) (unihashes : List Hash) (known : List Bool) (before : ℕ) (set new : List Bool) (avail next : List Avail) (asked then : ℕ) (place : ℕ) → AreOrdered view.plan.tasks → place < length view.plan.tasks → IsAsked says view unihashes known before set avail asked (suc place)
     → Adds (IsBelow view.plan.tasks next set place) set new → (IsIn set place → IsKnown says view unihashes place (slice_get next place)) → length next ≡ length avail
@@ -78,11 +69,6 @@ asked_all says view unihashes known before set avail asked is = record {
   long = is.wide;
   known = λ t member. is.learnt t (omega arith) member;
 }
-
-pub asked_count : (says : Says) (view : View) (unihashes : List Hash) (known : List Bool) (before : ℕ) (set : List Bool) (avail : List Avail) (asked : ℕ) → IsAsked says view unihashes known before set avail asked 0 → asked ≤ before + asks_from set known 0 (length set)
-asked_count says view unihashes known before set avail asked is =
-    let same : length view.plan.tasks - 0 ≡ length set = omega (arith, is.swept.long) in
-    subst (λ n. asked ≤ before + asks_from set known 0 n) same is.bound
 
 -- a member is asked for once
 pub asks_in : (set known : List Bool) (place asked then : ℕ) → IsIn set place → then ≤ asked + asks_once (Some true) (slice_get known place) → then ≤ asked + asks_once (slice_get set place) (slice_get known place)
@@ -132,9 +118,6 @@ among_push : (all : List Bool) (xs : List ℕ) (x : ℕ) → members_among all (
 among_push all [] x = omega arith
 among_push all (y ∷ ys) x = omega (arith, among_push all ys x)
 
-pub out_first : (tasks : List ℕ) (s : List Bool) → TakesOut (take 0 tasks) s s
-out_first tasks s = record { wide = refl; left = λ t h. (h, λ held. omega (arith, held.1)); beyond = λ all. omega arith }
-
 pub out_more : (tasks : List ℕ) (i x : ℕ) (old mid : List Bool) → i < length tasks → get_or tasks i 0 ≡ x → TakesOut (take i tasks) old mid → TakesOut (take (i + 1) tasks) old (set mid x false)
 out_more tasks i x old mid lt is outs =
     let grown : take (i + 1) tasks ≡ take i tasks ++ x ∷ [] = take_more tasks i 0 lt ∙ ap (λ y. take i tasks ++ y ∷ []) is in
@@ -148,9 +131,6 @@ out_more tasks i x old mid lt is outs =
       ];
       beyond = λ all. omega (arith, outs.beyond all, asks_out all mid x 0 (length all), among_push all (take i tasks) x);
     })
-
-pub out_all : (tasks : List ℕ) (i : ℕ) (old new : List Bool) → length tasks ≤ i → TakesOut (take i tasks) old new → TakesOut tasks old new
-out_all tasks i old new le outs = subst (λ xs. TakesOut xs old new) (take_all i tasks le) outs
 
 -- the places at which something differs
 
@@ -196,13 +176,6 @@ still_needs says view unihashes need avail next tasks told is long same asks = r
   least = need_missing view.plan avail next need same is;
   long = long;
   known = λ t member. elim (asks.right t member) [ inl held ↦ absurd (omega (arith, held.1)) | inr e ↦ e ];
-}
-
--- the questions one after another
-pub all_asked_first : (says : Says) (view : View) (unihashes : List Hash) (need : List Bool) (tasks : List ℕ) (place : ℕ) (avail : List Avail) (told : List ℕ) → length tasks ≤ place → ((t : ℕ) → IsIn need t → Contains tasks t ⊎ IsKnown says view unihashes t (slice_get avail t)) → AsksAll says view unihashes need tasks place avail avail told
-all_asked_first says view unihashes need tasks place avail told le others = record {
-  right = λ t member. elim (others t member) [ inl held ↦ inl (subst (λ xs. Contains xs t) (sym (take_all place tasks le)) held) | inr e ↦ inr e ];
-  told_all = λ t. inr refl;
 }
 
 pub all_asked_next : (says : Says) (view : View) (unihashes : List Hash) (need : List Bool) (tasks : List ℕ) (place task : ℕ) (avail mid next : List Avail) (told more : List ℕ) (turned : Bool)
@@ -304,17 +277,3 @@ some_others says view now unihashes need read given next written tasks told turn
   | inl held ↦ inl (subst (λ o. Contains (take (unwrap_or o 0) tasks) t) some held)
   | inr known ↦ inr (subst (λ (v : View). IsKnown says v unihashes t (slice_get written t)) (sym n) (subst (λ xs. IsKnown says view unihashes t (slice_get xs t)) (sym w) known))
 ]
-
-pub among_tail : (need : List Bool) (tasks : List ℕ) (place : ℕ) → members_among need (drop place tasks) ≤ members_among need tasks
-among_tail need tasks zero = omega arith
-among_tail need [] (suc place) = omega arith
-among_tail need (t ∷ ts) (suc place) = omega (arith, among_tail need ts place)
-
-pub among_either : (old new : List Bool) (tasks : List ℕ) → members_among old tasks ≤ members_of_either old new tasks
-among_either old new [] = omega arith
-among_either old new (t ∷ ts) = omega (arith, either_old (slice_get old t) (slice_get new t), among_either old new ts)
-
-pub err_asked : (need read new : List Bool) (tasks : List ℕ) (asked then more : ℕ) → read ≡ need → then ≤ asked + members_among read tasks → then ≤ asked + (more + members_of_either need new tasks)
-err_asked need read new tasks asked then more r le =
-    let first : then ≤ asked + members_among need tasks = subst (λ ns. then ≤ asked + members_among ns tasks) r le in
-    omega (arith, first, among_either need new tasks)

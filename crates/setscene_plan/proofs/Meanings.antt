@@ -7,7 +7,7 @@ use Rattle.tale_model.specs.Need.{IsIn}
 use Rattle.sig_gen.specs.Signing.{signature_by}
 use Rattle.setscene_plan.specs.declared.replan.Replan.{Replan}
 use Rattle.setscene_plan.specs.View.{Follows, IsKnown, Says, View}
-use Rattle.setscene_plan.specs.Asked.{AreNeeds, AsksOne, Knows}
+use Rattle.setscene_plan.specs.Asked.{AreNeeds, AsksOne}
 use Rattle.setscene_plan.specs.Replans.{AsksNeeds, IsAskable, IsCurrent, IsSettled, avail_in, need_in, unihashes_in}
 
 -- an answer that is kept of a needed task means by the one what it means by the other
@@ -19,9 +19,6 @@ known_follows says other view unihashes t kept follows is = record {
   told = λ task there at e. follows t (signature_by view.plan.tasks unihashes task) there (is.told task there at e);
   stored = is.stored;
 }
-
-pub knows_follows : (says other : Says) (view : View) (unihashes : List Hash) (avail : List Avail) (set : List Bool) → Follows says other → Knows says view unihashes avail set → Knows other view unihashes avail set
-knows_follows says other view unihashes avail set follows is = λ t member. known_follows says other view unihashes t (slice_get avail t) follows (is t member)
 
 pub needs_yield : (says other : Says) (view : View) (unihashes : List Hash) (need : List Bool) (avail : List Avail) → Yields says other view unihashes need avail → AreNeeds says view unihashes need avail → AreNeeds other view unihashes need avail
 needs_yield says other view unihashes need avail yields is = record {
@@ -88,6 +85,3 @@ settled_yields says other view task kept yields is = record {
   clear = is.clear;
   needs = needs_yield says other view (unihashes_in kept) (need_in kept) (avail_in kept) yields is.needs;
 }
-
-pub settled_follows : (says other : Says) (view : View) (task : ℕ) (kept : Replan) → Follows says other → IsSettled says view task kept → IsSettled other view task kept
-settled_follows says other view task kept follows is = settled_yields says other view task kept (λ t own there member at e. follows t (signature_by view.plan.tasks (unihashes_in kept) own) there) is

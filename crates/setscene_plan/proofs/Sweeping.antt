@@ -1,9 +1,9 @@
 -- What is put into sets of tasks.
-use Rattle.std.proofs.Common.{◌≡◌, ◌≢◌, sym, ◌∙◌, ap, subst, refl, ℕ, zero, suc, ◌+◌, ◌<◌, ◌≤◌, Bool, true, false, List, [], ◌∷◌, ◌++◌, All, Contains, length, get_or, set, take, slice_get, Option, Some, None, replicate, ◌⊎◌, inl, inr, length-set, get_or-set_same, arith}
+use Rattle.std.proofs.Common.{◌≡◌, ◌≢◌, sym, ◌∙◌, ap, subst, refl, ℕ, zero, suc, ◌+◌, ◌<◌, ◌≤◌, Bool, true, false, List, [], ◌∷◌, ◌++◌, All, Contains, length, get_or, set, take, slice_get, Some, ◌⊎◌, inl, inr, length-set, get_or-set_same, arith}
 use Rattle.std.proofs.lemmas.Bool.{cases_eq, cases_lt}
-use Rattle.std.proofs.lemmas.List.{take_all, take_more, length-replicate}
+use Rattle.std.proofs.lemmas.List.{take_all, take_more}
 use Rattle.std.proofs.lemmas.List.Elements.{Contains-push, Contains-push_cases, Contains-append_left, Contains-get_or}
-use Rattle.std.proofs.lemmas.Option.{slice_get-get_or, slice_get_within, slice_get_past, same_Some}
+use Rattle.std.proofs.lemmas.Option.{slice_get-get_or}
 use Rattle.meta_model.specs.declared.event.Avail.{Avail}
 use Rattle.meta_model.specs.declared.event.Avail.TheVariants.{Missing, Work, Object}
 use Rattle.meta_model.specs.declared.plan.Plan.{Plan}
@@ -53,13 +53,6 @@ adds_same P Q old new adds on back = record {
   only = λ t h. elim (adds.only t h) [ inl o ↦ inl o | inr p ↦ inr (on t p) ];
 }
 
--- a list of tasks is put
-none_held : (t : ℕ) → Contains [] t → ⊥
-none_held t held = omega (arith, held.1)
-
-pub all_first : (tasks : List ℕ) (old : List Bool) → Adds (Contains (take 0 tasks)) old old
-all_first tasks old = adds_none (Contains []) old none_held
-
 pub all_more : (tasks : List ℕ) (i x : ℕ) (old mid : List Bool) → i < length tasks → get_or tasks i 0 ≡ x → x < length mid → Adds (Contains (take i tasks)) old mid → Adds (Contains (take (i + 1) tasks)) old (set mid x true)
 all_more tasks i x old mid lt is fits adds =
     let grown : take (i + 1) tasks ≡ take i tasks ++ x ∷ [] = take_more tasks i 0 lt ∙ ap (λ y. take i tasks ++ y ∷ []) is in
@@ -73,32 +66,6 @@ all_put tasks i old new le adds = subst (λ xs. Adds (Contains xs) old new) (tak
 -- the tasks below a place that run whenever they are needed
 abbrev pub ForcedBelow : List PlanTask → ℕ → ℕ → Type 0
 ForcedBelow tasks i t = (t < i) × IsForced tasks t
-
-pub forced_first : (tasks : List PlanTask) (old : List Bool) → Adds (ForcedBelow tasks 0) old old
-forced_first tasks old = adds_none (ForcedBelow tasks 0) old (λ t h. omega (arith, h.0))
-
-pub forced_more : (tasks : List PlanTask) (i : ℕ) (task : PlanTask) (old mid : List Bool) → i < length tasks → task ≡ get_or tasks i task → i < length mid → task.nostamp ≡ true → Adds (ForcedBelow tasks i) old mid → Adds (ForcedBelow tasks (i + 1)) old (set mid i true)
-forced_more tasks i task old mid lt is fits forced adds = adds_one (ForcedBelow tasks i) (ForcedBelow tasks (i + 1)) old mid i adds fits
-    (omega arith, (task, slice_get-get_or tasks i task lt ∙ ap Some (sym is), forced))
-    (λ t h. (omega (arith, h.0), h.1))
-    (λ t h. elim (cases_lt t i) [ inl front ↦ inl (front, h.1) | inr last ↦ inr (omega (arith, h.0, last)) ])
-
-pub forced_skip : (tasks : List PlanTask) (i : ℕ) (task : PlanTask) (old mid : List Bool) → i < length tasks → task ≡ get_or tasks i task → task.nostamp ≡ false → Adds (ForcedBelow tasks i) old mid → Adds (ForcedBelow tasks (i + 1)) old mid
-forced_skip tasks i task old mid lt is free adds = adds_same (ForcedBelow tasks i) (ForcedBelow tasks (i + 1)) old mid adds
-    (λ t h. (omega (arith, h.0), h.1))
-    (λ t h. elim (cases_lt t i) [
-      | inl front ↦ (front, h.1)
-      | inr last ↦
-          let same : t ≡ i = omega (arith, h.0, last) in
-          let read : Some h.1.0 ≡ Some task = sym h.1.1 ∙ ap (slice_get tasks) same ∙ slice_get-get_or tasks i task lt ∙ ap Some (sym is) in
-          let one : h.1.0 ≡ task = same_Some h.1.0 task read in
-          absurd (let e : true ≡ false = sym h.1.2 ∙ ap (λ x. x.nostamp) one ∙ free in cc)
-    ])
-
-pub forced_put : (tasks : List PlanTask) (i : ℕ) (old new : List Bool) → length tasks ≤ i → Adds (ForcedBelow tasks i) old new → Adds (IsForced tasks) old new
-forced_put tasks i old new le adds = adds_same (ForcedBelow tasks i) (IsForced tasks) old new adds
-    (λ t h. h.1)
-    (λ t h. (omega (arith, le, slice_get_within tasks t h.0 h.1), h))
 
 -- what a task needs directly is put, where it belongs to the set and its output is missing
 
@@ -134,30 +101,6 @@ pub record IsSwept (plan : Plan) (avail : List Avail) (need : List Bool) (place 
   pub nostamp : (t : ℕ) (task : PlanTask) → slice_get plan.tasks t ≡ Some task → task.nostamp ≡ true → IsIn need t
   pub done : (t : ℕ) → place ≤ t → IsIn need t → slice_get avail t ≡ Some Missing → All (IsIn need) (deps_of plan.tasks t)
   pub least : (seen : List Avail) → ((t : ℕ) → place ≤ t → slice_get seen t ≡ slice_get avail t) → (other : List Bool) → IsClosed plan seen other → (t : ℕ) → IsIn need t → IsIn other t
-
-nothing_in : (n t : ℕ) → IsIn (replicate n false) t → ⊥
-nothing_in zero t h = let e : None ≡ Some true = h in cc
-nothing_in (suc n) zero h = let e : Some false ≡ Some true = h in cc
-nothing_in (suc n) (suc t) h = nothing_in n t h
-
-pub swept_first : (plan : Plan) (avail : List Avail) (mid need : List Bool) → Adds (Contains plan.targets) (replicate (length plan.tasks) false) mid → Adds (IsForced plan.tasks) mid need → IsSwept plan avail need (length plan.tasks)
-swept_first plan avail mid need first second = record {
-  long = second.long ∙ first.long ∙ length-replicate (length plan.tasks) false;
-  targets = λ k d lt. second.kept (get_or plan.targets k d) (first.put (get_or plan.targets k d) (Contains-get_or plan.targets k d lt));
-  nostamp = λ t task is forced. second.put t (task, is, forced);
-  done = λ t le member lacks k d lt. absurd (no_deps (slice_get plan.tasks t) (slice_get_past plan.tasks t le) k lt);
-  least = λ seen agree other closed t member. elim (second.only t member) [
-    | inr forced ↦ closed.nostamp t forced.0 forced.1 forced.2
-    | inl before ↦ elim (first.only t before) [
-      | inl start ↦ absurd (nothing_in (length plan.tasks) t start)
-      | inr target ↦ subst (IsIn other) target.2 (closed.targets target.0 t target.1)
-    ]
-  ];
-}
-  where
-    no_deps : (o : Option PlanTask) → o ≡ None → (k : ℕ) → k < length (deps_in o) → ⊥
-    no_deps None e k lt = omega (arith, lt)
-    no_deps (Some task) e k lt = let f : Some task ≡ None = e in cc
 
 pub swept_next : (plan : Plan) (avail next : List Avail) (need new : List Bool) (place : ℕ) → AreOrdered plan.tasks → IsSwept plan avail need (suc place) → ((t : ℕ) → t ≢ place → slice_get next t ≡ slice_get avail t) → Adds (IsBelow plan.tasks next need place) need new → IsSwept plan next new place
 swept_next plan avail next need new place ordered swept elsewhere adds = record {

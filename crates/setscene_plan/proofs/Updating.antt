@@ -1,5 +1,5 @@
 -- What is kept of a plan's tasks, brought up to date.
-use Rattle.std.proofs.Common.{◌≡◌, ◌≢◌, ◌∙◌, sym, ap, subst, refl, ℕ, ◌+◌, ◌<◌, ◌≤◌, arith, true, List, [], length, get_or, All, Contains, Option, Some, None, slice_get, ◌⊎◌, inl, inr}
+use Rattle.std.proofs.Common.{◌≡◌, ◌≢◌, ◌∙◌, sym, ap, subst, refl, ℕ, ◌<◌, arith, true, List, [], length, get_or, All, Contains, Option, Some, None, slice_get, ◌⊎◌, inl, inr}
 use Rattle.std.proofs.lemmas.Bool.{cases_lt}
 use Rattle.std.proofs.lemmas.Option.{same_Some, slice_get-get_or}
 use Rattle.tree_model.specs.declared.hash.Hash.{Hash}
@@ -20,9 +20,9 @@ use Rattle.setscene_plan.specs.declared.replan.Replan.{Replan}
 use Rattle.setscene_plan.specs.declared.work.Names.{Names}
 use Rattle.setscene_plan.specs.View.{IsKnown, Says, View}
 use Rattle.setscene_plan.specs.Names.{IsClearAt, IsHashed, IsNamed, names_over, unihashes_over}
-use Rattle.setscene_plan.specs.Asked.{AreNeeds, SameAt, members_beyond, members_of_either}
-use Rattle.setscene_plan.specs.Reworks.{Ascend, HaveOneName, IsFound, IsRightAt, IsTouched, IsUntouched, IsWorkable, IsWorked}
-use Rattle.setscene_plan.specs.Replans.{AreReworked, AsksNeeds, IsAskable, IsCurrent, IsSettled, ReworksNames, avail_in, names_in, need_in, reworked_in, unihashes_in}
+use Rattle.setscene_plan.specs.Asked.{AreNeeds}
+use Rattle.setscene_plan.specs.Reworks.{HaveOneName, IsFound, IsRightAt, IsUntouched, IsWorkable, IsWorked}
+use Rattle.setscene_plan.specs.Replans.{AsksNeeds, IsAskable, IsCurrent, IsSettled, ReworksNames, avail_in, names_in, need_in, unihashes_in}
 use Rattle.setscene_plan.proofs.Naming.{names_are_over, signature_local, unihashes_over_rows}
 use Rattle.setscene_plan.proofs.Working.{alone, right_past}
 
@@ -133,25 +133,6 @@ asked_current says view task old mid new is r a = record {
   needs = a.needs;
 }
 
-pub asked_reworked : (says : Says) (view : View) (task : ℕ) (old mid new : Replan) → ReworksNames view task old mid → AsksNeeds says view mid new → AreReworked view.plan.tasks task old new
-asked_reworked says view task old mid new r a = record {
-  once = subst (λ v. Ascend v.items) (sym a.changed) r.reworked.once;
-  each = λ t h. subst (λ n. HaveOneName (names_in old) t task ⊎ IsTouched view.plan.tasks (unihashes_in old) n.unihashes.items t) (sym a.names) (r.reworked.each t (subst (λ v. Contains v.items t) a.changed h));
-}
-
--- the task itself was worked out anew
-pub asked_own : (says : Says) (view : View) (task : ℕ) (old mid new : Replan) → ReworksNames view task old mid → AsksNeeds says view mid new → Contains (reworked_in new) task
-asked_own says view task old mid new r a = subst (λ v. Contains v.items task) (sym a.changed) r.own
-
-pub asked_told : (says : Says) (view : View) (task : ℕ) (old mid new : Replan) → ReworksNames view task old mid → AsksNeeds says view mid new → (t : ℕ) → Contains new.told.items t ⊎ SameAt (need_in old) (need_in new) (avail_in old) (avail_in new) t
-asked_told says view task old mid new r a t = subst (λ n. Contains new.told.items t ⊎ SameAt n.need.items (need_in new) n.avail.items (avail_in new) t) r.needs (a.told t)
-
-pub asked_bound : (says : Says) (view : View) (task : ℕ) (old mid new : Replan) (before then : ℕ) → ReworksNames view task old mid → AsksNeeds says view mid new →
-    then ≤ before + (members_beyond (need_in new) (need_in mid) + members_of_either (need_in mid) (need_in new) mid.changed.items) → then ≤ before + (members_beyond (need_in new) (need_in old) + members_of_either (need_in old) (need_in new) new.changed.items)
-asked_bound says view task old mid new before then r a le =
-    let by_needs = subst (λ n. then ≤ before + (members_beyond (need_in new) n.need.items + members_of_either n.need.items (need_in new) mid.changed.items)) r.needs le in
-    subst (λ v. then ≤ before + (members_beyond (need_in new) (need_in old) + members_of_either (need_in old) (need_in new) v.items)) (sym a.changed) by_needs
-
 -- ---- a value that is made
 
 pub new_current : (says : Says) (view : View) (plan : Plan) (replan : Replan) → view.plan ≡ plan → length (names_in replan) ≡ length plan.tasks → length (unihashes_in replan) ≡ length plan.tasks → ((t : ℕ) → IsRightAt view.rows plan.tasks replan.names t) → ((t : ℕ) → IsFound replan.names t) →
@@ -190,18 +171,6 @@ settled_alike says view task old new names above needs is = record {
 
     needs_alike : AreNeeds says view (unihashes_in new) (need_in new) (avail_in new)
     needs_alike = subst (λ n. AreNeeds says view n.unihashes.items (need_in new) (avail_in new)) (sym names) by_needs
-
-pub reworked_alike : (tasks : List PlanTask) (task : ℕ) (old cleared new : Replan) → cleared.names ≡ old.names → AreReworked tasks task cleared new → AreReworked tasks task old new
-reworked_alike tasks task old cleared new names is = record {
-  once = is.once;
-  each = λ t h. subst (λ n. HaveOneName n.names.items t task ⊎ IsTouched tasks n.unihashes.items (unihashes_in new) t) names (is.each t h);
-}
-
-pub none_reworked : (tasks : List PlanTask) (task : ℕ) (old new : Replan) → new.changed.items ≡ [] → AreReworked tasks task old new
-none_reworked tasks task old new none = record {
-  once = subst Ascend (sym none) tt;
-  each = λ t h. let g = subst (λ xs. Contains xs t) none h in absurd (omega (arith, g.1));
-}
 
 -- what the work on names did
 pub reworks_names : (view : View) (task : ℕ) (old new : Replan) (dirty : List ℕ) → IsWorked view.rows view.plan.tasks old.names new.names dirty new.changed.items → ((t : ℕ) → Contains dirty t → HaveOneName (names_in old) t task) → Contains dirty task → new.above ≡ old.above → new.needs ≡ old.needs → ReworksNames view task old new

@@ -63,9 +63,6 @@ pub record AreNamesakes (names : List Hash) (task place : ℕ) (keys : List ℕ)
   pub within : (t : ℕ) → Contains keys t → t < place
   pub whole : (t : ℕ) → t < place → HaveOneName names t task → Contains keys t
 
-pub no_namesakes : (names : List Hash) (task : ℕ) → AreNamesakes names task 0 []
-no_namesakes names task = record { only = λ t h. absurd (omega (arith, h.1)); within = λ t h. absurd (omega (arith, h.1)); whole = λ t lt same. absurd (omega (arith, lt)) }
-
 pub namesake_in : (names : List Hash) (task place : ℕ) (keys more : List ℕ) → AreNamesakes names task place keys → HaveOneName names place task → PutsAll (place ∷ []) keys more → AreNamesakes names task (place + 1) more
 namesake_in names task place keys more are same puts = record {
   only = λ t h. elim (puts.only t h) [ inl old ↦ are.only t old | inr new ↦ subst (λ x. HaveOneName names x task) (sym (only_one t new)) same ];

@@ -7,7 +7,6 @@ pub mod PartLaws
 pub mod Records
 pub mod Paths
 pub mod Storing
-pub mod Written
 pub mod Trees
 pub mod Sorting
 pub mod Gathering

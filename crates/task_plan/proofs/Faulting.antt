@@ -1,22 +1,19 @@
 -- Refusals of plans, passed on.
-use Rattle.std.proofs.Common.{◌≡◌, ◌∙◌, refl, sym, ap, subst, inl, inr, List, ℕ, Option, Some, None, Result, Ok, IfErr, false}
+use Rattle.std.proofs.Common.{◌≡◌, ◌∙◌, sym, ap, subst, inl, inr, List, ℕ, Option, Some, None, Result, Ok, IfErr, false}
 use Rattle.std.specs.Prelude.{IsErrAnd}
 use Rattle.std.specs.Option.{option_map}
 use Rattle.std.proofs.lemmas.Result.{err_from_is_err_and}
 use Rattle.meta_model.specs.Refusal.{Refusal}
 use Rattle.outside_traits.specs.Fault.{Counts}
 use Rattle.datastore.specs.declared.fault.DataFault.{DataFault}
-use Rattle.datastore.specs.declared.fault.DataFault.TheVariants.{Unstable, Expand, Memory}
-use Rattle.datastore.specs.Faults.{IsDataFault, refusal_of, data_refusal}
+use Rattle.datastore.specs.Faults.{IsDataFault, data_refusal}
 use Rattle.load_model.specs.LoadRefusal.{◌>>=◌, refused_as}
-use Rattle.task_model.specs.TaskRefusal.{TaskRefusal}
 use Rattle.task_model.specs.TaskRefusal as task
 use Rattle.meta_model.specs.Passing.{IsRefused}
 use Rattle.meta_model.proofs.Passing.{refused_on, goes_on}
 use Rattle.recipe_facts.proofs.Binding.{said}
-use Rattle.script_gen.specs.declared.fault.ScriptFault.{ScriptFault}
 use Rattle.script_gen.specs.Faults as script
-use Rattle.plan_model.specs.PlanRefusal.{PlanRefusal, no_value, told_at}
+use Rattle.plan_model.specs.PlanRefusal.{PlanRefusal, no_value}
 use Rattle.task_plan.specs.declared.fault.PlanFault.{PlanFault}
 use Rattle.task_plan.specs.Faults.{plan_refusal, IsPlanFault, IsTold, IsWantOfMemory, is_failure, plan_failed}
 
@@ -48,20 +45,6 @@ told_value f (Some r) m h = ap (refused_as f) h
 -- a text that isn't expanded
 pub plan_data : {A : Type 0} (file : List ℕ) (fault : DataFault) (made : PlanFault) (m : Result A Refusal) → IsTold made (option_map (no_value file) (data_refusal fault)) → IsDataFault fault m → IsPlanFault made (refused_as (no_value file) m)
 plan_data file fault made m t h = plan_told made (option_map (no_value file) (data_refusal fault)) (refused_as (no_value file) m) t (told_value (no_value file) (data_refusal fault) m (said fault m h))
-
--- a script or places that are refused
-pub plan_script : {A : Type 0} (file : List ℕ) (fault : ScriptFault) (made : PlanFault) (m : Result A TaskRefusal) → IsTold made (option_map (told_at file) (script.refusal_of fault)) → script.IsScriptFault fault m → IsPlanFault made (refused_as (told_at file) m)
-plan_script file fault made m t h = plan_told made (option_map (told_at file) (script.refusal_of fault)) (refused_as (told_at file) m) t (told_value (told_at file) (script.refusal_of fault) m h)
-
--- a store's fault says the same, whether of a script or alone
-same_told : (file : List ℕ) (o : Option Refusal) → option_map (told_at file) (option_map task.no_value o) ≡ option_map (no_value file) o
-same_told file None = refl
-same_told file (Some r) = refl
-
-pub same_data : (file : List ℕ) (fault : DataFault) → option_map (told_at file) (option_map task.no_value (data_refusal fault)) ≡ option_map (no_value file) (data_refusal fault)
-same_data file (Unstable before last) = refl
-same_data file (Expand fault) = same_told file (refusal_of fault)
-same_data file Memory = refl
 
 -- a fault that is handed on by `?`
 pub plan_exit : {T A : Type 0} (r : Result T PlanFault) (fault : PlanFault) (meant : Result A PlanRefusal) → IsErrAnd r (λ e. e ≡ fault) → IsPlanFault fault meant → IfErr r (λ f. IsPlanFault f meant)

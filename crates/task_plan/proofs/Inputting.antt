@@ -1,19 +1,13 @@
 -- Input files, one after another.
-use Rattle.std.proofs.Common.{◌≡◌, ◌∙◌, refl, sym, ap, arith, ℕ, ◌+◌, ◌-◌, ◌^◌, ◌<◌, ◌≤◌, min, List, [], ◌∷◌, ◌++◌, length, drop, take, get_or, Bool, true, false, Option, Some, None, Result, Ok, Err, nat_le, bytes_eq, if◌then◌else◌}
+use Rattle.std.proofs.Common.{◌≡◌, ◌∙◌, refl, sym, ap, ℕ, ◌+◌, ◌-◌, ◌<◌, List, [], ◌∷◌, ◌++◌, length, drop, take, get_or, Bool, true, false, Option, Some, None, Result, bytes_eq}
 use Rattle.std.specs.List.{cons_option, flat_map}
-use Rattle.std.proofs.lemmas.Grind.{common_steps}
 use Rattle.std.proofs.lemmas.List.{drop_more, take_more, length-append, flat_map_more}
 use Rattle.tree_model.specs.declared.entry.Entry.{Entry}
-use Rattle.tree_model.specs.declared.entry.Entry.TheVariants.{File}
 use Rattle.tree_model.specs.Tree.{entry_at, put}
-use Rattle.tree_model.specs.Overlay.{overlaid}
-use Rattle.meta_model.specs.CleanBuild.{Entries}
 use Rattle.load_model.specs.LoadRefusal.{◌>>=◌}
-use Rattle.meta_model.proofs.Passing.{goes_on}
-use Rattle.plan_model.specs.PlanRefusal.{PlanRefusal, plan_bytes}
-use Rattle.plan_model.specs.Inputs.{Files, Inputs, input_word, input_words, most_of_inputs, with_input, within_limit, inputs_of}
+use Rattle.plan_model.specs.PlanRefusal.{PlanRefusal}
+use Rattle.plan_model.specs.Inputs.{Files, Inputs, input_word, input_words, inputs_of}
 use Rattle.task_plan.specs.declared.fault.PlanFault.{PlanFault}
-use Rattle.task_plan.specs.declared.fault.PlanFault.TheVariants.{PlanBytes}
 use Rattle.task_plan.specs.Faults.{IsPlanFault}
 use Rattle.task_plan.specs.Steps.{one_named, word_taken}
 use Rattle.task_plan.proofs.Faulting.{plan_same, plan_on}
@@ -25,21 +19,6 @@ one_held name e q = by (bytes_eq name q) refl
     by : (b : Bool) → bytes_eq name q ≡ b → put (entry_at []) name (Some e) q ≡ entry_at ((name, e) ∷ []) q
     by true h = simp h refl
     by false h = simp h refl
-
--- the limit of all input files
-pub limit_ok : (tree made : Entries) (old n sum : ℕ) (name bytes : List ℕ) → n ≡ length bytes → sum ≡ min (old + n) (2 ^ 64 - 1) → sum ≤ 268_435_456 → made ≡ overlaid tree ((name, File false bytes) ∷ [])
-    → within_limit (with_input (record { tree = tree; bytes = old }) (name, File false bytes)) ≡ Ok (record { tree = made; bytes = sum })
-limit_ok tree made old n sum name bytes same is le laid =
-    let exact : sum ≡ old + length bytes = omega (arith, same, is, le) in
-    let fits : nat_le (old + length bytes) most_of_inputs ≡ true = grind (arith, common_steps, exact, le) in
-    ap (λ b. if b then Ok (with_input (record { tree = tree; bytes = old }) (name, File false bytes)) else Err plan_bytes) fits
-    ∙ ap (λ t. Ok (record { tree = t; bytes = old + length bytes })) (sym laid) ∙ ap (λ s. Ok (record { tree = made; bytes = s })) (sym exact)
-
-pub limit_err : (tree : Entries) (old n sum : ℕ) (name bytes : List ℕ) → n ≡ length bytes → sum ≡ min (old + n) (2 ^ 64 - 1) → 268_435_456 < sum → IsPlanFault PlanBytes (within_limit (with_input (record { tree = tree; bytes = old }) (name, File false bytes)))
-limit_err tree old n sum name bytes same is gt =
-    let more : most_of_inputs < old + length bytes = omega (arith, same, is, gt) in
-    let beyond : nat_le (old + length bytes) most_of_inputs ≡ false = grind (arith, common_steps, more) in
-    record { told = ap (λ b. if b then Ok (with_input (record { tree = tree; bytes = old }) (name, File false bytes)) else Err plan_bytes) beyond }
 
 -- words, one after another
 
@@ -53,11 +32,6 @@ word_first files file inputs word words = by (input_word word)
 word_at : (files : Files) (file : List ℕ) (inputs : Inputs) (words : List (List ℕ)) (i : ℕ) (word : List ℕ) → word ≡ get_or words i word → i < length words → inputs_of files file inputs (input_words (drop i words)) ≡ (word_taken files file inputs word >>= λ more. inputs_of files file more (input_words (drop (i + 1) words)))
 word_at files file inputs words i word is lt =
     ap (λ l. inputs_of files file inputs (input_words l)) (drop_more words i word lt ∙ ap (λ w. w ∷ drop (i + 1) words) (sym is)) ∙ word_first files file inputs word (drop (i + 1) words)
-
-pub words_go_on : (files : Files) (file : List ℕ) (inputs next : Inputs) (words : List (List ℕ)) (i : ℕ) (word : List ℕ) (whole : Result Inputs PlanRefusal) → word ≡ get_or words i word → i < length words
-    → whole ≡ inputs_of files file inputs (input_words (drop i words)) → word_taken files file inputs word ≡ Ok next → whole ≡ inputs_of files file next (input_words (drop (i + 1) words))
-words_go_on files file inputs next words i word whole is lt w e =
-    w ∙ word_at files file inputs words i word is lt ∙ goes_on (word_taken files file inputs word) next (λ more. inputs_of files file more (input_words (drop (i + 1) words))) e
 
 pub words_fault : (files : Files) (file : List ℕ) (inputs : Inputs) (words : List (List ℕ)) (i : ℕ) (word : List ℕ) (whole : Result Inputs PlanRefusal) (fault : PlanFault) → word ≡ get_or words i word → i < length words
     → whole ≡ inputs_of files file inputs (input_words (drop i words)) → IsPlanFault fault (word_taken files file inputs word) → IsPlanFault fault whole

@@ -10,7 +10,7 @@ use Rattle.task_model.specs.Keys.{key}
 use Rattle.task_model.specs.Scripts.{script, places, is_sstate_of}
 use Rattle.plan_model.specs.PlanRefusal.{PlanRefusal, no_value, told_at}
 use Rattle.plan_model.specs.Inputs.{Files, Inputs, input_word, one_more}
-use Rattle.plan_model.specs.Plans.{task_inputs, counts, Parts, Sums, tasks_planned, forced_from}
+use Rattle.plan_model.specs.Plans.{counts, Parts, Sums, tasks_planned, forced_from}
 use Rattle.task_plan.specs.declared.fault.PlanFault.{PlanFault}
 use Rattle.task_plan.specs.declared.shell.Shell.{Shell}
 use Rattle.task_plan.specs.Faults.{IsPlanFault}
@@ -54,14 +54,6 @@ shell_of file store task = do
 
 abbrev pub parts_with : List ℕ → Key → Inputs → Shell → Parts
 parts_with task key inputs shell = record { key = key; inputs = inputs; script = shell.script; places = shell.places; nostamp = shell.nostamp; sstate = is_sstate_of key task }
-
--- the parts of a task: its key tells whether it is one of the shared state
-abbrev pub parts_by : Files → List ℕ → List EntryLine → List ℕ → ℕ → Result Parts PlanRefusal
-parts_by files file store task bytes = do
-  made ← key_told file store task
-  inputs ← task_inputs files file store task bytes
-  shell ← shell_of file store task
-  Ok (parts_with task made inputs shell)
 
 -- the tasks of nodes from a number on, of which those with these numbers are forced
 abbrev pub forced_tasks : Files → RecipeSet → Sums → ℕ → List ℕ → List Node → Result (List PlanTask) PlanRefusal

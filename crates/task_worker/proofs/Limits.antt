@@ -1,5 +1,5 @@
 -- The test of an output's limits, and what it means.
-use Rattle.std.proofs.Common.{◌≡◌, ◌∙◌, ap, sym, subst, refl, ◌≤◌, Bool, true, false, length, arith, All, Ok, Err}
+use Rattle.std.proofs.Common.{◌≡◌, ◌∙◌, ap, sym, subst, refl, ◌≤◌, Bool, true, false, length, All, Ok, Err}
 use Rattle.std.specs.Prelude.{◌||◌, ◌&&◌, not, IsTrue, if◌then◌else◌}
 use Rattle.std.specs.List.{list_any}
 use Rattle.std.proofs.lemmas.Bool.{false≢true}
@@ -63,11 +63,6 @@ unfolding is_beyond
 too_much output is =
     let beyond : is_beyond output ≡ true = or_first _ (list_any is_long output) (exceeds_true (size_of output) output_limit is) in
     ap (λ (b : Bool). if b then Err why.TooLarge else Ok output) beyond
-
--- a layout is beyond its limits, or it isn't
-pub beyond_layout : (tree : Entries) → Exceeds (size_of tree) layout_limit → is_beyond_layout tree ≡ true
-unfolding is_beyond_layout
-beyond_layout tree is = exceeds_true (size_of tree) layout_limit is
 
 pub within_layout : (tree : Entries) → (Exceeds (size_of tree) layout_limit → ⊥) → is_beyond_layout tree ≡ false
 unfolding is_beyond_layout

@@ -87,10 +87,6 @@ overlaid_more f tree xs i d lt =
     ∙ ap (overlaid_onto tree) (map-append f (take i xs) (get_or xs i d ∷ []))
     ∙ overlaid_last tree (map f (take i xs)) (f (get_or xs i d))
 
-pub overlaid_both : (tree : Entries) (first rest : List Entries) → overlaid_onto tree (first ++ rest) ≡ overlaid_onto (overlaid_onto tree first) rest
-overlaid_both tree [] rest = refl
-overlaid_both tree (t ∷ first) rest = overlaid_both (overlaid tree t) first rest
-
 map_twice : {A B C : Type 0} (f : A → B) (g : B → C) (xs : List A) → map g (map f xs) ≡ map (λ x. g (f x)) xs
 map_twice f g [] = refl
 map_twice f g (x ∷ xs) = ap (λ l. g (f x) ∷ l) (map_twice f g xs)

@@ -22,11 +22,6 @@ Names = List (List ℕ)
 pub behind_is : {A : Type 0} (before more : List A) (m : Result (List A) Refusal) → m ≡ Ok more → behind before m ≡ Ok (before ++ more)
 behind_is before more m e = ap (behind before) e
 
--- a list is what stands behind nothing
-pub behind_whole : {A : Type 0} (list : List A) (m : Result (List A) Refusal) → behind [] m ≡ Ok list → m ≡ Ok list
-behind_whole list (Ok more) e = e
-behind_whole list (Err refusal) e = absurd cc
-
 -- some more, and behind it the rest
 pub behind_two : {A : Type 0} (before made : List A) (m n : Result (List A) Refusal) → behind before m ≡ Ok made → behind before (m >>= λ some. n >>= λ rest. Ok (some ++ rest)) ≡ behind made n
 behind_two before made (Ok some) (Ok rest) e = ap Ok (sym (append_assoc before some rest) ∙ ap (λ l. l ++ rest) (cc))

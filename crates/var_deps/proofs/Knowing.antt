@@ -37,14 +37,6 @@ known_refused view own name fault known n s h says = record {
   line = says (read_line view own name) (fault_same fault (read_line view own name) (read_led view own name >>= λ led. view.find name >>= λ found. line_behind view own name found led) (sym (found_once (view.find name) (led_behind view own name) (line_behind view own name))) (fault_on fault (read_led view own name) (λ led. view.find name >>= λ found. line_behind view own name found led) h));
 }
 
--- what is refused isn't found
-pub refused_not_found : {A : Type 0} (fault : ExpandFault) (m : Result A Refusal) (a : A) → is_some (refusal_of fault) ≡ true → IsFaultOf fault m → m ≡ Ok a → ⊥
-refused_not_found (ValueCycle name) m a s h e = cc
-refused_not_found (TooDeep name) m a s h e = cc
-refused_not_found (TooLong name) m a s h e = cc
-refused_not_found (Unstable before last) m a s h e = cc
-refused_not_found Memory m a s h e = absurd cc
-
 -- of another name than the task's the same is known for all tasks
 pub known_shared : (store : List EntryLine) (own : Option (List ℕ)) (ignored : List (List ℕ)) (task other name : List ℕ) (known : Known) → IsKnown (view_by store own ignored false task) false name known → IsKnown (view_by store own ignored false other) false name known
 known_shared store own ignored task other name known k = record { led = k.led; line = k.line }

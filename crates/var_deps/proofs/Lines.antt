@@ -1,5 +1,5 @@
 -- A key that grows line by line.
-use Rattle.std.proofs.Common.{◌≡◌, refl, sym, ◌∙◌, ap, ℕ, Bool, true, false, ◌||◌, List, [], ◌∷◌, ◌++◌, map, Option, Result, Ok, Err, append_assoc, append-nil, codes}
+use Rattle.std.proofs.Common.{◌≡◌, refl, sym, ◌∙◌, ap, ℕ, Bool, true, false, ◌||◌, List, [], ◌∷◌, ◌++◌, map, Option, Result, Ok, Err, append_assoc, codes}
 use Rattle.std.specs.List.{list_any}
 use Rattle.meta_model.specs.declared.value.Key.{Key}
 use Rattle.meta_model.specs.declared.entry.EntryLine.{EntryLine}
@@ -30,10 +30,6 @@ or_none : (a : Bool) → (a || false) ≡ a
 or_none true = refl
 or_none false = refl
 
--- no more lines
-pub key_ends : (k : Key) → key_behind k (Ok []) ≡ Ok k
-key_ends k = ap (λ l. Ok (let r : Key = record { lines = l; excluded = k.excluded || false } in r)) (append-nil k.lines) ∙ ap (λ b. Ok (let r : Key = record { lines = k.lines; excluded = b } in r)) (or_none k.excluded)
-
 key_two : (k : Key) (t : Told) (rest : List Told) → key_behind k (Ok (t ∷ rest)) ≡ key_behind (record { lines = k.lines ++ t.line ∷ []; excluded = k.excluded || (t.left_out || false) }) (Ok rest)
 key_two k t rest =
     ap (λ l. Ok (let r : Key = record { lines = l; excluded = k.excluded || (t.left_out || list_any (λ u. u.left_out) rest) } in r)) (sym (append_assoc k.lines (t.line ∷ []) (map (λ u. u.line) rest)))
@@ -48,9 +44,6 @@ key_step k made (Err refusal) rest e = absurd cc
 pub lines_turn : (view : View) (whole : Result Key Refusal) (k made : Key) (all rest : List (List ℕ)) (name : List ℕ) → all ≡ name ∷ rest
     → whole ≡ key_behind k (lines_of view all) → key_behind k (one_line (line_of view name)) ≡ Ok made → whole ≡ key_behind made (lines_of view rest)
 lines_turn view whole k made all rest name is w e = w ∙ ap (λ l. key_behind k (lines_of view l)) is ∙ key_step k made (line_of view name) (lines_of view rest) e
-
-pub lines_done : (view : View) (whole : Result Key Refusal) (made : Key) (all : List (List ℕ)) → all ≡ [] → whole ≡ key_behind made (lines_of view all) → whole ≡ Ok made
-lines_done view whole made all none w = w ∙ ap (λ l. key_behind made (lines_of view l)) none ∙ key_ends made
 
 fault_front : (fault : ExpandFault) (k : Key) (m : Result (List Told) Refusal) → IsFaultOf fault (key_behind k m) → IsFaultOf fault m
 fault_front fault k (Ok told) h = no_fault fault (key_behind k (Ok told)) (record { lines = k.lines ++ map (λ t. t.line) told; excluded = k.excluded || list_any (λ t. t.left_out) told }) (Ok told) refl h

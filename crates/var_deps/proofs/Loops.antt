@@ -1,11 +1,8 @@
 -- The steps of loops.
-use Rattle.std.proofs.Common.{◌≡◌, refl, sym, ◌∙◌, ap, ℕ, ◌+◌, ◌<◌, ◌≤◌, Bool, true, false, not, ◌||◌, List, [], ◌∷◌, ◌++◌, length, get_or, drop, filter, Option, append_assoc, append-nil, if◌then◌else◌}
+use Rattle.std.proofs.Common.{◌≡◌, refl, sym, ◌∙◌, ap, ℕ, ◌+◌, ◌<◌, ◌≤◌, Bool, true, false, ◌||◌, List, [], ◌∷◌, ◌++◌, length, get_or, drop, filter, Option, append_assoc, append-nil, if◌then◌else◌}
 use Rattle.std.specs.List.{list_any}
 use Rattle.std.proofs.lemmas.List.{drop_more, drop_all}
-use Rattle.meta_model.specs.Text.{is_in}
-use Rattle.task_model.specs.Leads.{Led, without, is_key_name}
 use Rattle.task_model.specs.Keys.{told_flags}
-use Rattle.var_deps.specs.Led.{kept_more}
 use Rattle.var_deps.specs.Known.{told_at}
 
 abbrev pub Names : Type 0
@@ -38,9 +35,6 @@ flags_turn get whole before made fs i f at lt w e =
     w ∙ ap (λ l. before ++ told_flags get l) (from_here fs i f at lt)
     ∙ sym (append_assoc before (told_at f (get f)) (told_flags get (drop (i + 1) fs))) ∙ ap (λ l. l ++ told_flags get (drop (i + 1) fs)) (sym e)
 
-pub flags_done : (get : List ℕ → Option (List ℕ)) (whole made : List (List ℕ × List ℕ)) (fs : Names) (i : ℕ) → length fs ≤ i → whole ≡ made ++ told_flags get (drop i fs) → made ≡ whole
-flags_done get whole made fs i past w = sym (w ∙ ap (λ l. made ++ told_flags get l) (drop_all i fs past) ∙ append-nil made)
-
 -- names that aren't left out
 
 filter_one : (p : List ℕ → Bool) (b : Bool) (x : List ℕ) (rest xs ys : Names) → rest ≡ xs ++ ys → (if b then x ∷ rest else rest) ≡ (if b then x ∷ xs else xs) ++ ys
@@ -58,32 +52,3 @@ any_one false rest first later e = e
 pub any_more : (p : List ℕ → Bool) (xs ys : Names) → list_any p (xs ++ ys) ≡ (list_any p xs || list_any p ys)
 any_more p [] ys = refl
 any_more p (x ∷ xs) ys = any_one (p x) (list_any p (xs ++ ys)) (list_any p xs) (list_any p ys) (any_more p xs ys)
-
-fit_more : (omitted fit : Names) (name : List ℕ) → (let r : Led = record { names = filter (λ n. not (is_in n omitted)) (fit ++ name ∷ []); left_out = list_any (λ n. is_in n omitted) (fit ++ name ∷ []) } in r)
-    ≡ (if is_in name omitted then (let r : Led = record { names = filter (λ n. not (is_in n omitted)) fit; left_out = true } in r) else (let r : Led = record { names = filter (λ n. not (is_in n omitted)) fit ++ name ∷ []; left_out = list_any (λ n. is_in n omitted) fit } in r))
-fit_more omitted fit name =
-    ap (λ l. let r : Led = record { names = l; left_out = list_any (λ n. is_in n omitted) (fit ++ name ∷ []) } in r) (filter_more (λ n. not (is_in n omitted)) fit (name ∷ []))
-    ∙ ap (λ b. let r : Led = record { names = filter (λ n. not (is_in n omitted)) fit ++ filter (λ n. not (is_in n omitted)) (name ∷ []); left_out = b } in r) (any_more (λ n. is_in n omitted) fit (name ∷ []))
-    ∙ one (is_in name omitted) (filter (λ n. not (is_in n omitted)) fit) (list_any (λ n. is_in n omitted) fit)
-  where
-    or_true : (b : Bool) → (b || true) ≡ true
-    or_true true = refl
-    or_true false = refl
-
-    or_false : (b : Bool) → (b || false) ≡ b
-    or_false true = refl
-    or_false false = refl
-
-    one : (b : Bool) (kept : Names) (out : Bool) → (let r : Led = record { names = kept ++ (if not b then name ∷ [] else []); left_out = out || (b || false) } in r) ≡ (if b then (let r : Led = record { names = kept; left_out = true } in r) else (let r : Led = record { names = kept ++ name ∷ []; left_out = out } in r))
-    one true kept out = ap (λ l. let r : Led = record { names = l; left_out = out || true } in r) (append-nil kept) ∙ ap (λ b. let r : Led = record { names = kept; left_out = b } in r) (or_true out)
-    one false kept out = ap (λ b. let r : Led = record { names = kept ++ name ∷ []; left_out = b } in r) (or_false out)
-
--- one name more
-pub without_more : (omitted names : Names) (name : List ℕ) → without omitted (names ++ name ∷ []) ≡ kept_more omitted name (without omitted names)
-without_more omitted names name =
-    ap (λ l. let r : Led = record { names = filter (λ n. not (is_in n omitted)) l; left_out = list_any (λ n. is_in n omitted) l } in r) (filter_more is_key_name names (name ∷ [])) ∙ one (is_key_name name) refl
-  where
-    one : (b : Bool) → is_key_name name ≡ b → (let r : Led = record { names = filter (λ n. not (is_in n omitted)) (filter is_key_name names ++ (if b then name ∷ [] else [])); left_out = list_any (λ n. is_in n omitted) (filter is_key_name names ++ (if b then name ∷ [] else [])) } in r)
-        ≡ (if b then (if is_in name omitted then (let r : Led = record { names = (without omitted names).names; left_out = true } in r) else (let r : Led = record { names = (without omitted names).names ++ name ∷ []; left_out = (without omitted names).left_out } in r)) else without omitted names)
-    one true e = fit_more omitted (filter is_key_name names) name
-    one false e = ap (λ l. let r : Led = record { names = filter (λ n. not (is_in n omitted)) l; left_out = list_any (λ n. is_in n omitted) l } in r) (append-nil (filter is_key_name names))

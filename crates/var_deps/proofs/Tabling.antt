@@ -24,10 +24,6 @@ pub on_err : {T E P : Type 0} (r : Result T E) → P → OnErr r P
 on_err (Ok x) h = tt
 on_err (Err e) h = h
 
-pub on_ok_then : {T E P Q : Type 0} (r : Result T E) → (P → Q) → OnOk r P → OnOk r Q
-on_ok_then (Ok x) f h = f h
-on_ok_then (Err e) f h = tt
-
 -- maps by name
 
 one_more : (view : View) (b : Bool) (name q : List ℕ) (value : Known) (old : Option Known) (known : Known) → (b ≡ true → name ≡ q) → (old ≡ Some known → IsKnown view false q known) → IsKnown view false name value → cond b (Some value) old ≡ Some known → IsKnown view false q known
