@@ -79,7 +79,8 @@ changes_told old new fates told is tells t waits = elim (tells t) [
 
 -- ---- runs
 
-pub begun : (view : View) (replan : Replan) (front : Front) (board : List Fate) (count : ℕ) → IsSound view.plan → IsCurrent no_objects view replan → board ≡ replicate count Waiting → count ≡ length view.plan.tasks → ((need : List Bool) (avail : List Avail) (fates : List Fate) → length need ≡ length view.plan.tasks → Covers view.plan.tasks need avail fates front) → Stands view (record { replan = replan; front = front; board = board })
+pub begun : (view : View) (replan : Replan) (front : Front) (board : List Fate) (count : ℕ) → IsSound view.plan
+    → IsCurrent no_objects view replan → board ≡ replicate count Waiting → count ≡ length view.plan.tasks → ((need : List Bool) (avail : List Avail) (fates : List Fate) → length need ≡ length view.plan.tasks → Covers view.plan.tasks need avail fates front) → Stands view (record { replan = replan; front = front; board = board })
 begun view replan front board count sound current is all covers = record {
   sound = sound;
   current = current;
