@@ -1,7 +1,7 @@
 -- The steps of an expansion.
 use Rattle.std.specs.Prelude.{ℕ, ◌-◌, ⊤, nat_le, List, [], ◌∷◌, ◌++◌, length, Result, Ok, flat_map}
 use Rattle.std.specs.List.{list_all}
-use Rattle.meta_model.specs.Refusal.{Refusal, too_long, require}
+use Rattle.meta_model.specs.Refusal.{Refusal, too_long, require, ◌>>=◌}
 use Rattle.meta_model.specs.Text.{words}
 use Rattle.meta_model.specs.Names.{is_name_character}
 use Rattle.meta_model.specs.Parts.{Parts}
