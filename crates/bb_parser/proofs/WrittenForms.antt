@@ -13,7 +13,7 @@ use Rattle.meta_model.specs.declared.statement.Statement.TheVariants.{Assign, Fl
 use Rattle.meta_model.specs.Text.{newline, space, equals, is_blank, is_quote, is_empty, is_in, begins_with, skip_blanks, without_end, without_last}
 use Rattle.meta_model.specs.Names.{is_name, is_flag}
 use Rattle.meta_model.specs.Lines.{is_comment, is_joined, opens_body, lines_of_text}
-use Rattle.meta_model.specs.Grammar.{Fit, operator, operation, quoted, behind_word, assignment, flag_of_name, flag_assignment, fit_of, value_forms_of, directive_forms_of}
+use Rattle.meta_model.specs.Grammar.{Fit, operator, operation, quoted, behind_word, assignment, flag_of_name, flag_assignment, fit_of, value_forms_of, directive_forms_of, ◌>>=◌}
 use Rattle.meta_model.specs.Statements.{AreStatements, statement_of, is_fakeroot, is_python_word, holds_python, statement_holds_python, statement_is_reserved, is_reserved, is_allowed, first_word}
 use Rattle.bb_parser.specs.Written.{is_word, is_one_line, is_dropped, is_quotable, is_python_name, is_refused_name, times_of, is_free_name, can_follow, line_of_text, name_and_flag_text, operator_text, quote_of, operation_text, flag_text, needs_join, whole_line}
 use Rattle.meta_model.proofs.Edges.{without_end-stays}
