@@ -49,7 +49,7 @@ use Rattle.run_model.specs.Opening.{Opening}
 use Rattle.run_model.specs.Courses.{IsCourse, clean_says, said}
 use Rattle.run_queue.specs.declared.fault.RunFault.{RunFault}
 use Rattle.run_queue.specs.Asking.{earlier_in, kept_or_meant}
-use Rattle.run_queue.specs.Keeps.{IsRun, IsUpToDate, WasThere, nobody}
+use Rattle.run_queue.specs.Keeps.{IsRun, IsUpToDate, WasThere}
 use Rattle.run_queue.specs.Puts.{HasPut, IsCleanOutput, IsSignedAt, Puts}
 use Rattle.setscene_plan.specs.declared.replan.Replan.{Replan}
 use Rattle.setscene_plan.specs.Replans.{IsCurrent}

@@ -1,4 +1,4 @@
-use Rattle.std.proofs.Common.{◌≡◌, ◌∙◌, ap, sym, subst, Option}
+use Rattle.std.proofs.Common.{◌≡◌, ◌∙◌, ap, subst, Option}
 use Rattle.tree_model.specs.Entries.{Entries}
 use Rattle.meta_model.specs.CleanBuild.{is_beyond_layout}
 use Rattle.run_model.specs.Layouts.{layout_over}
