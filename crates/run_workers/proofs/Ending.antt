@@ -14,13 +14,21 @@ use Rattle.tale_model.specs.Fates.{HoldsFailure, fates_told}
 use Rattle.run_model.specs.Outcome.{IsAtEnd}
 use Rattle.run_queue.specs.Keeps.{IsState}
 use Rattle.run_queue.specs.Seen.{RunView, Seen}
-use Rattle.run_queue.specs.Turns.{Claims}
+use Rattle.meta_model.specs.declared.event.Cut.TheVariants as cut
+use Rattle.meta_model.specs.declared.event.Event.TheVariants as events
+use Rattle.run_model.specs.Report.{is_started}
+use Rattle.run_model.specs.Seats.{is_break}
+use Rattle.task_worker.specs.declared.given.Given.{Given}
+use Rattle.task_worker.specs.declared.given.Given.TheVariants as given
+use Rattle.turn_lock.specs.declared.rule.View.{View}
+use Rattle.run_queue.specs.Turns.{Claims, closed_as}
+use Rattle.run_workers.specs.Worked.{Closes}
 use Rattle.run_queue.specs.declared.fault.RunFault.{RunFault}
 use Rattle.run_queue.specs.declared.state.Claim.{Claim}
 use Rattle.run_queue.specs.declared.state.Claim.TheVariants as claim
 use Rattle.turn_lock.specs.Views.{Begins}
 use Rattle.run_workers.specs.Ended.{AllEnded, ClaimSays, Ended, HaltsBy, HaltsIn, IsStopped, SaysWhy, WasFaulty, by_memory}
-use Rattle.run_workers.specs.Seats.{HeardOn, ended_as}
+use Rattle.run_workers.specs.Seats.{EndAdds, HeardOn, Turned, ended_as}
 use Rattle.run_workers.specs.Since.{Kept, SharedView}
 use Rattle.run_workers.specs.Told.{logged_in, told}
 use Rattle.run_workers.specs.declared.shared.Claimed.{Claimed}
@@ -139,3 +147,38 @@ want_first false b e = absurd (false≢true e)
 pub want_second : (a b : Bool) → b ≡ true → (a || b) ≡ true
 want_second true b e = refl
 want_second false b e = e
+
+-- ---- what a turn leaves
+
+-- what a seat has seen begins with what it had seen before its turn
+pub turned_seen : {N : Type 0} (v w : View N Told) (added : List Told) → Turned v w added → Begins w.seen v.seen
+turned_seen v w added t = (t.begins.0 ++ added, t.seen ∙ ap (λ l. l ++ added) t.begins.1 ∙ append_assoc v.seen t.begins.0 added)
+
+closed_quiet : (t : ℕ) (g : Given) → is_started (closed_as t g) ≡ false
+closed_quiet t (given.Tree tree manifest) = refl
+closed_quiet t (given.Fails status) = refl
+closed_quiet t given.TooLarge = refl
+
+closed_calm : (t : ℕ) (g : Given) → is_break (closed_as t g) ≡ false
+closed_calm t (given.Tree tree manifest) = refl
+closed_calm t (given.Fails status) = refl
+closed_calm t given.TooLarge = refl
+
+-- a job that was closed where a fault is kept
+pub closes_stopped : (n t : ℕ) (g : Given) (old new added : List Told) → EndAdds n t g (Ok false) added → new ≡ old ++ added → Closes n (Some halts.Stopped) old new
+closes_stopped n t g old new added (printed, inl e) is = record {
+  event = closed_as t g;
+  moment = e.moment;
+  printed = printed;
+  is = is ∙ ap (λ l. old ++ l) e.is;
+  quiet = closed_quiet t g;
+  breaks = λ b. absurd (false≢true (sym (closed_calm t g) ∙ b));
+}
+closes_stopped n t g old new added (printed, inr e) is = record {
+  event = events.Broke t cut.Fault;
+  moment = e.moment;
+  printed = printed;
+  is = is ∙ ap (λ l. old ++ l) e.is;
+  quiet = refl;
+  breaks = λ b. (refl, λ bench. absurd (false≢true bench));
+}

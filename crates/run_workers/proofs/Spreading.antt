@@ -119,6 +119,9 @@ module _ {B : Type 0} (dt bt alike : Type 0) (place : B → Workplace) (gives_of
     pub none_hold : NoneHold (records_of v)
     none_hold = All-cons (λ (r : Record Told). HoldsNone r.number r.entries) (record { number = v.number; entries = v.own }) v.others (none_first v.number v.own j.mine) (all_rest 1 olds news v.others all)
 
+pub one_more : (n : ℕ) → n + 1 ≡ 1 + n
+one_more n = omega arith
+
 module _ {N : Type 0} where
   -- a seat that splits one off
   pub begun_split : (m : ℕ) (v w : View N Told) → HasBegun (suc m) v → w ≡ split_from v → HasBegun m w

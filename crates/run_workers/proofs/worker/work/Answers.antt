@@ -10,11 +10,11 @@ use Rattle.run_workers.specs.declared.worker.Halt.TheVariants as halts
 use Rattle.run_workers.proofs.Ending.{ended_one}
 use Rattle.run_workers.proofs.worker.work.Goals as goal
 
-pub returns-in-Some-clause-ended : goal.returns-in-Some-clause-ended
-returns-in-Some-clause-ended g c =
+pub returns-in-Some-turn-clause-ended : goal.returns-in-Some-turn-clause-ended
+returns-in-Some-turn-clause-ended g c =
     let faulty = WasFaulty g.D.Disk.faults g.W.Sink.faults g.K.Began.first g.K.Began.faults in
     let tale = logged_in (view_of c.turn.new.seat).seen in
     let cause = (c.turn.ensures.worked _ c.loop.invariant.worked).cause in
-    ended_one g.K.Began.first faulty g.B.Bench.faults c.in-Some.halt c.wants_memory.result tale c.args.bench c.turn.new.bench c.wants_memory.ensures
-    (subst (λ (h : Option Halt). HaltsIn g.K.Began.first faulty h tale) c.in-Some.is c.turn.ensures.ends)
-    (λ bench. (subst (Counts (g.B.Bench.faults c.args.bench) (g.B.Bench.faults c.turn.new.bench)) (ap by_bench c.in-Some.is ∙ ap (λ h. by_bench (Some h)) bench) cause).rose)
+    ended_one g.K.Began.first faulty g.B.Bench.faults c.in-Some-turn.halt c.wants_memory.result tale c.args.bench c.turn.new.bench c.wants_memory.ensures
+    (subst (λ (h : Option Halt). HaltsIn g.K.Began.first faulty h tale) c.in-Some-turn.is c.turn.ensures.ends)
+    (λ bench. (subst (Counts (g.B.Bench.faults c.args.bench) (g.B.Bench.faults c.turn.new.bench)) (ap by_bench c.in-Some-turn.is ∙ ap (λ h. by_bench (Some h)) bench) cause).rose)
