@@ -1,4 +1,4 @@
-use Rattle.std.proofs.Common.{◌≡◌, ◌∙◌, ◌+◌, ◌++◌, ◌∷◌, [], ℕ, List, All, length, sym, ap, subst, refl, append-nil, length-append, arith}
+use Rattle.std.proofs.Common.{rules, ◌≡◌, ◌≤◌, ◌<◌, ◌∙◌, ◌+◌, ◌++◌, ◌∷◌, [], ℕ, List, All, length, sym, ap, subst, refl, append-nil, length-append, arith}
 use Rattle.outside_traits.specs.Bench.{Gives}
 use Rattle.run_model.specs.Report.{tale_text}
 use Rattle.meta_model.specs.declared.event.Logged.{Logged}
@@ -43,7 +43,8 @@ returns-then-is_empty-clause-threads g t c = no_seats c.args.workers c.args.stat
 pub returns-then-is_empty-clause-ended : goal.returns-then-is_empty-clause-ended
 returns-then-is_empty-clause-ended g t c =
     let first = seen g.D.Disk.story g.W.Sink.written c.args.state in
-    ended_none first (WasFaulty g.D.Disk.faults g.W.Sink.faults first (g.W.Sink.faults c.args.state.sink)) g.B.Bench.faults false c.args.state.tale c.args.workers c.args.benches.items c.args.benches.items ?
+    ended_none first (WasFaulty g.D.Disk.faults g.W.Sink.faults first (g.W.Sink.faults c.args.state.sink)) g.B.Bench.faults false c.args.state.tale c.args.workers c.args.benches.items c.args.benches.items
+    (let none : c.args.benches.items ≡ [] = search rules in none)
 
 pub returns-then-is_empty-clause-left : goal.returns-then-is_empty-clause-left
 returns-then-is_empty-clause-left g t c = left_none c.args.state.tale c.requires.none
@@ -59,11 +60,12 @@ pub returns-then-len-workers-clause-ended : goal.returns-then-len-workers-clause
 returns-then-len-workers-clause-ended g t c =
     let first = seen g.D.Disk.story g.W.Sink.written c.args.state in
     let now = c.run_workers-state in
-    ended_whole first (WasFaulty g.D.Disk.faults g.W.Sink.faults first (g.W.Sink.faults c.args.state.sink)) g.B.Bench.faults now.result.2 now.result.0.tale c.args.workers c.args.benches.items now.result.1.items ? now.ensures.benches now.ensures.ended
+    ended_whole first (WasFaulty g.D.Disk.faults g.W.Sink.faults first (g.W.Sink.faults c.args.state.sink)) g.B.Bench.faults now.result.2 now.result.0.tale c.args.workers c.args.benches.items now.result.1.items
+    (let test : c.len.result ≤ c.args.workers = search rules in let len = c.len.ensures in let long = c.args.benches.ok.0 in omega (arith, test, len, long)) now.ensures.benches now.ensures.ended
 
 pub returns-then-len-workers-clause-threads : goal.returns-then-len-workers-clause-threads
 returns-then-len-workers-clause-threads g t c =
-    seats_wider (length c.args.benches.items) c.args.workers c.run_workers-state.result.0.tale (let long = c.args.benches.ok.0 in let few = c.then-len-workers in let len = c.len.ensures in ?) (has_seats (length c.args.benches.items) c.run_workers-state.result.0.tale c.run_workers-state.ensures.seats)
+    seats_wider (length c.args.benches.items) c.args.workers c.run_workers-state.result.0.tale (let test : c.len.result ≤ c.args.workers = search rules in let len = c.len.ensures in let long = c.args.benches.ok.0 in omega (arith, test, len, long)) (has_seats (length c.args.benches.items) c.run_workers-state.result.0.tale c.run_workers-state.ensures.seats)
 
 pub returns-then-len-workers-clause-seats : goal.returns-then-len-workers-clause-seats
 returns-then-len-workers-clause-seats g t c = has_seats (length c.args.benches.items) c.run_workers-state.result.0.tale c.run_workers-state.ensures.seats
@@ -150,4 +152,5 @@ returns-clause-ended g t c =
     let now = c.with_at_most-state in
     let rest = c.take_last-bench.new.benches.items in
     ended_pushed first (WasFaulty g.D.Disk.faults g.W.Sink.faults first (g.W.Sink.faults c.args.state.sink)) g.B.Bench.faults now.result.2 now.result.0.tale c.args.workers rest now.result.1.items c.args.benches.items c.push_reserved.new.self.items c.take_last-bench.result
-    c.take_last-bench.ensures.items c.push_reserved.ensures.items now.ensures.broke.long ? now.ensures.ended
+    c.take_last-bench.ensures.items c.push_reserved.ensures.items now.ensures.broke.long
+    (let test : c.args.workers < c.len.result = search rules in let len = c.len.ensures in let long = c.args.benches.ok.0 in let items = ap length c.take_last-bench.ensures.items ∙ length-append rest (c.take_last-bench.result ∷ []) in omega (arith, test, len, long, items)) now.ensures.ended
