@@ -15,6 +15,10 @@ use Rattle.run_workers.specs.Seats.{HoldsNone, IsSameSeat, NoneHold}
 use Rattle.run_workers.specs.Worked.{AllWorked, HasBegun, IsJoined, IsWorked}
 use Rattle.run_workers.proofs.Records.{none_first}
 
+-- one behind a number, and a number behind one
+pub one_more : (n : ℕ) → n + 1 ≡ 1 + n
+one_more n = omega arith
+
 module _ {B : Type 0} (dt bt alike : Type 0) (place : B → Workplace) (gives_of : B → Gives) (faults : B → ℕ) (first : Seen) (gives : Gives) where
   -- one more worker
   pub all_push : (n : ℕ) (olds news : List B) (records : List (Record Told)) (old new : B) (r : Record Told) → AllWorked dt bt alike place gives_of faults first gives n olds news records

@@ -1,10 +1,10 @@
-use Rattle.std.proofs.Common.{rules, ◌≡◌, ◌+◌, ◌++◌, ◌∷◌, [], ℕ, List, length, vec_len, sym, ◌∙◌, ap, subst, arith}
+use Rattle.std.proofs.Common.{rules, ◌≡◌, ◌+◌, ◌++◌, ◌∷◌, [], ℕ, List, length, vec_len, sym, ◌∙◌, ap, subst}
 use Rattle.turn_lock.specs.declared.rule.Record.{Record}
 use Rattle.turn_lock.specs.Seats.{view_of}
 use Rattle.run_workers.specs.declared.shared.Told.{Told}
 use Rattle.run_workers.specs.Seats.{IsSameSeat}
 use Rattle.run_workers.specs.Worked.{AllWorked, IsJoined, IsWorked}
-use Rattle.run_workers.proofs.Spreading.{all_push, taken_in}
+use Rattle.run_workers.proofs.Spreading.{all_push, one_more, taken_in}
 use Rattle.run_workers.proofs.workers.+fn-spread-join+arg2+spread.Goals as goal
 
 pub returns-clause-worked : goal.returns-clause-worked
@@ -23,7 +23,7 @@ returns-clause-worked g t c =
     let taken = taken_in m (view_of c.args.seat) v w x u c.requires.begins c.split-other.ensures.new same joins c.join-2.ensures.seat in
     let r : Record Told = record { number = m; entries = x.own } in
     let items : c.args.benches.items ≡ rest ++ c.in-Some.bench ∷ [] = c.in-Some.ensures.items in
-    let long : m ≡ 1 + length rest = c.args.benches.ok.0 ∙ ap length items ∙ Rattle.std.proofs.Common.length-append rest (c.in-Some.bench ∷ []) ∙ (let e : length rest + 1 ≡ 1 + length rest = omega arith in e) in
+    let long : m ≡ 1 + length rest = c.args.benches.ok.0 ∙ ap length items ∙ Rattle.std.proofs.Common.length-append rest (c.in-Some.bench ∷ []) ∙ one_more (length rest) in
     let pushed = all_push g.D.Disk.tells g.B.Bench.tells g.K.Began.alike g.B.Bench.place g.B.Bench.gives g.B.Bench.faults g.K.Began.first g.K.Began.gives 1 rest news v.others c.in-Some.bench c.join-seat.result.1.1 r all long (subst (λ n. IsWorked g.D.Disk.tells g.B.Bench.tells g.K.Began.alike g.B.Bench.place g.B.Bench.gives g.B.Bench.faults g.K.Began.first g.K.Began.gives n x.own c.in-Some.bench c.join-seat.result.1.1) (taken.number ∙ long) one) in
     subst (λ (l : List (Record Told)). AllWorked g.D.Disk.tells g.B.Bench.tells g.K.Began.alike g.B.Bench.place g.B.Bench.gives g.B.Bench.faults g.K.Began.first g.K.Began.gives 1 c.args.benches.items c.push_reserved-2.new.self.items l) (sym taken.others)
     (subst (λ (l : List g.row.B.Denot). AllWorked g.D.Disk.tells g.B.Bench.tells g.K.Began.alike g.B.Bench.place g.B.Bench.gives g.B.Bench.faults g.K.Began.first g.K.Began.gives 1 l c.push_reserved-2.new.self.items (v.others ++ r ∷ [])) (sym items)
