@@ -16,7 +16,7 @@ returns-in-Some-turn-clause-ended g c =
     let faulty = WasFaulty g.D.Disk.faults g.W.Sink.faults g.K.Began.first g.K.Began.faults in
     let tale = logged_in (view_of c.turn.new.seat).seen in
     let before = subst (λ (n : ℕ). Worked g.D.Disk.tells g.B.Bench.tells g.K.Began.alike g.B.Bench.place g.B.Bench.gives g.B.Bench.faults g.K.Began.first g.K.Began.gives None n (view_of c.loop.seat).own c.args.bench c.loop.bench)
-        (sym c.loop.invariant.same.number) c.loop.invariant.worked in
+    (sym c.loop.invariant.same.number) c.loop.invariant.worked in
     let cause = (c.turn.ensures.worked c.args.bench before).cause in
     ended_one g.K.Began.first faulty g.B.Bench.faults c.in-Some-turn.halt c.wants_memory.result tale c.args.bench c.turn.new.bench c.wants_memory.ensures
     (subst (λ (h : Option Halt). HaltsIn g.K.Began.first faulty h tale) c.in-Some-turn.is c.turn.ensures.ends)

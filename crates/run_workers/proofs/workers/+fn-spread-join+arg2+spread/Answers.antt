@@ -28,7 +28,8 @@ returns-clause-worked g t c =
     let r : Record Told = record { number = m; entries = x.own } in
     let items : c.args.benches.items ≡ rest ++ c.in-Some.bench ∷ [] = c.in-Some.ensures.items in
     let long : m ≡ 1 + length rest = c.args.benches.ok.0 ∙ ap length items ∙ Rattle.std.proofs.Common.length-append rest (c.in-Some.bench ∷ []) ∙ one_more (length rest) in
-    let pushed = all_push g.D.Disk.tells g.B.Bench.tells g.K.Began.alike g.B.Bench.place g.B.Bench.gives g.B.Bench.faults g.K.Began.first g.K.Began.gives 1 rest news v.others c.in-Some.bench c.join-seat.result.1.1 r all long (subst (λ n. IsWorked g.D.Disk.tells g.B.Bench.tells g.K.Began.alike g.B.Bench.place g.B.Bench.gives g.B.Bench.faults g.K.Began.first g.K.Began.gives n x.own c.in-Some.bench c.join-seat.result.1.1) (taken.number ∙ long) one) in
+    let pushed = all_push g.D.Disk.tells g.B.Bench.tells g.K.Began.alike g.B.Bench.place g.B.Bench.gives g.B.Bench.faults g.K.Began.first g.K.Began.gives 1 rest news v.others c.in-Some.bench c.join-seat.result.1.1 r all long
+    (subst (λ n. IsWorked g.D.Disk.tells g.B.Bench.tells g.K.Began.alike g.B.Bench.place g.B.Bench.gives g.B.Bench.faults g.K.Began.first g.K.Began.gives n x.own c.in-Some.bench c.join-seat.result.1.1) (taken.number ∙ long) one) in
     subst (λ (l : List (Record Told)). AllWorked g.D.Disk.tells g.B.Bench.tells g.K.Began.alike g.B.Bench.place g.B.Bench.gives g.B.Bench.faults g.K.Began.first g.K.Began.gives 1 c.args.benches.items c.push_reserved-2.new.self.items l) (sym taken.others)
     (subst (λ (l : List g.row.B.Denot). AllWorked g.D.Disk.tells g.B.Bench.tells g.K.Began.alike g.B.Bench.place g.B.Bench.gives g.B.Bench.faults g.K.Began.first g.K.Began.gives 1 l c.push_reserved-2.new.self.items (v.others ++ r ∷ [])) (sym items)
     (subst (λ (l : List g.row.B.Denot). AllWorked g.D.Disk.tells g.B.Bench.tells g.K.Began.alike g.B.Bench.place g.B.Bench.gives g.B.Bench.faults g.K.Began.first g.K.Began.gives 1 (rest ++ c.in-Some.bench ∷ []) l (v.others ++ r ∷ [])) (sym c.push_reserved-2.ensures.items) pushed))

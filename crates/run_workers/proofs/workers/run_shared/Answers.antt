@@ -25,14 +25,16 @@ returns-in-Ok-clause-did g c =
     let v = view_of c.spread-seat.result.0 in
     let joined = c.spread-seat.ensures.joined in
     let worked = c.spread-seat.ensures.worked in
-    all_did g.D.Disk.tells g.B.Bench.tells g.W.Sink.tells g.K.Began.alike g.D.Disk.story g.B.Bench.place g.B.Bench.gives g.B.Bench.faults g.W.Sink.written g.W.Sink.faults g.K.Began.first g.K.Began.faults g.K.Began.gives v c.args.benches.items c.spread-seat.result.1.items c.close.result joined worked c.close.ensures.left (c.close.ensures.none (none_hold g.D.Disk.tells g.B.Bench.tells g.K.Began.alike g.B.Bench.place g.B.Bench.gives g.B.Bench.faults g.K.Began.first g.K.Began.gives v c.args.benches.items c.spread-seat.result.1.items joined worked))
+    all_did g.D.Disk.tells g.B.Bench.tells g.W.Sink.tells g.K.Began.alike g.D.Disk.story g.B.Bench.place g.B.Bench.gives g.B.Bench.faults g.W.Sink.written g.W.Sink.faults g.K.Began.first g.K.Began.faults g.K.Began.gives v c.args.benches.items c.spread-seat.result.1.items c.close.result joined worked c.close.ensures.left
+    (c.close.ensures.none (none_hold g.D.Disk.tells g.B.Bench.tells g.K.Began.alike g.B.Bench.place g.B.Bench.gives g.B.Bench.faults g.K.Began.first g.K.Began.gives v c.args.benches.items c.spread-seat.result.1.items joined worked))
 
 pub returns-in-Err-clause-did : goal.returns-in-Err-clause-did
 returns-in-Err-clause-did g c =
     let s = c.args.state in
     let orderly : EachAfter (IsOrderly s.plan.tasks) s.tale = subst (EachAfter (IsOrderly s.plan.tasks)) (sym c.requires.none) (λ k entry is. absurd (let n : None ≡ Some entry = is in cc)) in
     subst (λ (now : RunView g.row.D.Denot g.row.W.Denot). AllDid g.D.Disk.tells g.B.Bench.tells g.W.Sink.tells g.K.Began.alike g.D.Disk.story g.B.Bench.place g.B.Bench.gives g.B.Bench.faults g.W.Sink.written g.W.Sink.faults g.K.Began.first g.K.Began.faults g.K.Began.gives c.args.benches.items c.args.benches.items now) (sym c.in-Err.ensures.refused)
-    (none_did g.D.Disk.tells g.B.Bench.tells g.W.Sink.tells g.K.Began.alike g.D.Disk.story g.B.Bench.place g.B.Bench.gives g.B.Bench.faults g.W.Sink.written g.W.Sink.faults g.K.Began.first g.K.Began.faults g.K.Began.gives c.args.benches.items s c.requires.first c.requires.faults c.requires.none (none_runs_first (fates_of s) s.tale (λ t seat. c.seat_laws.ensures.last s.plan.tasks s.tale orderly t seat) c.requires.none))
+    (none_did g.D.Disk.tells g.B.Bench.tells g.W.Sink.tells g.K.Began.alike g.D.Disk.story g.B.Bench.place g.B.Bench.gives g.B.Bench.faults g.W.Sink.written g.W.Sink.faults g.K.Began.first g.K.Began.faults g.K.Began.gives c.args.benches.items s c.requires.first c.requires.faults c.requires.none
+    (none_runs_first (fates_of s) s.tale (λ t seat. c.seat_laws.ensures.last s.plan.tasks s.tale orderly t seat) c.requires.none))
 
 pub returns-in-Ok-clause-ended : goal.returns-in-Ok-clause-ended
 returns-in-Ok-clause-ended g c =
