@@ -194,7 +194,7 @@ broken_job halt fault t old mid new m c by = record {
 
     at : (b : Bool) → is_break c.event ≡ b → Breaks (IsSome halt ⊎ IsSome fault) (Unit {0}) (first ∷ last ∷ [])
     at true is = record { front = first ∷ []; back = last ∷ []; cut = refl; before = (refl, tt); last = inr (last, refl, by last c.marks.is is, λ bench. tt) }
-    at false is = record { front = first ∷ last ∷ []; back = []; cut = refl; before = (refl, is, tt); last = inl refl }
+    at false is = record { front = first ∷ last ∷ []; back = []; cut = refl; before = (refl, (is, tt)); last = inl refl }
 
 -- one turn behind others
 pub broken_on : (fault : Option RunFault) (stops : Type 0) (old mid new : List Logged) → Broken (IsSome fault) old mid → Broken stops mid new → (IsSome fault → stops) → (IsSome fault → new ≡ mid) → Broken stops old new
@@ -225,7 +225,7 @@ pub broken_all : (stops : Type 0) (old new : List Logged) → Broken stops old n
 broken_all stops old new b = record { more = b.more; is = b.is; breaks = breaks_wider stops (Unit {0}) b.more (λ s. tt) b.breaks }
 
 -- where the run goes on it stops only for a fault
-pub broken_going : (fault : Option RunFault) (old new : List Logged) → Broken (IsSome {A = Halt} None ⊎ IsSome fault) old new → Broken (IsSome fault) old new
+pub broken_going : (fault : Option RunFault) (old new : List Logged) → Broken (IsSome (let none : Option Halt = None in none) ⊎ IsSome fault) old new → Broken (IsSome fault) old new
 broken_going fault old new b = record { more = b.more; is = b.is; breaks = breaks_wider _ (IsSome fault) b.more (λ s. elim s [ inl halts ↦ absurd (false≢true halts) | inr kept ↦ kept ]) b.breaks }
 
 -- an entry that stands last is the one that was marked

@@ -256,12 +256,17 @@ have_benches n mid more tale is alone has place entry at = elim (two_places mid 
 
 -- ---- each of the first benches had a worker, which came to an end
 
+-- a list of no length is empty
+pub none_by_length : {X : Type 0} (xs : List X) → length xs ≡ 0 → xs ≡ []
+none_by_length [] e = refl
+none_by_length (x ∷ xs) e = absurd (omega (arith, e))
+
 module _ {B : Type 0} (first : Seen) (faulty : List Logged → Type 0) (faults : B → ℕ) (wanting : Bool) (tale : List Logged) (workers : ℕ) where
   -- no bench
   pub ended_none : (olds news : List B) → olds ≡ [] → AllEnded first faulty faults wanting tale (take workers olds) (take workers news)
   ended_none olds news none k old new was is = absurd (none-some old (sym (ap (λ (l : List B). slice_get (take workers l) k) none ∙ ap (λ (l : List B). slice_get l k) (take_none workers)) ∙ was))
     where
-      take_none : (n : ℕ) → take n [] ≡ []
+      take_none : (n : ℕ) → ◌≡◌ {A = List B} (take n []) []
       take_none zero = refl
       take_none (suc n) = refl
 
