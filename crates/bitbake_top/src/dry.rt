@@ -17,8 +17,8 @@ use bb_report::dry_text;
 use meta_model::Status;
 use outside_traits::{Layers, Sink};
 use project_reading::or_status;
-use target_plan::find_plan;
 use std::alloc::Global;
+use target_plan::find_plan;
 use tree_model::Text;
 
 /// The text of the plan that a request has.

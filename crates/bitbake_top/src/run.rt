@@ -25,10 +25,10 @@ use answer_model::RunRequest;
 use build_store::Ahead;
 use meta_model::{Plan, Status};
 use outside_traits::{Bench, Disk, Layers, Sink};
-use target_plan::find_plan;
 use std::alloc::Global;
 use std::sync::Wait;
 use std::thread::Threads;
+use target_plan::find_plan;
 
 /// Finds the plan that a request is a run of.
 fn find<L: Layers>(alloc: Global, layers: &mut L, request: &RunRequest) -> Result<Plan, Status>

@@ -8,8 +8,8 @@ use crate::values::all_values;
 use meta_model::{FactSet, Status};
 use project_reading::{graph_status, nothing_provides, or_status};
 use recipe_set::RecipeSet;
-use target_graph::{is_elsewhere, target_name};
 use std::alloc::Global;
+use target_graph::{is_elsewhere, target_name};
 use task_graph::provider;
 use tree_model::{ListOf, Text};
 

@@ -77,47 +77,50 @@ HaltsAt o s t = (run : IsRunBut o s (λ u. u ≡ t)) × (run.halted ≡ t)
 
 -- A fault that is kept as a task is begun leaves what a run keeps, where the store wasn't touched.
 pub fault_run : (o : Opening) (s : Seen) (begun : List (Option Avail)) (kept : List KeptSig) (f : RunFault) (t : ℕ) → s.fault ≡ None → Begins s.begun begun t → (run : IsRun o s) → HaltsAt o (record s { begun = begun; kept = kept; fault = Some f }) t
-fault_run o s begun kept f t faultless begins run = (record {
-  may = run.may;
-  rows = run.rows;
-  lines = run.lines;
-  grown = run.grown;
-  own = λ l has u other at pn name. more u (run.own l has u other at pn name);
-  last = run.last;
-  few_last = run.few_last;
-  none_last = λ none. absurd (cc);
-  readable = run.readable;
-  valid = λ none. absurd (cc);
-  durable = λ none. absurd (cc);
-  objects = λ none. absurd (cc);
-  later = run.later;
-  marked = run.marked;
-  reusable = run.reusable;
-  legal = run.legal;
-  real = run.real;
-  stored = run.stored;
-  there = if_some_on s.known (λ (k : Known). (u : ℕ) (a : Avail) → IsIn k.need u → (HasEnded s.plan s.tale u → ⊥) → slice_get k.avail u ≡ Some a → WasThere o s u a)
-      (λ (k : Known). (u : ℕ) (a : Avail) → IsIn k.need u → (HasEnded s.plan s.tale u → ⊥) → slice_get k.avail u ≡ Some a → WasThere o (record s { begun = begun; kept = kept; fault = Some f }) u a)
-      (λ k h u a member not_yet is. h u a member not_yet is) run.there;
-  answered = λ none. absurd (cc);
-  met = λ u settled not_yet. let m = run.met u settled not_yet in (m.0, m.1, m.2);
-  halted = t;
-  told = told_halted s.begun begun t s.tale s.fault (Some f) run.halted (MayBeHalted o s) (MayBeHalted o (record s { begun = begun; kept = kept; fault = Some f })) (λ u. u ≡ t) begins.others faultless (inr refl) run.told;
-  images = λ from image le since. elim (run.images from image le since) [
-    | inl before ↦ inl before
-    | inr l ↦ inr (record {
-      count = l.count;
-      valid = l.valid;
-      honest = l.honest;
-      others = λ u other at_u not_begun. l.others u other at_u (λ b. not_begun (more u b));
-      paths = λ q aside. l.paths q (aside_less s.plan (IsBegun s) (IsBegun (record s { begun = begun })) (IsPublishing s) (IsPublishing (record s { begun = begun })) q more (λ u b. (more u b.0, b.1)) aside);
-      objects = λ line has none. l.objects line has (none_besides o.gives s.plan o.book s.tale s.begun begun line more none);
-      folders = l.folders;
-    })
-  ];
-  stands = run.stands;
-  settled = run.settled;
-}, refl)
+fault_run o s begun kept f t faultless begins run = (
+  record {
+    may = run.may;
+    rows = run.rows;
+    lines = run.lines;
+    grown = run.grown;
+    own = λ l has u other at pn name. more u (run.own l has u other at pn name);
+    last = run.last;
+    few_last = run.few_last;
+    none_last = λ none. absurd (cc);
+    readable = run.readable;
+    valid = λ none. absurd (cc);
+    durable = λ none. absurd (cc);
+    objects = λ none. absurd (cc);
+    later = run.later;
+    marked = run.marked;
+    reusable = run.reusable;
+    legal = run.legal;
+    real = run.real;
+    stored = run.stored;
+    there = if_some_on s.known (λ (k : Known). (u : ℕ) (a : Avail) → IsIn k.need u → (HasEnded s.plan s.tale u → ⊥) → slice_get k.avail u ≡ Some a → WasThere o s u a)
+        (λ (k : Known). (u : ℕ) (a : Avail) → IsIn k.need u → (HasEnded s.plan s.tale u → ⊥) → slice_get k.avail u ≡ Some a → WasThere o (record s { begun = begun; kept = kept; fault = Some f }) u a)
+        (λ k h u a member not_yet is. h u a member not_yet is) run.there;
+    answered = λ none. absurd (cc);
+    met = λ u settled not_yet. let m = run.met u settled not_yet in (m.0, m.1, m.2);
+    halted = t;
+    told = told_halted s.begun begun t s.tale s.fault (Some f) run.halted (MayBeHalted o s) (MayBeHalted o (record s { begun = begun; kept = kept; fault = Some f })) (λ u. u ≡ t) begins.others faultless (inr refl) run.told;
+    images = λ from image le since. elim (run.images from image le since) [
+      | inl before ↦ inl before
+      | inr l ↦ inr (record {
+        count = l.count;
+        valid = l.valid;
+        honest = l.honest;
+        others = λ u other at_u not_begun. l.others u other at_u (λ b. not_begun (more u b));
+        paths = λ q aside. l.paths q (aside_less s.plan (IsBegun s) (IsBegun (record s { begun = begun })) (IsPublishing s) (IsPublishing (record s { begun = begun })) q more (λ u b. (more u b.0, b.1)) aside);
+        objects = λ line has none. l.objects line has (none_besides o.gives s.plan o.book s.tale s.begun begun line more none);
+        folders = l.folders;
+      })
+    ];
+    stands = run.stands;
+    settled = run.settled;
+  },
+  refl,
+)
   where
     more : (u : ℕ) → IsBegun s u → IsBegun (record s { begun = begun }) u
     more = more_begun s begun t begins
@@ -194,39 +197,42 @@ module _ (o : Opening) (s : Seen) (run : IsRun o s) (faultless : s.fault ≡ Non
 
   -- A publication in which a fault was met leaves what a run keeps, with that fault.
   pub faulty_run : (kept : List KeptSig) (f : RunFault) → Has o.gives s.plan.tasks t (Ok tree) → AllByRecursion IsReadable put.more → HaltsAt o (record s { story = later; begun = begun; kept = kept; fault = Some f }) t
-  faulty_run kept f output readable = (record {
-    may = run.may;
-    rows = run.rows;
-    lines = run.lines;
-    grown = run.grown;
-    own = λ l has u other at_u pn name. more_begun s begun t begins u (run.own l has u other at_u pn name);
-    last = put.more;
-    few_last = few_more o s run faultless orderly may t sg at is_sg tree put rests later sound pass aside;
-    none_last = λ none. absurd (cc);
-    readable = readable_after o s run faultless orderly may t sg at is_sg tree put rests later sound pass aside readable;
-    valid = λ none. absurd (cc);
-    durable = λ none. absurd (cc);
-    objects = λ none. absurd (cc);
-    later = later_moment (moment o.story) (moment s.story) (moment later) run.later pass.later;
-    marked = λ k entry here. later_moment entry.moment (moment s.story) (moment later) (run.marked k entry here) pass.later;
-    reusable = run.reusable;
-    legal = run.legal;
-    real = run.real;
-    stored = run.stored;
-    there = if_some_on s.known (λ (k : Known). (u : ℕ) (a : Avail) → IsIn k.need u → (HasEnded s.plan s.tale u → ⊥) → slice_get k.avail u ≡ Some a → WasThere o s u a)
-        (λ (k : Known). (u : ℕ) (a : Avail) → IsIn k.need u → (HasEnded s.plan s.tale u → ⊥) → slice_get k.avail u ≡ Some a → WasThere o (record s { story = later; begun = begun; kept = kept; fault = Some f }) u a)
-        (λ k h u a member not_yet is. h u a member not_yet is) run.there;
-    answered = λ none. absurd (cc);
-    met = λ u settled not_yet. let m = run.met u settled not_yet in (m.0, m.1, m.2);
-    halted = t;
-    told = told_halted s.begun begun t s.tale s.fault (Some f) run.halted (MayBeHalted o s) (MayBeHalted o (record s { story = later; begun = begun; kept = kept; fault = Some f })) (λ u. u ≡ t) begins.others faultless (inr refl) run.told;
-    images = λ from image le since. elim (left_after o s run faultless orderly may t sg at is_sg tree put rests later sound pass aside begun begins started output from image le since) [
-      | inl before ↦ inl before
-      | inr l ↦ inr (record { count = l.count; valid = l.valid; honest = l.honest; others = l.others; paths = l.paths; objects = l.objects; folders = l.folders })
-    ];
-    stands = stand_now o s run faultless orderly may t sg at is_sg tree put rests later sound pass aside;
-    settled = stand_since o s run faultless orderly may t sg at is_sg tree put rests later sound pass aside;
-  }, refl)
+  faulty_run kept f output readable = (
+    record {
+      may = run.may;
+      rows = run.rows;
+      lines = run.lines;
+      grown = run.grown;
+      own = λ l has u other at_u pn name. more_begun s begun t begins u (run.own l has u other at_u pn name);
+      last = put.more;
+      few_last = few_more o s run faultless orderly may t sg at is_sg tree put rests later sound pass aside;
+      none_last = λ none. absurd (cc);
+      readable = readable_after o s run faultless orderly may t sg at is_sg tree put rests later sound pass aside readable;
+      valid = λ none. absurd (cc);
+      durable = λ none. absurd (cc);
+      objects = λ none. absurd (cc);
+      later = later_moment (moment o.story) (moment s.story) (moment later) run.later pass.later;
+      marked = λ k entry here. later_moment entry.moment (moment s.story) (moment later) (run.marked k entry here) pass.later;
+      reusable = run.reusable;
+      legal = run.legal;
+      real = run.real;
+      stored = run.stored;
+      there = if_some_on s.known (λ (k : Known). (u : ℕ) (a : Avail) → IsIn k.need u → (HasEnded s.plan s.tale u → ⊥) → slice_get k.avail u ≡ Some a → WasThere o s u a)
+          (λ (k : Known). (u : ℕ) (a : Avail) → IsIn k.need u → (HasEnded s.plan s.tale u → ⊥) → slice_get k.avail u ≡ Some a → WasThere o (record s { story = later; begun = begun; kept = kept; fault = Some f }) u a)
+          (λ k h u a member not_yet is. h u a member not_yet is) run.there;
+      answered = λ none. absurd (cc);
+      met = λ u settled not_yet. let m = run.met u settled not_yet in (m.0, m.1, m.2);
+      halted = t;
+      told = told_halted s.begun begun t s.tale s.fault (Some f) run.halted (MayBeHalted o s) (MayBeHalted o (record s { story = later; begun = begun; kept = kept; fault = Some f })) (λ u. u ≡ t) begins.others faultless (inr refl) run.told;
+      images = λ from image le since. elim (left_after o s run faultless orderly may t sg at is_sg tree put rests later sound pass aside begun begins started output from image le since) [
+        | inl before ↦ inl before
+        | inr l ↦ inr (record { count = l.count; valid = l.valid; honest = l.honest; others = l.others; paths = l.paths; objects = l.objects; folders = l.folders })
+      ];
+      stands = stand_now o s run faultless orderly may t sg at is_sg tree put rests later sound pass aside;
+      settled = stand_since o s run faultless orderly may t sg at is_sg tree put rests later sound pass aside;
+    },
+    refl,
+  )
 
   -- ---- the task has ended
 

@@ -16,8 +16,8 @@ use crate::said::plan_status;
 use crate::soundness::checked;
 use meta_model::{Plan, Status};
 use outside_traits::Layers;
-use target_graph::{Run, find_run};
 use std::alloc::Global;
+use target_graph::{Run, find_run};
 use task_plan::{forced_plan, plan};
 use tree_model::Text;
 
