@@ -10,4 +10,4 @@ pub words_begin_first : WordsBeginFirst
 words_begin_first gives files paths words task force plan clean listing has whole clash =
     let sound = plan_of_words_is_sound files paths words task force plan clean listing has in
     let blind = plan_of_words_is_blind gives files paths words task force plan has whole in
-    begins_first gives key_reading plan (first_may_reuse gives key_reading nothing plan sound blind clash)
+    begins_first gives key_reading plan (λ none. first_may_reuse gives key_reading nothing plan sound blind clash)
