@@ -17,8 +17,8 @@ pub eras_go_on : ErasGoOn
 eras_go_on gives reading held begins = record { book = []; valid = empty_is_valid gives reading; begins = begins_first gives reading }
 eras_go_on gives reading held (goes_on before call image era may promised since) =
     let there = eras_go_on gives reading before era in
-    let crash = (kept_by gives reading before call there may promised).crashes held since in
-    record { book = crash.again ++ crash.lines; valid = crash.valid; begins = begins_again gives reading there.book held crash }
+    let crash = (kept_by gives reading before call there may promised).crashes image since in
+    record { book = crash.again ++ crash.lines; valid = crash.valid; begins = begins_again gives reading there.book image crash }
 
 pub eras_are_exact : ErasAreExact
 eras_are_exact gives reading held call era may promised ok =
