@@ -20,6 +20,7 @@ use Rattle.store_model.proofs.Lasting.{empty_is_valid}
 use Rattle.store_model.specs.Readable.{IsReadable}
 use Rattle.run_model.specs.Runs.{Runs}
 use Rattle.run_model.specs.Benches.{AtSeats, BreaksByFault}
+use Rattle.run_model.specs.Seated.{HaveBenches}
 use Rattle.run_model.specs.Build.{IsCrash, is_unsteady}
 use Rattle.build_resume.specs.Build.{IsEntry, Leaves}
 use Rattle.run_model.specs.Headline.{BeginsAgain, BeginsFirst, Keeps, MayBegin}
@@ -87,9 +88,12 @@ begun_keeps gives reading book held plan options tales tale s story before now o
 pub begun_each : (P : List Logged → Type 0) (tales : List (List Logged)) (tale : List Logged) → tales ≡ tale ∷ [] → P tale → All P tales
 begun_each P tales tale one holds = subst (All P) (sym one) (All-cons P tale [] holds (All-nil _))
 
--- without a tale there is none of which it doesn't hold
-pub unbegun_each : (P : List Logged → Type 0) (tales : List (List Logged)) → tales ≡ [] → All P tales
-unbegun_each P tales none = subst (All P) (sym none) (All-nil _)
+-- without a tale there is none of which a task broke off without a cause, nor one with an entry of a seat without a bench
+pub unbegun_broke : (tales : List (List Logged)) (before now : List ℕ) → tales ≡ [] → All (λ x. AtSeats (BreaksByFault x) before now) tales
+unbegun_broke tales before now none = subst (All (λ x. AtSeats (BreaksByFault x) before now)) (sym none) (All-nil _)
+
+pub unbegun_benches : (n : ℕ) (tales : List (List Logged)) → tales ≡ [] → All (HaveBenches n) tales
+unbegun_benches n tales none = subst (All (HaveBenches n)) (sym none) (All-nil _)
 
 -- the list of one behind none
 pub one_behind : {A : Type 0} (old new : List A) (x : A) → old ≡ [] → new ≡ old ++ x ∷ [] → new ≡ x ∷ []

@@ -5,7 +5,7 @@ use Rattle.target_plan.proofs.OnePlan.{plan_of_words_is_wanted}
 use Rattle.answer_model.specs.Run.{IsRunPlan}
 use Rattle.bitbake_top.proofs.Begun.{all_of_none, all_of_one, found_one, one_plan, refused_cause, refused_found, refused_not_ok, refused_steady, run_cause, run_goes_on, run_is_built, run_is_read, unrun_fails, unrun_is_built, unrun_of_run, unrun_told}
 use Rattle.bitbake_top.proofs.Devices.{unchanged_rose}
-use Rattle.bitbake_top.proofs.Kept.{at_plan, unbegun_each, unbegun_keeps}
+use Rattle.bitbake_top.proofs.Kept.{at_plan, unbegun_benches, unbegun_broke, unbegun_keeps}
 use Rattle.bitbake_top.proofs.Written.{unbegun_text}
 use Rattle.bitbake_top.proofs.run.run.Goals as goal
 
@@ -86,10 +86,10 @@ pub returns-in-Err-clause-text : goal.returns-in-Err-clause-text
 returns-in-Err-clause-text g c told = unbegun_text _ _ _ _ _ c.new-in-Err.result.items c.refuse.result c.new-in-Err.ensures.items (c.refuse.ensures.said told)
 
 pub returns-in-Err-clause-broke : goal.returns-in-Err-clause-broke
-returns-in-Err-clause-broke g c = unbegun_each _ c.new-in-Err.result.items c.new-in-Err.ensures.items
+returns-in-Err-clause-broke g c = unbegun_broke c.new-in-Err.result.items _ _ c.new-in-Err.ensures.items
 
 pub returns-in-Err-clause-benches : goal.returns-in-Err-clause-benches
-returns-in-Err-clause-benches g c = unbegun_each _ c.new-in-Err.result.items c.new-in-Err.ensures.items
+returns-in-Err-clause-benches g c = unbegun_benches _ c.new-in-Err.result.items c.new-in-Err.ensures.items
 
 pub returns-in-Err-clause-differs : goal.returns-in-Err-clause-differs
 returns-in-Err-clause-differs g c = all_of_none (λ (p : Plan). TellsDifference g.D.Disk.tells p (g.D.Disk.story c.args.disk) c.refuse.result) c.new.result.items c.new.ensures.items

@@ -5,7 +5,7 @@ use Rattle.run_model.specs.Build.{TellsDifference}
 use Rattle.build_resume.proofs.Statuses.{nothing_differs}
 use Rattle.bitbake_top.proofs.Begun.{all_of_none, all_of_one, refused_not_ok, refused_steady}
 use Rattle.bitbake_top.proofs.Devices.{rose_from}
-use Rattle.bitbake_top.proofs.Kept.{one_behind, unbegun_each, unbegun_keeps}
+use Rattle.bitbake_top.proofs.Kept.{one_behind, unbegun_benches, unbegun_broke, unbegun_keeps}
 use Rattle.bitbake_top.proofs.Written.{plan_front}
 use Rattle.run_model.specs.Written.{WritesFront}
 use Rattle.bitbake_top.proofs.whole.run_whole.Goals as goal
@@ -33,16 +33,16 @@ returns-in-Ok-clause-text g c told =
     (subst (λ (t : List ℕ). WritesFront (g.W.Sink.written c.args.sink) (g.W.Sink.written c.write_all.new.sink) t) (c.as_bytes.ensures.value ∙ c.as_str.ensures ∙ c.in-Ok.ensures.text) (c.in-Err-write_all.ensures.err told))
 
 pub returns-in-Ok-clause-broke : goal.returns-in-Ok-clause-broke
-returns-in-Ok-clause-broke g c = unbegun_each _ c.in-Ok.field-0.room.tales.items c.in-Ok.ensures.none.1
+returns-in-Ok-clause-broke g c = unbegun_broke c.in-Ok.field-0.room.tales.items _ _ c.in-Ok.ensures.none.1
 
 pub returns-in-Ok-clause-benches : goal.returns-in-Ok-clause-benches
-returns-in-Ok-clause-benches g c = unbegun_each _ c.in-Ok.field-0.room.tales.items c.in-Ok.ensures.none.1
+returns-in-Ok-clause-benches g c = unbegun_benches _ c.in-Ok.field-0.room.tales.items c.in-Ok.ensures.none.1
 
 pub returns-clause-broke : goal.returns-clause-broke
-returns-clause-broke g c = unbegun_each _ c.new-in-Err.result.items c.new-in-Err.ensures.items
+returns-clause-broke g c = unbegun_broke c.new-in-Err.result.items _ _ c.new-in-Err.ensures.items
 
 pub returns-clause-benches : goal.returns-clause-benches
-returns-clause-benches g c = unbegun_each _ c.new-in-Err.result.items c.new-in-Err.ensures.items
+returns-clause-benches g c = unbegun_benches _ c.new-in-Err.result.items c.new-in-Err.ensures.items
 
 pub returns-in-Ok-clause-differs : goal.returns-in-Ok-clause-differs
 returns-in-Ok-clause-differs g c =
