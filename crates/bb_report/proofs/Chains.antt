@@ -1,7 +1,7 @@
 -- Texts that are written one behind the other.
 use Rattle.std.proofs.Common.{◌≡◌, ◌++◌, ◌∙◌, sym, ap, ℕ, List, append_assoc, Result, Ok, Err}
-use Rattle.std.specs.Prelude.{OnErr, OnOk}
-use Rattle.std.proofs.lemmas.Result.{on_err_weaker, on_ok_weaker}
+use Rattle.std.specs.Prelude.{OnErr}
+use Rattle.std.proofs.lemmas.Result.{on_err_weaker}
 use Rattle.run_model.specs.Written.{WritesFront}
 
 -- a front of the first text is one of both
@@ -21,17 +21,7 @@ front_then old mid new first second whole w = record {
 pub err_then : {T E : Type 0} (r : Result T E) (tells : Type 0) (old mid new first second : List ℕ) → (tells → mid ≡ old ++ first) → OnErr r (tells → WritesFront mid new second) → OnErr r (tells → WritesFront old new (first ++ second))
 err_then r tells old mid new first second whole err = on_err_weaker r (λ w told. front_then old mid new first second (whole told) (w told)) err
 
-pub ok_then : {T E : Type 0} (r : Result T E) (tells : Type 0) (old mid new first second : List ℕ) → (tells → mid ≡ old ++ first) → OnOk r (tells → new ≡ mid ++ second) → OnOk r (tells → new ≡ old ++ (first ++ second))
-ok_then r tells old mid new first second whole ok = on_ok_weaker r (λ e told. e told ∙ ap (λ l. l ++ second) (whole told) ∙ append_assoc old first second) ok
-
 -- what holds anyway holds for a refusal
 pub on_err_of : {T E P : Type 0} (r : Result T E) → P → OnErr r P
 on_err_of (Ok x) p = tt
 on_err_of (Err e) p = p
-
--- three texts
-pub err_last : {T E : Type 0} (r : Result T E) (tells : Type 0) (old mid late new first second third : List ℕ) → (tells → mid ≡ old ++ first) → (tells → late ≡ mid ++ second) → OnErr r (tells → WritesFront late new third) → OnErr r (tells → WritesFront old new (first ++ (second ++ third)))
-err_last r tells old mid late new first second third a b err = err_then r tells old mid new first (second ++ third) a (err_then r tells mid late new second third b err)
-
-pub ok_last : {T E : Type 0} (r : Result T E) (tells : Type 0) (old mid late new first second third : List ℕ) → (tells → mid ≡ old ++ first) → (tells → late ≡ mid ++ second) → OnOk r (tells → new ≡ late ++ third) → OnOk r (tells → new ≡ old ++ (first ++ (second ++ third)))
-ok_last r tells old mid late new first second third a b ok = ok_then r tells old mid new first (second ++ third) a (ok_then r tells mid late new second third b ok)

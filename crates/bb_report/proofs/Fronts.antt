@@ -1,7 +1,6 @@
 -- A text is written piece by piece.
 use Rattle.std.proofs.Common.{◌≡◌, ◌++◌, ◌∙◌, sym, ap, refl, ℕ, List, [], length, ◌-◌, ◌≤◌, subst, arith, take, drop, append_assoc, append-nil, length-drop}
 use Rattle.std.proofs.lemmas.List.{take-append-drop, take_all}
-use Rattle.run_model.specs.Written.{WritesFront}
 
 -- the text up to this rest is written
 pub record IsPartWritten (old now text rest : List ℕ) : Type 0 where
@@ -22,9 +21,3 @@ part_more old now next text rest n part more = record {
 pub part_sliced : (old now next text rest : List ℕ) (n : ℕ) → n ≤ length rest → IsPartWritten old now text rest → next ≡ now ++ take n rest → IsPartWritten old next text (take (length rest - n) (drop n rest))
 part_sliced old now next text rest n within part more =
     subst (IsPartWritten old next text) (sym (take_all (length rest - n) (drop n rest) (omega (arith, length-drop n rest)))) (part_more old now next text rest n part more)
-
-pub part_done : (old now text : List ℕ) → IsPartWritten old now text [] → now ≡ old ++ text
-part_done old now text part = part.is ∙ ap (λ l. old ++ l) (sym (part.cut ∙ append-nil part.front))
-
-pub part_front : (old now next text rest : List ℕ) → IsPartWritten old now text rest → next ≡ now → WritesFront old next text
-part_front old now next text rest part same = record { front = part.front; rest = rest; cut = part.cut; written = same ∙ part.is }

@@ -127,10 +127,6 @@ mark_set tale l task why marks is lt are = record {
         ∙ are.each n below
         ∙ ap (λ b. Some b) (sym (failed_last tale l n ∙ ap (λ x. has_failed tale n || fails n x) is ∙ ap (λ b. has_failed tale n || b) e ∙ or_false (has_failed tale n)))
 
--- no task failed yet
-pub no_marks : (count : ℕ) (marks : List Bool) → length marks ≡ count → ((k : ℕ) → k < count → slice_get marks k ≡ Some false) → AreMarks [] count marks
-no_marks count marks many each = record { many = many; each = each }
-
 -- the last line
 pub failed_text : (tale : List Logged) (tasks : List PlanTask) (marks : List Bool) → AreMarks tale (length tasks) marks → comma_joined (marked tasks marks) ≡ comma_joined (failed_from tale 0 tasks)
 failed_text tale tasks marks are = ap comma_joined (marked_failed tale 0 tasks marks are.many (λ k lt. are.each k lt ∙ ap (λ j. Some (has_failed tale j)) (omega arith)))

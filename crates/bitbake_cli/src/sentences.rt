@@ -196,6 +196,11 @@ pub const SENTENCES: &[Sentence] = &[
         mend: "name fewer targets or files",
     },
     Sentence {
+        kind: "UnsoundPlan",
+        wrong: "the plan breaks a rule of plans, which no project can bring about",
+        mend: "report it, with the project",
+    },
+    Sentence {
         kind: "unsteady",
         wrong: "<1> gave another <2> than when it ran with the same signature before",
         mend: "let it depend on its metadata, its input files and what it needs alone (no clock, no random names), or where a tool on the search path has changed, remove the task's record, which standard error names (or the folder build)",

@@ -19,12 +19,10 @@ use Rattle.tree_model.specs.Hash.{IsHash, hash_text}
 use Rattle.tree_model.specs.Manifest.{content_of}
 use Rattle.tree_model.specs.Overlay.{overlaid}
 use Rattle.tree_model.specs.Path.{IsClean, IsPart, inside, parts_of}
-use Rattle.meta_model.proofs.Bools.{either_way, same_text}
 use Rattle.meta_model.specs.Layout.{layout_in_order}
 use Rattle.meta_model.specs.CleanBuild.{Built, Entries, Lack, clean_build, is_beyond, is_beyond_layout}
-use Rattle.meta_model.specs.Worked.{file, shell}
+use Rattle.meta_model.specs.Worked.{shell}
 use Rattle.store_model.specs.Origins.{Book, Line, origin, rows_of}
-use Rattle.store_model.specs.Paths.{slashes}
 use Rattle.store_model.specs.Premises.{HasOneSignature, IsBlind, IsContent, IsSoundTask, IsTreeOf, IsWord}
 use Rattle.store_model.specs.Premises as of
 use Rattle.store_model.specs.Publication.{stamp_text}
@@ -43,14 +41,13 @@ use Rattle.store_model.proofs.Listing.{hash_itself}
 use Rattle.store_model.proofs.Ordered.{each_append}
 use Rattle.store_model.proofs.Worked.{all_of, each}
 use Rattle.run_model.specs.Headline.{MayBegin, nothing}
-use Rattle.run_model.specs.Opening.{HasFolders}
 use Rattle.build_resume.specs.Worked.{hello_book, hello_plan}
 use Rattle.bitbake_top.specs.Worked.{chain_plan, hello_left}
 
 -- ---- a first run
 
 first_run : (plan_tasks : MayReuse shell hello_reading nothing [] hello_plan.tasks) → MayBegin shell hello_reading [] nothing hello_plan
-first_run may = record { valid = empty_is_valid shell hello_reading; readable = tt; folders = record { work = refl; objects = refl; parts = λ part one. refl }; may = λ none. may }
+first_run may = record { valid = empty_is_valid shell hello_reading; readable = tt; may = λ none. may }
 
 pub hello_begins : MayBegin shell hello_reading [] nothing hello_plan
 hello_begins = first_run hello_is_recorded.before
@@ -130,7 +127,7 @@ chain_may = record {
 }
 
 pub chain_begins : MayBegin shell chain_reading [] nothing chain_plan
-chain_begins = record { valid = empty_is_valid shell chain_reading; readable = tt; folders = record { work = refl; objects = refl; parts = λ part one. refl }; may = λ none. chain_may }
+chain_begins = record { valid = empty_is_valid shell chain_reading; readable = tt; may = λ none. chain_may }
 
 -- ---- a second run
 
@@ -221,20 +218,6 @@ line_readable = record {
   };
   short = all_of (λ l. length l.path ≤ 3072) first_line.manifest (omega arith, tt);
 }
-
--- below `work` stands nothing but what lies in the task's folder
-not_below : (part : List ℕ) → slashes part ≡ 0 → bytes_eq (codes "hello/do_build/n") part ≡ false
-not_below part one = elim (either_way (bytes_eq (codes "hello/do_build/n") part)) [
-  | inl t ↦ let two : slashes (codes "hello/do_build/n") ≡ 0 = ap slashes (same_text (codes "hello/do_build/n") part t) ∙ one in absurd (omega (arith, two))
-  | inr f ↦ f
-]
-
-none_of_one : (a : Bool) (x : Entry) → a ≡ false → (if a then Some x else None) ≡ None
-none_of_one true x e = absurd (cc)
-none_of_one false x e = refl
-
-left_folders : HasFolders hello_left
-left_folders = record { work = refl; objects = refl; parts = λ part one. none_of_one (bytes_eq (codes "hello/do_build/n") part) (File false (codes "1")) (not_below part one) }
 
 left_valid : IsValid shell hello_reading hello_left hello_book
 left_valid = record { records = λ path. hello_is_recorded.after.records path; lines = hello_is_recorded.after.lines }
@@ -332,4 +315,4 @@ again_may = record {
 }
 
 pub hello_begins_again : MayBegin shell hello_reading hello_book hello_left hello_plan
-hello_begins_again = record { valid = left_valid; readable = (line_readable, tt); folders = left_folders; may = λ none. again_may }
+hello_begins_again = record { valid = left_valid; readable = (line_readable, tt); may = λ none. again_may }

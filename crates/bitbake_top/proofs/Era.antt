@@ -1,15 +1,15 @@
 -- In each era a run may begin, and one that answers Ok is exact.
-use Rattle.std.proofs.Common.{List, [], ◌++◌}
+use Rattle.std.proofs.Common.{[], ◌++◌}
 use Rattle.outside_traits.specs.Store.{Store}
 use Rattle.meta_model.specs.CleanBuild.{Gives}
 use Rattle.store_model.specs.Origins.{Reading}
 use Rattle.store_model.proofs.Lasting.{empty_is_valid}
-use Rattle.run_model.specs.Headline.{Keeps, MayBegin}
-use Rattle.run_model.specs.Era.{Call, ErasAreExact, ErasGoOn, HasBook, IsOfEra, IsPromised, MayReuseAny, begins, goes_on}
+use Rattle.run_model.specs.Headline.{Keeps}
+use Rattle.run_model.specs.Era.{Call, ErasAreExact, ErasGoOn, HasBook, IsPromised, MayTakeAny, begins, goes_on}
 use Rattle.bitbake_top.proofs.Kept.{begins_again, begins_first}
 
 -- a call that may reuse what is valid keeps what it promised, by the book that is there
-kept_by : (gives : Gives) (reading : Reading) (held : Store) (call : Call) (there : HasBook gives reading held) → MayReuseAny gives reading held call.plan → IsPromised gives reading held call
+kept_by : (gives : Gives) (reading : Reading) (held : Store) (call : Call) (there : HasBook gives reading held) → MayTakeAny gives reading held call.plan → IsPromised gives reading held call
     → Keeps gives reading there.book held call.plan call.options call.tales call.status call.story call.before call.now
 kept_by gives reading held call there may promised = promised there.book (there.begins call.plan (may there.book there.valid))
 

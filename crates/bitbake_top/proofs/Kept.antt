@@ -1,5 +1,5 @@
 -- What is kept of a run over the plan of its words.
-use Rattle.std.proofs.Common.{◌≡◌, ◌∙◌, ap, sym, subst, refl, ℕ, false, List, [], ◌∷◌, ◌++◌}
+use Rattle.std.proofs.Common.{◌≡◌, ◌∙◌, ap, sym, subst, ℕ, false, List, [], ◌∷◌, ◌++◌}
 use Rattle.std.specs.Prelude.{◌≢◌, All}
 use Rattle.std.proofs.lemmas.List.{append-nil}
 use Rattle.std.specs.List.{AllByRecursion}
@@ -29,12 +29,11 @@ pub begins_first : BeginsFirst
 begins_first gives reading plan may = record {
   valid = empty_is_valid gives reading;
   readable = tt;
-  folders = record { work = refl; objects = refl; parts = λ part one. refl };
   may = may;
 }
 
 pub begins_again : BeginsAgain
-begins_again gives reading book image crash plan may = record { valid = crash.valid; readable = crash.readable; folders = crash.folders; may = may }
+begins_again gives reading book image crash plan may = record { valid = crash.valid; readable = crash.readable; may = may }
 
 -- a sound plan whose signatures fit a program enters a run where it may begin
 pub as_entry : (gives : Gives) (reading : Reading) (book : Book) (held : Store) (plan : Plan) → IsSound plan → HasSpellings plan → MayBegin gives reading book held plan → IsEntry gives reading book held plan
@@ -42,7 +41,6 @@ as_entry gives reading book held plan sound spellings may = record {
   sound = sound;
   valid = may.valid;
   readable = may.readable;
-  folders = may.folders;
   may = may.may;
   spellings = spellings;
 }
@@ -58,7 +56,6 @@ held_crash gives reading book held plan may = record {
   lines = [];
   valid = subst (IsValid gives reading held) (sym (append-nil book)) may.valid;
   readable = subst (AllByRecursion IsReadable) (sym (append-nil book)) may.readable;
-  folders = may.folders;
 }
 
 -- a call that began no run keeps what is promised of one

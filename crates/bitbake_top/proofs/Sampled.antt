@@ -1,12 +1,11 @@
 -- The runs of the sample.
-use Rattle.std.proofs.Common.{arith, ◌≡◌, ◌≢◌, ◌⊎◌, ◌∙◌, ◌<◌, ◌≤◌, refl, sym, subst, ℕ, zero, suc, List, [], ◌∷◌, ◌++◌, map, slice_index, inl, inr}
+use Rattle.std.proofs.Common.{arith, ◌≡◌, ◌≢◌, ◌⊎◌, ◌<◌, ◌≤◌, refl, sym, subst, ℕ, zero, suc, List, [], ◌∷◌, ◌++◌, map, slice_index, inl, inr}
 use Rattle.std.proofs.lemmas.List.Elements.{Contains-append_right}
 use Rattle.outside_traits.specs.Fault.{Rose}
 use Rattle.meta_model.specs.declared.event.Logged.{Logged}
 use Rattle.meta_model.specs.declared.event.Status.{Status}
 use Rattle.meta_model.specs.declared.event.Status.TheVariants as status
 use Rattle.meta_model.specs.declared.plan.Plan.{Plan}
-use Rattle.run_model.specs.Texts.{fault_text}
 use Rattle.run_model.specs.Written.{WritesFront}
 use Rattle.run_model.specs.Benches.{SomeRose}
 use Rattle.answer_model.specs.Answers.{Says}
@@ -67,20 +66,6 @@ weaker layers bench sink disk (status.Collision name held given) c = c
 weaker layers bench sink disk (status.Unsteady pn task held given) c = c
 weaker layers bench sink disk (status.Limit kind) c = c
 weaker layers bench sink disk status.OutOfMemory c = c
-
-with_sink : (sink : Type 0) (s : Status) → HasCause ⊥ 0 ⊥ ⊥ s → HasCause ⊥ 0 ⊥ sink s
-with_sink sink status.Ok c = c
-with_sink sink status.TaskFailed c = c
-with_sink sink status.Usage c = c
-with_sink sink (status.Metadata file row kind detail) c = c
-with_sink sink status.DiskFault c = c
-with_sink sink status.BenchFault c = c
-with_sink sink status.ReadFault c = c
-with_sink sink status.WriteFault c = absurd c
-with_sink sink (status.Collision name held given) c = c
-with_sink sink (status.Unsteady pn task held given) c = c
-with_sink sink (status.Limit kind) c = c
-with_sink sink status.OutOfMemory c = c
 
 -- ---- the line of a run that wasn't well
 
@@ -145,24 +130,6 @@ said_sample size plans tales s text base now before after printed line ends p = 
   | inr failed ↦ subst (λ (x : Status). SaysSample size plans tales (answered x s) base now before after) (sym failed) (said_failed size plans tales s text base now before after line ends.cause (p.rose failed) p.says p.front)
 ]
 
-cause_failed : (sink : Type 0) (s : Status) → HasCause ⊥ 0 ⊥ ⊥ s → sink → HasCause ⊥ 0 ⊥ sink (answered status.WriteFault s)
-cause_failed sink status.Ok c rose = rose
-cause_failed sink status.TaskFailed c rose = rose
-cause_failed sink status.Usage c rose = c
-cause_failed sink (status.Metadata file row kind detail) c rose = c
-cause_failed sink status.DiskFault c rose = c
-cause_failed sink status.BenchFault c rose = c
-cause_failed sink status.ReadFault c rose = c
-cause_failed sink status.WriteFault c rose = absurd c
-cause_failed sink (status.Collision name held given) c rose = c
-cause_failed sink (status.Unsteady pn task held given) c rose = c
-cause_failed sink (status.Limit kind) c rose = c
-cause_failed sink status.OutOfMemory c rose = c
-
-pub cause_sample : (sink : Type 0) (s printed : Status) → MayEnd s → (printed ≡ status.Ok) ⊎ (printed ≡ status.WriteFault) → (printed ≡ status.WriteFault → sink) → HasCause ⊥ 0 ⊥ sink (answered printed s)
-cause_sample sink s printed ends (inl ok) rose = subst (λ (x : Status). HasCause ⊥ 0 ⊥ sink (answered x s)) (sym ok) (with_sink sink s ends.cause)
-cause_sample sink s printed ends (inr failed) rose = subst (λ (x : Status). HasCause ⊥ 0 ⊥ sink (answered x s)) (sym failed) (cause_failed sink s ends.cause (rose failed))
-
 read_failed : (s : Status) → s ≢ status.Usage → answered status.WriteFault s ≢ status.Usage
 read_failed status.Ok read e = let n : status.WriteFault ≡ status.Usage = e in cc
 read_failed status.TaskFailed read e = let n : status.WriteFault ≡ status.Usage = e in cc
@@ -176,17 +143,6 @@ read_failed (status.Collision name held given) read e = read e
 read_failed (status.Unsteady pn task held given) read e = read e
 read_failed (status.Limit kind) read e = read e
 read_failed status.OutOfMemory read e = read e
-
-pub read_sample : (s printed : Status) → MayEnd s → (printed ≡ status.Ok) ⊎ (printed ≡ status.WriteFault) → answered printed s ≢ status.Usage
-read_sample s printed ends (inl ok) = subst (λ (x : Status). answered x s ≢ status.Usage) (sym ok) ends.read
-read_sample s printed ends (inr failed) = subst (λ (x : Status). answered x s ≢ status.Usage) (sym failed) (read_failed s ends.read)
-
--- where memory was wanting
-pub said_wanting : (size : ℕ) (plans : List Plan) (tales : List (List Logged)) (s : Status) (base now : List ℕ) (before after : ℕ) → s ≡ status.OutOfMemory → Says (fault_text s) base now before after → SaysSample size plans tales s base now before after
-said_wanting size plans tales s base now before after e says = subst (λ (x : Status). SaysSample size plans tales x base now before after) (sym e) (fault_text status.OutOfMemory, refl, subst (λ (x : Status). Says (fault_text x) base now before after) e says)
-
-pub cause_wanting : (sink : Type 0) (s : Status) → s ≡ status.OutOfMemory → HasCause ⊥ 0 ⊥ sink s × (s ≢ status.Usage)
-cause_wanting sink s e = (subst (HasCause ⊥ 0 ⊥ sink) (sym e) tt, λ u. let n : status.OutOfMemory ≡ status.Usage = sym e ∙ u in cc)
 
 -- the status is this one either way
 pub either_way : (s t : Status) → (s ≡ t) ⊎ (s ≡ t) → s ≡ t

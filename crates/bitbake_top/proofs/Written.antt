@@ -56,7 +56,3 @@ pub printed_one : (base now : List ℕ) (plan : Plan) (plans : List Plan) (tale 
     → RanPrinted plan tale before after (base ++ plan_text plan) now → RanPrintedCall plans tales before after base now
 printed_one base now plan plans tale tales before after one_plan one_tale ran =
     subst (λ (p : List Plan). RanPrintedCall p tales before after base now) (sym one_plan) (subst (λ (t : List (List Logged)). RanPrintedCall (plan ∷ []) t before after base now) (sym one_tale) ran)
-
--- without a tale no bench ran anything
-pub printed_none : (base now : List ℕ) (plans : List Plan) (tales : List (List Logged)) (before after : List Runs) → tales ≡ [] → after ≡ before → RanPrintedCall plans tales before after base now
-printed_none base now plans tales before after none same = subst (λ (t : List (List Logged)). RanPrintedCall plans t before after base now) (sym none) same

@@ -38,5 +38,5 @@ mod top;
 mod whole;
 
 pub use finish::Finish;
-pub use laws::{begin_laws, era_laws};
+pub use laws::{begin_laws, era_laws, lasting_law};
 pub use top::bitbake;

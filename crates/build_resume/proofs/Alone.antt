@@ -1,6 +1,6 @@
 -- What a run leaves alone.
-use Rattle.std.proofs.Common.{◌≡◌, ◌∙◌, sym, ap, subst, refl, ℕ, arith, false, List, ◌∷◌, Some, None, inl, inr}
-use Rattle.std.specs.Prelude.{◌≢◌, IsSome, Option}
+use Rattle.std.proofs.Common.{◌≡◌, ◌∙◌, sym, ap, subst, refl, ℕ, arith, false, List, [], ◌∷◌, Some, None, inl, inr}
+use Rattle.std.specs.Prelude.{◌≢◌, IsSome, Option, codes}
 use Rattle.std.specs.List.{slice_get}
 use Rattle.std.proofs.lemmas.Bool.{false≢true}
 use Rattle.tree_model.specs.declared.hash.Hash.{Hash}
@@ -18,20 +18,20 @@ use Rattle.meta_model.specs.declared.plan.PlanTask.{PlanTask}
 use Rattle.meta_model.specs.CleanBuild.{Gives}
 use Rattle.meta_model.proofs.Bools.{either_way}
 use Rattle.store_model.specs.declared.signature.EquivRow.{EquivRow}
-use Rattle.store_model.specs.Available.{IsAvailable, object_folder, stamp_path, work_folder}
+use Rattle.store_model.specs.Available.{IsAvailable, IsInObject, IsInWork, object_folder, stamp_path, work_folder}
 use Rattle.store_model.specs.Origins.{Book, Line, rows_of}
 use Rattle.store_model.specs.Signatures.{Signed, signatures}
-use Rattle.build_store.specs.Opening.{Clears}
+use Rattle.store_opening.specs.Opening.{Clears}
 use Rattle.store_model.specs.Opened.{IsElsewhere, IsOpened}
 use Rattle.store_model.specs.Lines.{HaveSameLines}
-use Rattle.build_store.proofs.Areas.{differ, heads_differ}
-use Rattle.build_store.proofs.StillThere.{opened_stays}
+use Rattle.store_opening.proofs.Areas.{differ, heads_differ}
+use Rattle.store_opening.proofs.StillThere.{opened_stays}
 use Rattle.run_model.specs.Books.{book_after}
 use Rattle.run_queue.specs.declared.fault.RunFault.{RunFault}
 use Rattle.run_queue.specs.Keeps.{WasThere}
 use Rattle.run_model.specs.Opening.{Opening}
 use Rattle.run_model.specs.Own.{IsAside, IsObjectOfNone}
-use Rattle.run_queue.specs.Seen.{IsBegun}
+use Rattle.run_queue.specs.Seen.{IsBegunIn}
 use Rattle.run_queue.specs.Stands.{IsAsBegun, IsPublishing}
 use Rattle.run_queue.proofs.Found.{signed_task_at}
 use Rattle.run_queue.proofs.Placing.{has_place}
@@ -43,20 +43,27 @@ use Rattle.build_resume.proofs.Outcomes.{fresh_image}
 
 -- ---- work folders and objects stand apart from records, stamps and temporary files
 
-letter : (c : ℕ) (ps : List ℕ) → c ≢ 114 → c ≢ 115 → c ≢ 116 → IsElsewhere (c ∷ ps)
-letter c ps nr ns nt = record {
+letter : (c : ℕ) (ps : List ℕ) → c ≢ 114 → c ≢ 115 → c ≢ 116 → c ∷ ps ≢ codes "obj" → IsElsewhere (c ∷ ps)
+letter c ps nr ns nt apart = record {
   records = λ at. elim at [ inl same ↦ heads_differ nr same | inr below ↦ heads_differ nr below.1 ];
   stamps = λ at. elim at [ inl same ↦ heads_differ ns same | inr below ↦ heads_differ ns below.1 ];
   temporary = λ at. elim at [ inl same ↦ heads_differ nt same | inr below ↦ heads_differ nt below.1 ];
+  objects = apart;
 }
 
+at_work : (ps : List ℕ) → IsElsewhere (119 ∷ ps)
+at_work ps = letter 119 ps (differ 119 114 refl) (differ 119 115 refl) (differ 119 116 refl) (heads_differ (differ 119 111 refl))
+
+below_objects : (ps : List ℕ) → IsElsewhere (111 ∷ 98 ∷ 106 ∷ 47 ∷ ps)
+below_objects ps = letter 111 (98 ∷ 106 ∷ 47 ∷ ps) (differ 111 114 refl) (differ 111 115 refl) (differ 111 116 refl) (λ same. let e : 111 ∷ 98 ∷ 106 ∷ 47 ∷ ps ≡ 111 ∷ 98 ∷ 106 ∷ [] = same in cc)
+
 work_elsewhere : (of : PlanTask) (q : List ℕ) → IsAtOrBelow (work_folder of) q → IsElsewhere q
-work_elsewhere of q (inl same) = subst IsElsewhere (sym same) (letter 119 _ (differ 119 114 refl) (differ 119 115 refl) (differ 119 116 refl))
-work_elsewhere of q (inr below) = subst IsElsewhere (sym below.1) (letter 119 _ (differ 119 114 refl) (differ 119 115 refl) (differ 119 116 refl))
+work_elsewhere of q (inl same) = subst IsElsewhere (sym same) (at_work _)
+work_elsewhere of q (inr below) = subst IsElsewhere (sym below.1) (at_work _)
 
 object_elsewhere : (unihash : Hash) (q : List ℕ) → IsAtOrBelow (object_folder unihash) q → IsElsewhere q
-object_elsewhere unihash q (inl same) = subst IsElsewhere (sym same) (letter 111 _ (differ 111 114 refl) (differ 111 115 refl) (differ 111 116 refl))
-object_elsewhere unihash q (inr below) = subst IsElsewhere (sym below.1) (letter 111 _ (differ 111 114 refl) (differ 111 115 refl) (differ 111 116 refl))
+object_elsewhere unihash q (inl same) = subst IsElsewhere (sym same) (below_objects _)
+object_elsewhere unihash q (inr below) = subst IsElsewhere (sym below.1) (below_objects _)
 
 -- ---- while the store is opened
 
@@ -107,18 +114,18 @@ module _ (o : Opening) (book : Book) (before : Store) (rows : List EquivRow) (op
       none_some None e is = false≢true is
       none_some (Some f) e is = let n : Some f ≡ None = e in cc
 
-  -- what was there as an object in the opened store was so before
+  -- what was there as an object in the opened store was so before, unless something stood at `obj`
   had_object : (t : ℕ) → WasThere o k.last t Object → (sg : Signed) → slice_get (signatures (rows_of (book_after o.gives k.last.plan o.book k.last.tale)) k.last.plan.tasks) t ≡ Some sg
-      → IsAvailable before (rows_of (book_after o.gives k.last.plan o.book k.last.tale)) k.last.options.setscene sg Object
+      → (IsInWork before (rows_of (book_after o.gives k.last.plan o.book k.last.tale)) sg → ⊥) × (before (codes "obj") ≡ None → IsInObject before (rows_of (book_after o.gives k.last.plan o.book k.last.tale)) k.last.options.setscene sg)
   had_object t was sg is =
       let Rows : List EquivRow = rows_of (book_after o.gives k.last.plan o.book k.last.tale) in
-      let here = subst (λ (r : List EquivRow). slice_get (signatures r k.last.plan.tasks) t ≡ Some sg) (sym k.run.rows) is in
-      let object = subst (λ (r : List EquivRow). IsAvailable o.story.held r k.last.options.setscene sg Object) k.run.rows (was sg here) in
-      let place = has_place k.last.plan t sg.task k.run.may.sound (signed_task_at (rows_of (book_after o.gives k.last.plan o.book k.last.tale)) k.last.plan.tasks t sg is) in
-      (opened_stays before o.story.held rows opened Rows k.last.options.setscene sg Object place).1 object
+      let object = subst (λ (r : List EquivRow). slice_get (signatures r k.last.plan.tasks) t ≡ Some sg → IsAvailable o.story.held r k.last.options.setscene sg Object) k.run.rows (was sg) is in
+      let place = has_place k.last.plan t sg.task k.run.may.sound (signed_task_at Rows k.last.plan.tasks t sg is) in
+      let stays = opened_stays before o.story.held rows opened Rows k.last.options.setscene sg place in
+      (λ work. object.0 (stays.work work), λ none. stays.no_more_objects none object.1)
 
   -- the run may have touched what was begun
-  touched : (t : ℕ) → IsBegun k.last t → Touched t
+  touched : (t : ℕ) → IsBegunIn k.last.begun t → Touched t
   touched t b = elim (k.run.told t b) [
     | inl up ↦ inl up
     | inr rest ↦ elim rest [
@@ -128,11 +135,11 @@ module _ (o : Opening) (book : Book) (before : Store) (rows : List EquivRow) (op
   ]
 
   -- and it may have published what it began to publish
-  published : (t : ℕ) → IsPublishing k.last t → Published t
+  published : (t : ℕ) → IsPublishing k.last.begun k.last.tale t → Published t
   published t b = (touched t b.0, b.1)
 
-  none_published : (line : Line) → IsObjectOfNone o.gives k.last.plan o.book k.last.tale Published line → IsObjectOfNone o.gives k.last.plan o.book k.last.tale (IsPublishing k.last) line
-  none_published line = none_less o.gives k.last.plan o.book k.last.tale k.last.tale (IsPublishing k.last) Published line published (λ n. (n, refl))
+  none_published : (line : Line) → IsObjectOfNone o.gives k.last.plan o.book k.last.tale Published line → IsObjectOfNone o.gives k.last.plan o.book k.last.tale (IsPublishing k.last.begun k.last.tale) line
+  none_published line = none_less o.gives k.last.plan o.book k.last.tale k.last.tale (IsPublishing k.last.begun k.last.tale) Published line published (λ n. (n, refl))
 
   begun_alone : (image : Store) (of : PlanTask) → IsAsBegun o.book o.story.held image of → IsLeftAlone book before image of
   begun_alone image of was = record {
@@ -142,8 +149,13 @@ module _ (o : Opening) (book : Book) (before : Store) (rows : List EquivRow) (op
   }
 
   -- what is aside of what may have been touched is aside of what was begun
-  begun_aside : (q : List ℕ) → IsAside k.last.plan Touched Published q → IsAside k.last.plan (IsBegun k.last) (IsPublishing k.last) q
-  begun_aside q is = record { temporary = is.temporary; folder = λ t task at b own. is.folder t task at (touched t b) own; output = λ t b shared. is.output t (published t b) shared }
+  begun_aside : (q : List ℕ) → IsAside before k.last.plan Touched Published q → IsAside o.story.held k.last.plan (IsBegunIn k.last.begun) (IsPublishing k.last.begun k.last.tale) q
+  begun_aside q is = record {
+    temporary = is.temporary;
+    folder = λ t task at b. is.folder t task at (touched t b);
+    above = λ t task at b up. let none = is.above t task at (touched t b) up in opened.left q (inr (inr (inr none))) ∙ none;
+    output = λ t b shared. let at = is.output t (published t b) shared in (at.0, opened.left q (inr (inr (inr at.1))) ∙ at.1);
+  }
 
   last_others : ((image : Store) → IsImageSince o.story 0 image → Clears before before image) → LeavesOthers o.gives book before k.last.plan k.last.options k.last.tale s k.last.story
   last_others early = record {

@@ -12,6 +12,8 @@ use Rattle.meta_model.specs.declared.plan.Plan.{Plan}
 use Rattle.meta_model.specs.CleanBuild.{Gives}
 use Rattle.build_store.specs.declared.fault.StoreFault.{StoreFault}
 use Rattle.build_store.specs.declared.fault.StoreFault.TheVariants as fault
+use Rattle.tale_model.specs.History.{EachAfter}
+use Rattle.run_core.specs.History.{IsOrderly}
 use Rattle.run_model.specs.Report.{has_failure}
 use Rattle.run_queue.specs.declared.fault.RunFault.{RunFault}
 use Rattle.run_queue.specs.declared.fault.RunFault.TheVariants as kept
@@ -267,10 +269,12 @@ none_kept sink (Some kept.Write) h failed s (inl is) e = absurd (false≢true (s
 none_kept sink (Some f) h failed s (inr (inl is)) e = absurd (false≢true (sym (ap is_faultless is) ∙ e))
 none_kept sink (Some f) h failed s (inr (inr is)) e = absurd (false≢true (sym (ap is_faultless is.0) ∙ e))
 
-pub kept_to : {D W : Type 0} (story : D → Story) (written : W → List ℕ) (o : Opening) (old last : RunView D W) (disk : D) (tale : List Logged) (s : Status) → SameRun old last → disk ≡ last.store.disk → tale ≡ last.tale → (is_faultless s ≡ true → last.fault ≡ None) → IsRun o (seen story written last) → KeptTo o old.plan old.options tale s (story disk)
-kept_to story written o old last disk tale s same disk_is tale_is faultless run = record {
+pub kept_to : {D W : Type 0} (story : D → Story) (written : W → List ℕ) (o : Opening) (old last : RunView D W) (disk : D) (tale : List Logged) (s : Status)
+    → SameRun old last → disk ≡ last.store.disk → tale ≡ last.tale → (is_faultless s ≡ true → last.fault ≡ None) → EachAfter (IsOrderly last.plan.tasks) last.tale → IsRun o (seen story written last) → KeptTo o old.plan old.options tale s (story disk)
+kept_to story written o old last disk tale s same disk_is tale_is faultless orderly run = record {
   last = seen story written last;
   run = run;
+  orderly = orderly;
   plan_is = same.plan;
   options_are = same.options;
   tale_is = sym tale_is;

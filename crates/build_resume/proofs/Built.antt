@@ -15,16 +15,16 @@ use Rattle.plan_model.specs.Sound.{AreWanted}
 use Rattle.store_model.specs.Origins.{Book, Reading}
 use Rattle.store_model.specs.Valid.{IsValid}
 use Rattle.store_model.specs.declared.signature.EquivRow.{EquivRow}
-use Rattle.build_store.specs.Opening.{Clears}
-use Rattle.store_model.specs.Opened.{IsOpened}
-use Rattle.build_store.specs.Reopened.{IsBookAgain}
-use Rattle.build_store.proofs.Reopened.{cleared_is_valid, opened_is_valid}
+use Rattle.store_opening.specs.Opening.{Clears}
+use Rattle.store_model.specs.Opened.{HasNoLitter, IsOpened}
+use Rattle.store_opening.specs.Reopened.{IsBookAgain}
+use Rattle.store_opening.proofs.Reopened.{cleared_is_valid, opened_is_valid}
 use Rattle.run_model.specs.Books.{book_after}
 use Rattle.run_model.specs.Courses.{IsLegalTale}
 use Rattle.run_queue.specs.Keeps.{IsOpening}
 use Rattle.run_queue.specs.Opening.{MayRun}
 use Rattle.run_model.specs.Opening.{Opening}
-use Rattle.run_model.specs.Stands.{AllStand}
+use Rattle.run_model.specs.Stands.{AllStand, HasBroken, HasFinished, HasStarted, WereThere}
 use Rattle.run_model.specs.Runs.{Runs}
 use Rattle.run_model.specs.Benches.{AtSeats}
 use Rattle.run_model.specs.Build.{AllClean, FailsClean, HasRun, HasTargets, IsCrash, IsEachFailureTold, IsLeftByOpening, IsLeftByRun, LeavesOthers, RanStarted, failed_in, is_unsteady}
@@ -32,6 +32,7 @@ use Rattle.build_resume.specs.Build.{IsEntry, Leaves}
 use Rattle.run_model.specs.Outcome.{EndsAs}
 use Rattle.build_resume.specs.Outcome.{KeptTo}
 use Rattle.build_resume.proofs.Alone.{kept_others, opened_alone, opening_clears}
+use Rattle.build_resume.proofs.Closed.{closed_started}
 use Rattle.build_resume.proofs.Told.{all_told}
 use Rattle.build_resume.proofs.Outcomes.{kept_all, kept_clean, kept_crash, kept_exact, kept_real, opened_crash, opened_may_run, opening_of}
 
@@ -98,12 +99,15 @@ module _ (gives : Gives) (reading : Reading) (book : Book) (plan : Plan) (option
       same_lines = again.same;
       opened = subst (λ (r : List EquivRow). IsOpened before.held after.held r) again.rows_are was.opened;
       legal = as_kept (λ p x l st. IsLegalTale opening p x l) k.run.legal;
+      there = as_kept (λ p x l st. WereThere opening p x l) k.run.were_there;
+      started = as_kept (λ p x l st. (t : ℕ) → HasFinished l t ⊎ HasBroken l t → HasStarted l t) (closed_started k.last.plan.tasks k.last.tale k.orderly);
       lines = k.run.lines;
       grown = as_kept (λ p x l st. book_after gives p opening.book l ≡ opening.book ++ k.run.lines) k.run.grown;
       last = k.run.last;
       few_last = k.run.few_last;
       none_last = λ is. k.run.none_last (k.faultless is);
       recorded = λ is. as_kept (λ p x l st. EachNow st (λ image. IsValid gives reading image (opening.book ++ k.run.lines))) (k.run.durable (k.faultless is));
+      swept = λ is. as_kept (λ p x l st. HasNoLitter st.held) (k.run.swept (k.faultless is));
       early = left_by_opening;
       images = as_kept (λ p x l st. (image : Store) → IsImageSince st 0 image → IsImageSince opening.story 0 image ⊎ IsLeftByRun opening p (k.run.lines ++ k.run.last) image) left_by_run;
       stands = as_kept (λ p x l st. EachNow st (AllStand opening p l)) k.run.stands;

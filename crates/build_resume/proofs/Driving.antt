@@ -22,7 +22,7 @@ use Rattle.run_model.specs.Runs.{IsRunOf, RanThese, Runs}
 use Rattle.run_model.specs.Seats.{is_break, own}
 use Rattle.run_workers.specs.Worked.{Breaks, BrokeOff, NoneBroke}
 use Rattle.run_model.specs.Benches.{broken_at, started_by}
-use Rattle.build_resume.specs.Drive.{BreaksBy, Broken, Closes, Drove, Grows}
+use Rattle.build_resume.specs.Drive.{BreaksBy, Broken, ClosesAlone, Drove, Grows}
 use Rattle.run_workers.specs.declared.worker.Halt.{Halt}
 use Rattle.build_resume.proofs.Seating.{alone_nil, alone_one, alone_then, breaks_nil, breaks_one, breaks_split, broken_behind, broken_marked, started_split}
 use Rattle.build_resume.proofs.Turning.{all_then, these_still, these_then}
@@ -56,25 +56,26 @@ so_far : (gives : Gives) (plan : Plan) (halt : Option Halt) (broke : Option ℕ)
 so_far gives plan None broke t run is = (is, tt)
 so_far gives plan (Some h) broke t run is = (is, tt)
 
+-- the entries by which a task began, and by which its job came to an end
+abbrev starts : (t : ℕ) {old mid : List Logged} → Marks 0 (events.Started t 0) old mid → Logged
+starts t m = record { event = events.Started t 0; seat = 0; moment = m.moment }
+
+abbrev closes : {t : ℕ} {halt : Option Halt} {mid new : List Logged} → ClosesAlone t halt mid new → Logged
+closes c = record { event = c.event; seat = 0; moment = c.marks.moment }
+
+two_more : {t : ℕ} {halt : Option Halt} {old mid new : List Logged} (m : Marks 0 (events.Started t 0) old mid) (c : ClosesAlone t halt mid new) → new ≡ old ++ starts t m ∷ closes c ∷ []
+two_more {t} {halt} {old} m c = c.marks.is ∙ ap (λ (l : List Logged). l ++ closes c ∷ []) m.is ∙ append_assoc old (starts t m ∷ []) (closes c ∷ [])
+
 -- a turn that started a task, whose job came to an end
-pub drove_job : (gives : Gives) (plan : Plan) (halt : Option Halt) (t : ℕ) (run : List ℕ × Entries) (old mid new : List Logged) (before now : Runs) → IsRunOf gives plan t run → Marks 0 (events.Started t 0) old mid → Closes t halt mid new
+pub drove_job : (gives : Gives) (plan : Plan) (halt : Option Halt) (t : ℕ) (run : List ℕ × Entries) (old mid new : List Logged) (before now : Runs) → IsRunOf gives plan t run → Marks 0 (events.Started t 0) old mid → ClosesAlone t halt mid new
     → (now ≡ before ++ run ∷ []) ⊎ ((now ≡ before) × BrokeOff t halt (own 0 new)) → Drove gives plan halt old new before now
 drove_job gives plan halt t run old mid new before now is m c ran = elim ran [
-  | inl did ↦ record { more = entries; tale = tale; runs = run ∷ []; ran = did; these = subst (λ ts. RanSoFar gives plan halt (broken_at 0 entries) ts (run ∷ [])) (sym started) (so_far gives plan halt (broken_at 0 entries) t run is) }
-  | inr none ↦ record { more = entries; tale = tale; runs = []; ran = none.0 ∙ sym (append-nil before); these = subst (λ ts. RanSoFar gives plan halt (broken_at 0 entries) ts []) (sym started) (halted halt none.1) }
+  | inl did ↦ record { more = entries; tale = two_more m c; runs = run ∷ []; ran = did; these = subst (λ ts. RanSoFar gives plan halt (broken_at 0 entries) ts (run ∷ [])) (sym started) (so_far gives plan halt (broken_at 0 entries) t run is) }
+  | inr none ↦ record { more = entries; tale = two_more m c; runs = []; ran = none.0 ∙ sym (append-nil before); these = subst (λ ts. RanSoFar gives plan halt (broken_at 0 entries) ts []) (sym started) (halted halt none.1) }
 ]
   where
-    first : Logged
-    first = record { event = events.Started t 0; seat = 0; moment = m.moment }
-
-    last : Logged
-    last = record { event = c.event; seat = 0; moment = c.marks.moment }
-
     entries : List Logged
-    entries = first ∷ last ∷ []
-
-    tale : new ≡ old ++ entries
-    tale = c.marks.is ∙ ap (λ (l : List Logged). l ++ last ∷ []) m.is ∙ append_assoc old (first ∷ []) (last ∷ [])
+    entries = starts t m ∷ closes c ∷ []
 
     started : started_by 0 entries ≡ t ∷ []
     started = ap (λ l. t ∷ l) (closing_starts t c.marks.moment c.event c.of c.starts_none)
@@ -130,22 +131,16 @@ grows_one halt event old new m calm = record {
     entry = record { event = event; seat = 0; moment = m.moment }
 
 -- by a task that it started, whose job came to an end
-pub grows_job : (halt : Option Halt) (t : ℕ) (old mid new : List Logged) → Marks 0 (events.Started t 0) old mid → Closes t halt mid new → Grows halt old new
+pub grows_job : (halt : Option Halt) (t : ℕ) (old mid new : List Logged) → Marks 0 (events.Started t 0) old mid → ClosesAlone t halt mid new → Grows halt old new
 grows_job halt t old mid new m c = record {
-  more = first ∷ last ∷ [];
-  is = c.marks.is ∙ ap (λ (l : List Logged). l ++ last ∷ []) m.is ∙ append_assoc old (first ∷ []) (last ∷ []);
-  alone = alone_then (first ∷ []) (last ∷ []) (alone_one first refl) (alone_one last refl);
-  breaks = λ b. elim (breaks_split 0 (first ∷ []) (last ∷ []) b) [
-    | inl one ↦ absurd (not_both first.event t 0 refl (breaks_one 0 first one))
-    | inr two ↦ c.breaks (breaks_one 0 last two)
+  more = starts t m ∷ closes c ∷ [];
+  is = two_more m c;
+  alone = alone_then (starts t m ∷ []) (closes c ∷ []) (alone_one (starts t m) refl) (alone_one (closes c) refl);
+  breaks = λ b. elim (breaks_split 0 (starts t m ∷ []) (closes c ∷ []) b) [
+    | inl one ↦ absurd (not_both (events.Started t 0) t 0 refl (breaks_one 0 (starts t m) one))
+    | inr two ↦ c.breaks (breaks_one 0 (closes c) two)
   ];
 }
-  where
-    first : Logged
-    first = record { event = events.Started t 0; seat = 0; moment = m.moment }
-
-    last : Logged
-    last = record { event = c.event; seat = 0; moment = c.marks.moment }
 
 -- by one turn behind others
 pub grows_on : (halt : Option Halt) (old mid new : List Logged) → Grows None old mid → Grows halt mid new → Grows halt old new
@@ -179,22 +174,16 @@ broken_one stops event old new m calm =
     }
 
 -- a task that was started, and whose job came to an end
-pub broken_job : (halt : Option Halt) (fault : Option RunFault) (t : ℕ) (old mid new : List Logged) → Marks 0 (events.Started t 0) old mid → Closes t halt mid new → BreaksBy halt fault mid new → Broken (IsSome halt ⊎ IsSome fault) old new
+pub broken_job : (halt : Option Halt) (fault : Option RunFault) (t : ℕ) (old mid new : List Logged) → Marks 0 (events.Started t 0) old mid → ClosesAlone t halt mid new → BreaksBy halt fault mid new → Broken (IsSome halt ⊎ IsSome fault) old new
 broken_job halt fault t old mid new m c by = record {
-  more = first ∷ last ∷ [];
-  is = c.marks.is ∙ ap (λ (l : List Logged). l ++ last ∷ []) m.is ∙ append_assoc old (first ∷ []) (last ∷ []);
+  more = starts t m ∷ closes c ∷ [];
+  is = two_more m c;
   breaks = at (is_break c.event) refl;
 }
   where
-    first : Logged
-    first = record { event = events.Started t 0; seat = 0; moment = m.moment }
-
-    last : Logged
-    last = record { event = c.event; seat = 0; moment = c.marks.moment }
-
-    at : (b : Bool) → is_break c.event ≡ b → Breaks (IsSome halt ⊎ IsSome fault) (Unit {0}) (first ∷ last ∷ [])
-    at true is = record { front = first ∷ []; back = last ∷ []; cut = refl; before = (refl, tt); last = inr (last, refl, by last c.marks.is is, λ bench. tt) }
-    at false is = record { front = first ∷ last ∷ []; back = []; cut = refl; before = (refl, (is, tt)); last = inl refl }
+    at : (b : Bool) → is_break c.event ≡ b → Breaks (IsSome halt ⊎ IsSome fault) (Unit {0}) (starts t m ∷ closes c ∷ [])
+    at true is = record { front = starts t m ∷ []; back = closes c ∷ []; cut = refl; before = (refl, tt); last = inr (closes c, refl, by (closes c) c.marks.is is, λ bench. tt) }
+    at false is = record { front = starts t m ∷ closes c ∷ []; back = []; cut = refl; before = (refl, (is, tt)); last = inl refl }
 
 -- one turn behind others
 pub broken_on : (fault : Option RunFault) (stops : Type 0) (old mid new : List Logged) → Broken (IsSome fault) old mid → Broken stops mid new → (IsSome fault → stops) → (IsSome fault → new ≡ mid) → Broken stops old new

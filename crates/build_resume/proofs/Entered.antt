@@ -1,5 +1,4 @@
 -- Where a run may begin.
-use Rattle.std.proofs.Common.{refl}
 use Rattle.store_model.proofs.Lasting.{empty_is_valid}
 use Rattle.build_resume.specs.Laws.{FirstEntry, NextEntry}
 
@@ -8,7 +7,6 @@ first_entry gives reading plan planned may = record {
   sound = planned.sound;
   valid = empty_is_valid gives reading;
   readable = tt;
-  folders = record { work = refl; objects = refl; parts = λ part one. refl };
   may = may;
   spellings = planned.spellings;
 }
@@ -18,7 +16,6 @@ next_entry gives reading book image crash plan planned may = record {
   sound = planned.sound;
   valid = crash.valid;
   readable = crash.readable;
-  folders = crash.folders;
   may = may;
   spellings = planned.spellings;
 }

@@ -8,6 +8,7 @@ pub mod Outcomes
 pub mod Reports
 pub mod Alone
 pub mod Begun
+pub mod Closed
 pub mod Built
 pub mod Benches
 pub mod Working

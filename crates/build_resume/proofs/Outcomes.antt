@@ -23,16 +23,17 @@ use Rattle.tale_model.specs.Fates.{HoldsFailure, fate_at, fate_by, fates_told, t
 use Rattle.store_model.specs.Origins.{Book, Reading}
 use Rattle.store_model.specs.Valid.{IsValid}
 use Rattle.store_model.specs.declared.signature.EquivRow.{EquivRow}
-use Rattle.build_store.specs.Opening.{Clears}
+use Rattle.store_opening.specs.Opening.{Clears}
 use Rattle.store_model.specs.Opened.{IsOpened}
 use Rattle.store_model.specs.Lines.{HaveSameLines}
-use Rattle.build_store.specs.Reopened.{IsBookAgain}
+use Rattle.store_opening.specs.Reopened.{IsBookAgain}
 use Rattle.store_model.specs.Readable.{IsReadable}
-use Rattle.build_store.proofs.Reopened.{cleared_is_valid, opened_holds_no_more}
-use Rattle.build_store.proofs.Reused.{no_collision, reuse_again}
-use Rattle.build_store.proofs.SameLines.{other_lines}
+use Rattle.store_opening.proofs.Reopened.{cleared_is_valid, opened_holds_no_more}
+use Rattle.store_opening.proofs.Reused.{no_collision, reuse_again}
+use Rattle.store_opening.proofs.SameLines.{other_lines}
+use Rattle.store_opening.proofs.Opened.{has_way}
 use Rattle.run_model.specs.Report.{has_failure, is_failure}
-use Rattle.run_model.specs.Opening.{HasFolders, Opening}
+use Rattle.run_model.specs.Opening.{Opening}
 use Rattle.run_queue.specs.Opening.{MayRun}
 use Rattle.run_model.specs.Outcome.{IsAtEnd}
 use Rattle.run_queue.proofs.Ending.{exact_at_end}
@@ -181,7 +182,6 @@ module _ (o : Opening) (plan : Plan) (options : Options) (tale : List Logged) (s
           lines = take left.count (k.run.lines ++ k.run.last);
           valid = subst (λ (r : Reading). IsValid gives r image (o.book ++ take left.count (k.run.lines ++ k.run.last))) reading_is (subst (λ (x : Gives). IsValid x o.reading image (o.book ++ take left.count (k.run.lines ++ k.run.last))) gives_is left.valid);
           readable = front_all o.book (k.run.lines ++ k.run.last) left.count k.run.readable;
-          folders = left.folders;
         }
       ]
     where
@@ -199,14 +199,6 @@ module _ (o : Opening) (plan : Plan) (options : Options) (tale : List Logged) (s
 pub fresh_image : (story : Story) (image : Store) → IsFresh story → IsImageSince story 0 image → image ≡ story.held
 fresh_image story image fresh since = (subst (λ (calls : List Call). LeftSince story.held calls 0 image) fresh since).1
 
--- folders stand where nothing came to be that wasn't there
-left_folders : (old new : Store) → ((q : List ℕ) → old q ≡ None → new q ≡ old q) → HasFolders old → HasFolders new
-left_folders old new same f = record {
-  work = same _ f.work ∙ f.work;
-  objects = same _ f.objects ∙ f.objects;
-  parts = λ part alone. same _ (f.parts part alone) ∙ f.parts part alone;
-}
-
 -- whatever a crash left while the store was opened is valid with the same book
 pub opened_crash : (gives : Gives) (reading : Reading) (book : Book) (plan : Plan) (before after : Story) (image : Store) → IsFresh before → IsEntry gives reading book before.held plan → Passes before after (Clears before.held) → IsImageSince after 0 image → IsCrash gives reading book image
 opened_crash gives reading book plan before after image fresh entry p since = record {
@@ -215,15 +207,8 @@ opened_crash gives reading book plan before after image fresh entry p since = re
   lines = [];
   valid = subst (IsValid gives reading image) (sym (append-nil book)) valid;
   readable = subst (AllByRecursion IsReadable) (sym (append-nil book)) entry.readable;
-  folders = folders;
 }
   where
-    folders : HasFolders image
-    folders = elim (p.since 0 image (omega arith) since) [
-      | inl early ↦ subst HasFolders (sym (fresh_image before image fresh early)) entry.folders
-      | inr e ↦ left_folders before.held image (λ q none. e.2.left q (inr (inr (inr none))) ∙ ap (λ (i : Store). i q) (fresh_image before e.0 fresh (now-since before 0 e.0 (omega arith) e.1))) entry.folders
-    ]
-
     valid : IsValid gives reading image book
     valid = elim (p.since 0 image (omega arith) since) [
       | inl early ↦ subst (λ (i : Store). IsValid gives reading i book) (sym (fresh_image before image fresh early)) entry.valid
@@ -245,7 +230,8 @@ opened_may_run gives reading book plan before story rows again entry opened dura
       (entry.may (no_collision gives reading again.again book plan.tasks again.valid.lines entry.valid.lines (other_lines book again.again again.same) none))
       again.same again.valid.lines (opened_holds_no_more before story.held rows opened);
   durable = durable;
-  folders = left_folders before story.held (λ q none. opened.left q (inr (inr (inr none)))) entry.folders;
+  way = (has_way before story.held rows opened).0;
+  swept = (has_way before story.held rows opened).1;
   readable = again.readable;
   spellings = entry.spellings;
 }

@@ -16,7 +16,7 @@ use Rattle.run_model.specs.Seats.{own}
 use Rattle.run_workers.specs.Worked.{BrokeOff}
 use Rattle.run_model.specs.Benches.{AtSeats, broken_at, started_by}
 use Rattle.run_model.specs.Build.{RanJust, RanPrinted}
-use Rattle.build_resume.specs.Drive.{Closes, IsAlone, RanSaid, SaidByWorkers, SaidTo}
+use Rattle.build_resume.specs.Drive.{ClosesAlone, IsAlone, RanSaid, SaidByWorkers, SaidTo}
 use Rattle.run_workers.specs.declared.worker.Halt.{Halt}
 use Rattle.run_workers.proofs.Working.{said_all as all_said}
 use Rattle.build_resume.proofs.Driving.{closing_starts}
@@ -167,7 +167,7 @@ said_nothing plan tale before now old new none ran g = record {
 
 -- A turn that started a task, whose job came to an end. Where a fault was kept when it had been started its script didn't run.
 module _ (plan : Plan) (first kept fault : Option RunFault) (from old mid new : List Logged) (before now after : Runs) (base a m b : List ℕ) (r : RanSaid plan None first from old before now base a) (one : IsFront a m) (other : IsFront m b)
-    (faultless : first ≡ None) (t : ℕ) (run : List ℕ × Entries) (script : IsScriptOf plan t run.0) (marks : Marks 0 (events.Started t 0) old mid) (halt : Option Halt) (closes : Closes t halt mid new) where
+    (faultless : first ≡ None) (t : ℕ) (run : List ℕ × Entries) (script : IsScriptOf plan t run.0) (marks : Marks 0 (events.Started t 0) old mid) (halt : Option Halt) (closes : ClosesAlone t halt mid new) where
   abbrev entry : Logged
   entry = record { event = events.Started t 0; seat = 0; moment = marks.moment }
 

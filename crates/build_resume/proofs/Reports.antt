@@ -1,5 +1,5 @@
 -- What was written of a run's report.
-use Rattle.std.proofs.Common.{◌≡◌, sym, subst, refl, ℕ, ◌≤◌, List, [], Bool, true, false, arith, append-nil, inl, inr}
+use Rattle.std.proofs.Common.{◌≡◌, sym, subst, refl, ℕ, ◌≤◌, List, [], Bool, true, false, arith, append-nil, inr}
 use Rattle.outside_traits.specs.Fault.{Counts, Rose}
 use Rattle.meta_model.specs.declared.event.Logged.{Logged}
 use Rattle.meta_model.specs.declared.event.Status.{Status}
@@ -13,11 +13,6 @@ use Rattle.build_resume.specs.Build.{WritesReport}
 -- to a sink that had failed nothing more is written
 pub reports_cut : (plan : Plan) (tale : List Logged) (base now : List ℕ) (before count : ℕ) (s : Status) → is_plain s ≡ false → Prints base now (tale_text plan.tasks tale) true → Counts before count true → WritesReport (Rose before count) base now plan tale s
 reports_cut plan tale base now before count s apart prints counts = inr (counts.rose, apart, (s, front_first base now (tale_text plan.tasks tale) (last_line plan tale s) prints.front))
-
--- the count of a sink that stood rose since the run began where it rose now
-pub reports_on : (plan : Plan) (tale : List Logged) (base new : List ℕ) (before old count : ℕ) (s : Status) → Counts before old false → WritesReport (Rose old count) base new plan tale s → WritesReport (Rose before count) base new plan tale s
-reports_on plan tale base new before old count s counts (inl whole) = inl whole
-reports_on plan tale base new before old count s counts (inr cut) = inr (subst (λ (n : ℕ). Rose n count) counts.stayed cut.0, cut.1, cut.2)
 
 -- a sink that rose stays risen
 pub rose_from : (before mid now : ℕ) → before ≤ mid → Rose mid now → Rose before now

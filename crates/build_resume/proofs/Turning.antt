@@ -26,7 +26,7 @@ use Rattle.run_workers.specs.Runs.{AllRan}
 use Rattle.run_model.specs.Runs.{RanThese}
 use Rattle.run_model.specs.Seats.{is_bench_break, is_break}
 use Rattle.run_model.specs.Benches.{started_by}
-use Rattle.build_resume.specs.Drive.{Closes, fault_once, left_over, waiting_count, waits_once}
+use Rattle.build_resume.specs.Drive.{ClosesAlone, fault_once, left_over, waiting_count, waits_once}
 use Rattle.run_workers.specs.declared.worker.Halt.{Halt}
 
 -- ---- the last entry of a tale
@@ -157,9 +157,6 @@ module _ {D W : Type 0} (old new : RunView D W) (t : ℕ) (same : new.plan ≡ o
   settled_lt : task_of s.event < length (fates_of old)
   settled_lt = within (fates_of old) s.event settled_order.can
 
-  pub settled_none : NoneRuns (fates_of new)
-  settled_none = subst NoneRuns (sym settled_fates) (none_runs (fates_of old) (task_of s.event) (fate_by s.event) settled_lt (λ u ne runs. none u runs) (rests_behind t s.event s.which).0)
-
   pub settled_less : (IsSome old.fault → new.fault ≡ old.fault) → left_over new < left_over old
   settled_less stays =
       let r = rests_behind t s.event s.which in
@@ -187,7 +184,7 @@ module _ {D W : Type 0} (old mid new : RunView D W) (t : ℕ) (same : mid.plan �
   pub within_mid : t < length mid.plan.tasks
   within_mid = subst (λ (p : Plan). t < length p.tasks) (sym same) (subst (λ n. t < n) (count_told (length old.plan.tasks) old.tale) started_lt)
 
-  module _ (halt : Option Halt) (c : Closes t halt mid.tale new.tale) where
+  module _ (halt : Option Halt) (c : ClosesAlone t halt mid.tale new.tale) where
     closed_fates : fates_of new ≡ set (fates_of mid) t (fate_by c.event)
     closed_fates =
         ap (λ (p : Plan). fates_told (length p.tasks) new.tale) later ∙ marked_fates mid.plan.tasks 0 c.event mid.tale new.tale c.marks

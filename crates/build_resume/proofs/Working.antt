@@ -114,7 +114,7 @@ pub no_seats : (n : ℕ) (tale : List Logged) → tale ≡ [] → HasSeats n tal
 no_seats n tale none place entry at = absurd (none-some entry (ap (λ (l : List Logged). slice_get l place) (sym none) ∙ at))
 
 -- an entry of a front stands in the whole
-taken : (n : ℕ) (tale : List Logged) (k : ℕ) (e : Logged) → slice_get (take n tale) k ≡ Some e → slice_get tale k ≡ Some e
+pub taken : (n : ℕ) (tale : List Logged) (k : ℕ) (e : Logged) → slice_get (take n tale) k ≡ Some e → slice_get tale k ≡ Some e
 taken zero tale k e at = absurd (none-some e at)
 taken (suc n) [] k e at = at
 taken (suc n) (x ∷ tale) zero e at = at
@@ -255,11 +255,6 @@ have_benches n mid more tale is alone has place entry at = elim (two_places mid 
 ]
 
 -- ---- each of the first benches had a worker, which came to an end
-
--- a list of no length is empty
-pub none_by_length : {X : Type 0} (xs : List X) → length xs ≡ 0 → xs ≡ []
-none_by_length [] e = refl
-none_by_length (x ∷ xs) e = absurd (omega (arith, e))
 
 module _ {B : Type 0} (first : Seen) (faulty : List Logged → Type 0) (faults : B → ℕ) (wanting : Bool) (tale : List Logged) (workers : ℕ) where
   -- no bench

@@ -17,19 +17,17 @@ use Rattle.plan_model.specs.Spellings.{HasSpellings}
 use Rattle.run_model.specs.Ends.{is_plain}
 use Rattle.run_model.specs.Report.{run_text}
 use Rattle.run_model.specs.Written.{WritesFront}
-use Rattle.run_model.specs.Opening.{HasFolders, MayTake}
+use Rattle.run_model.specs.Opening.{MayTake}
 use Rattle.run_model.specs.Runs.{Runs}
 use Rattle.run_model.specs.Headline.{Keeps}
 use Rattle.run_model.specs.Build.{AllClean}
 
--- What is asked of a run: the plan is sound; what the disk holds is valid with a book of lines that can be read again, and has folders
--- where the store keeps them; the plan may take of the book what it wants; and a program can hold the signatures of the plan's
--- tasks.
+-- What is asked of a run: the plan is sound; what the disk holds is valid with a book of lines that can be read again; the plan may take of the
+-- book what it wants; and a program can hold the signatures of the plan's tasks.
 pub record IsEntry (gives : Gives) (reading : Reading) (book : Book) (held : Store) (plan : Plan) : Type 0 where
   pub sound : IsSound plan
   pub valid : IsValid gives reading held book
   pub readable : AllByRecursion IsReadable book
-  pub folders : HasFolders held
   pub may : MayTake gives reading held book plan.tasks
   pub spellings : HasSpellings plan
 

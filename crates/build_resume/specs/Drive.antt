@@ -108,7 +108,7 @@ pub record RanOn (gives : Gives) (plan : Plan) (old new : List Logged) (before n
   pub ran : RanStarted gives plan more 0 before now
 
 -- the job of a task came to an end, under seat 0; it broke off since the bench failed only where that was the last turn
-pub record Closes (t : ℕ) (halt : Option Halt) (old new : List Logged) : Type 0 where
+pub record ClosesAlone (t : ℕ) (halt : Option Halt) (old new : List Logged) : Type 0 where
   pub event : Event
   pub marks : Marks 0 event old new
   pub of : task_of event ≡ t

@@ -5,15 +5,18 @@ use Rattle.meta_model.specs.declared.event.Logged.{Logged}
 use Rattle.meta_model.specs.declared.event.Status.{Status}
 use Rattle.meta_model.specs.declared.plan.Options.{Options}
 use Rattle.meta_model.specs.declared.plan.Plan.{Plan}
+use Rattle.tale_model.specs.History.{EachAfter}
+use Rattle.run_core.specs.History.{IsOrderly}
 use Rattle.run_model.specs.Ends.{is_faultless}
 use Rattle.run_model.specs.Opening.{Opening}
 use Rattle.run_queue.specs.Keeps.{IsRun}
 use Rattle.run_queue.specs.Seen.{Seen}
 
--- the state in which a run ended kept all over the opening, and no fault where the status tells of none
+-- the state in which a run ended kept all over the opening, its tale is orderly, and it kept no fault where the status tells of none
 pub record KeptTo (o : Opening) (plan : Plan) (options : Options) (tale : List Logged) (s : Status) (story : Story) : Type 0 where
   pub last : Seen
   pub run : IsRun o last
+  pub orderly : EachAfter (IsOrderly last.plan.tasks) last.tale
   pub plan_is : last.plan ≡ plan
   pub options_are : last.options ≡ options
   pub tale_is : last.tale ≡ tale

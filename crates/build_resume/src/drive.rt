@@ -12,7 +12,7 @@ ghost use Rattle.run_model.specs.Runs.{Runs};
 ghost use Rattle.run_workers.specs.Runs.{by_bench};
 ghost use Rattle.run_model.specs.Seats.{own};
 ghost use Rattle.run_workers.specs.Worked.{BrokeOff};
-ghost use Rattle.build_resume.specs.Drive.{BreaksBy, Broken, Closes, Drove, GoesOnBehind, Grows, IsHalted, RanSaid, left_over};
+ghost use Rattle.build_resume.specs.Drive.{BreaksBy, Broken, ClosesAlone, Drove, GoesOnBehind, Grows, IsHalted, RanSaid, left_over};
 
 use meta_model::Cut;
 use outside_traits::{Bench, Disk, Sink};
@@ -24,7 +24,7 @@ use tree_model::Mem;
 
 /// Does a job that was claimed, and says how it came to an end. Where a fault is kept, as that the line of its start couldn't be written,
 /// its script doesn't run. Where the run goes on its task doesn't wait again, or a fault is kept.
-fn do_claimed<D: Disk, B: Bench, W: Sink>(
+fn do_alone<D: Disk, B: Bench, W: Sink>(
     alloc: Global,
     state: &mut RunState<D, W>,
     bench: &mut B,
@@ -33,7 +33,7 @@ fn do_claimed<D: Disk, B: Bench, W: Sink>(
     requires reach { 3600 ≤ D.reach }
     requires runs { RunsUnder state.old job.task 0 }
     ensures same { SameRun state.old state.new }
-    ensures closes { Closes job.task result state.old.tale state.new.tale }
+    ensures closes { ClosesAlone job.task result state.old.tale state.new.tale }
     ensures goes_on { GoesOnBehind job.task state.new result }
     ensures stops { BreaksBy result state.new.fault state.old.tale state.new.tale }
     ensures fault { IsSome state.old.fault → state.new.fault ≡ state.old.fault }
@@ -108,7 +108,7 @@ fn turn<D: Disk, B: Bench, W: Sink>(
     match state.claim(alloc, 0) {
         Ok(Claim::Run(job)) => {
             state.kept();
-            let halt = do_claimed(alloc, state, bench, job);
+            let halt = do_alone(alloc, state, bench, job);
             state.kept();
             halt
         }

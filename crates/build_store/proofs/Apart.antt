@@ -4,7 +4,7 @@ use Rattle.tree_model.specs.Path.{IsAtOrBelow, IsBelow, inside}
 use Rattle.outside_traits.specs.Store.{IsApart}
 use Rattle.outside_traits.proofs.Folders.{under_same}
 use Rattle.store_model.specs.Paths.{slashes}
-use Rattle.build_store.proofs.Slashes.{slashes_inside}
+use Rattle.store_opening.proofs.Slashes.{slashes_inside}
 
 -- of two folders in which one path lies, one is the other or lies in it
 meet : (a b s r : List ℕ) → inside a s ≡ inside b r → (a ≡ b) ⊎ (IsBelow a b ⊎ IsBelow b a)

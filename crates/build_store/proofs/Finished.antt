@@ -22,7 +22,7 @@ use Rattle.store_model.specs.Paths.{record_path}
 use Rattle.build_store.specs.Phases.{IsFileOf, put_of}
 use Rattle.build_store.specs.Publication.{AreShort, IsAgreed, IsPublished, Publishes, object_for, publication}
 use Rattle.store_model.specs.Publication.{record_file}
-use Rattle.build_store.specs.Sound.{IsKept}
+use Rattle.store_opening.specs.Sound.{IsKept}
 use Rattle.store_model.specs.Readable.{IsRow}
 use Rattle.build_store.proofs.Drafted.{File, file_is, line_new, put_is, row_is}
 use Rattle.build_store.proofs.Stays.{kept_more}

@@ -1,5 +1,5 @@
 -- What is found of a task by the row of its name.
-use Rattle.std.proofs.Common.{◌≡◌, ◌∙◌, sym, ap, subst, ℕ, List, Bool, true, false, ◌&&◌, inl, inr, Option, Some, None, Result, Ok, Err}
+use Rattle.std.proofs.Common.{◌≡◌, ◌∙◌, sym, ap, subst, ℕ, List, Bool, true, false, ◌&&◌, inl, inr, Option, Some, Result, Ok, Err}
 use Rattle.std.proofs.lemmas.Bool.{false≢true}
 use Rattle.std.specs.Prelude.{IfOk, OnOk}
 use Rattle.std.specs.List.{AllByRecursion}
@@ -75,10 +75,3 @@ clash_there rows name bytes row fault.Disk all is other = tt
 clash_there rows name bytes row fault.Memory all is other = tt
 clash_there rows name bytes row (fault.Collision n held given) all is other = clash rows name bytes row (fault.Collision n held given) all is other
 clash_there rows name bytes row (fault.Unsteady pn task held given) all is other = absurd other
-
--- where no row has the name nothing is there
-pub nothing_there : (rows : List EquivRow) (s : Signed) (setscene : Bool) (held : Store) → row_at rows (name_of s.sig) ≡ None → IsAvailable held rows setscene s avail.Missing
-nothing_there rows s setscene held none = (λ w. no_row w.row w.stored.is_row, λ o. no_row o.row o.stored.is_row)
-  where
-    no_row : (row : EquivRow) → row_at rows (name_of s.sig) ≡ Some row → ⊥
-    no_row row at = let e : None ≡ Some row = sym none ∙ at in cc

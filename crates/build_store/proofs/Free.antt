@@ -8,12 +8,12 @@ use Rattle.outside_traits.specs.Store.{IsFree, Store}
 use Rattle.outside_traits.proofs.Folders.{above_under}
 use Rattle.outside_traits.proofs.Held.{none_unless}
 use Rattle.stamp_store.specs.Stamp.{old_path, stamp_path, staged_path}
-use Rattle.build_store.specs.Named.{IsName}
-use Rattle.build_store.specs.Paths.{IsLaidOut, IsTemporary, staged_record_path}
+use Rattle.store_opening.specs.Named.{IsName}
+use Rattle.store_opening.specs.Paths.{IsLaidOut, IsTemporary, staged_record_path}
 use Rattle.store_model.specs.Paths.{record_path, slashes}
-use Rattle.build_store.proofs.Areas.{differ}
-use Rattle.build_store.proofs.Clean.{name_slashes}
-use Rattle.build_store.proofs.Slashes.{slashes_inside}
+use Rattle.store_opening.proofs.Areas.{differ}
+use Rattle.store_opening.proofs.Clean.{name_slashes}
+use Rattle.store_opening.proofs.Slashes.{slashes_inside}
 
 -- a path in a folder without slashes is free, where nothing is held at the folder, or in it above or below the path
 free_in : (held : Store) (top path : List ℕ) → slashes top ≡ 0 → held top ≡ None → ((r : List ℕ) → IsSome (held (inside top r)) → IsBelow r path ⊎ IsBelow path r → ⊥) → IsFree held (inside top path)

@@ -24,10 +24,10 @@ use Rattle.store_model.specs.Paths.{slashes}
 use Rattle.build_store.specs.Publication.{IsForeign, KeepsOthers, Publishes}
 use Rattle.store_model.specs.Publication.{Publication, stamp_at, work_at}
 use Rattle.build_store.proofs.Apart.{apart_by_count, apart_under, apart_within, below_again, same_parts}
-use Rattle.build_store.proofs.Areas.{apart_by_first, differ, heads_differ}
-use Rattle.build_store.proofs.Clean.{name_is_name, name_slashes}
+use Rattle.store_opening.proofs.Areas.{apart_by_first, differ, heads_differ}
+use Rattle.store_opening.proofs.Clean.{name_is_name, name_slashes}
 use Rattle.build_store.proofs.Rounding.{begins}
-use Rattle.build_store.proofs.Slashes.{slashes_inside}
+use Rattle.store_opening.proofs.Slashes.{slashes_inside}
 
 -- ---- folders of tasks
 

@@ -1,28 +1,28 @@
 -- What the phases of a publication do to a store.
-use Rattle.std.proofs.Common.{◌≡◌, ◌≢◌, ◌∙◌, sym, ap, subst, refl, ℕ, ◌⊎◌, inl, inr, ⊎_elim, List, [], ◌∷◌, ◌++◌, Option, Some, None, Result, Ok, Err, OnOk, arith, get_or}
+use Rattle.std.proofs.Common.{◌≡◌, ◌≢◌, ◌∙◌, sym, ap, subst, refl, ℕ, ◌⊎◌, inl, inr, ⊎_elim, List, [], ◌∷◌, Option, Some, None, Result, Ok, Err, OnOk, arith}
 use Rattle.std.specs.Prelude.{codes, IsSome}
 use Rattle.std.specs.Option.{is_some}
 use Rattle.std.proofs.lemmas.Bool.{false≢true}
 use Rattle.tree_model.specs.declared.entry.Entry.{Entry}
 use Rattle.tree_model.specs.declared.hash.Hash.{Hash}
 use Rattle.tree_model.specs.Hash.{hash_text}
-use Rattle.tree_model.specs.Path.{IsBelow, inside}
+use Rattle.tree_model.specs.Path.{inside}
 use Rattle.outside_traits.specs.declared.fault.DiskFault.{DiskFault}
 use Rattle.outside_traits.specs.Store.{AgreesApart, ChangesAt, HoldsTree, Moves, Store}
 use Rattle.outside_traits.proofs.Folders.{under_same}
 use Rattle.outside_traits.proofs.Held.{none_unless}
 use Rattle.outside_traits.proofs.Puts.{path_cases}
 use Rattle.store_model.specs.Available.{object_folder}
-use Rattle.stamp_store.specs.Stamp.{old_path, stamp_path, staged_path}
-use Rattle.build_store.specs.Named.{IsName}
-use Rattle.build_store.specs.Paths.{IsLaidOut, IsTemporary, staged_record_path}
+use Rattle.stamp_store.specs.Stamp.{TakesAway, old_path, stamp_path, staged_path}
+use Rattle.store_opening.specs.Named.{IsName}
+use Rattle.store_opening.specs.Paths.{IsLaidOut, IsTemporary, staged_record_path}
 use Rattle.store_model.specs.Paths.{record_path, slashes}
-use Rattle.build_store.specs.Phases.{IsApartFrom, Lays, Settles, Shares, Stages}
+use Rattle.build_store.specs.Phases.{AddsStaged, AddsStagedFile, IsApartFrom, Lays, Settles, Shares, Stages}
 use Rattle.build_store.specs.Publication.{HoldsObject, SameObjects}
 use Rattle.store_model.specs.Publication.{work_at}
-use Rattle.build_store.proofs.Areas.{apart_by_first, differ, heads_differ}
-use Rattle.build_store.proofs.Clean.{name_slashes}
-use Rattle.build_store.proofs.Slashes.{slashes_inside}
+use Rattle.store_opening.proofs.Areas.{apart_by_first, differ, heads_differ, tree_stays}
+use Rattle.store_opening.proofs.Clean.{name_slashes}
+use Rattle.store_opening.proofs.Slashes.{slashes_inside}
 
 -- a path under `rec/`, `stamp/` or `tmp/` at which the store may put something
 pub IsWell : List ℕ → Type 0
@@ -111,17 +111,21 @@ laid_change p i j well change was = laid_after i j (λ q some. elim (path_cases 
   | inr other ↦ inl (subst IsSome (change.others q other) some)
 ]) was
 
-pub laid_move : (p r : List ℕ) (x : Option Entry) (i j : Store) → IsWell r → Moves p r x i j → IsLaidOut i → IsLaidOut j
-laid_move p r x i j well move was = laid_after i j (λ q some. elim (path_cases q r) [
+-- the first path is as before or holds nothing, and the second one holds anything
+laid_from : (p r : List ℕ) (i j : Store) → IsWell r → ((q : List ℕ) → q ≢ p → q ≢ r → j q ≡ i q) → (j p ≡ i p) ⊎ (j p ≡ None) → IsLaidOut i → IsLaidOut j
+laid_from p r i j well others source was = laid_after i j (λ q some. elim (path_cases q r) [
   | inl same ↦ inr (subst IsWell (sym same) well)
   | inr other ↦ elim (path_cases q p) [
-    | inl same ↦ inl (⊎_elim (λ e. subst IsSome (ap j same ∙ e ∙ ap i (sym same)) some) (λ e. absurd (false≢true (sym (ap is_some (ap j same ∙ e)) ∙ some))) move.source)
-    | inr differs ↦ inl (subst IsSome (move.others q differs other) some)
+    | inl same ↦ inl (⊎_elim (λ e. subst IsSome (ap j same ∙ e ∙ ap i (sym same)) some) (λ e. absurd (false≢true (sym (ap is_some (ap j same ∙ e)) ∙ some))) source)
+    | inr differs ↦ inl (subst IsSome (others q differs other) some)
   ]
 ]) was
 
-pub laid_aside : (folder : List ℕ) (x : Option Entry) (i j : Store) → slashes folder ≡ 1 → Moves (stamp_path folder) (old_path folder) x i j → IsLaidOut i → IsLaidOut j
-laid_aside folder x i j one move was = laid_move (stamp_path folder) (old_path folder) x i j (well_old folder one) move was
+pub laid_move : (p r : List ℕ) (x : Option Entry) (i j : Store) → IsWell r → Moves p r x i j → IsLaidOut i → IsLaidOut j
+laid_move p r x i j well move was = laid_from p r i j well move.others move.source was
+
+pub laid_aside : (folder : List ℕ) (i j : Store) → slashes folder ≡ 1 → TakesAway folder i j → IsLaidOut i → IsLaidOut j
+laid_aside folder i j one takes was = laid_from (stamp_path folder) (old_path folder) i j (well_old folder one) takes.others takes.source was
 
 pub laid_stamped : (folder : List ℕ) (x : Option Entry) (i j : Store) → slashes folder ≡ 1 → Moves (staged_path folder) (stamp_path folder) x i j → IsLaidOut i → IsLaidOut j
 laid_stamped folder x i j one move was = laid_move (staged_path folder) (stamp_path folder) x i j (well_stamp folder one) move was
@@ -159,19 +163,6 @@ lays_joins folder object i j k first second = record { others = λ q work obj. s
 
 pub shares_by : (object : Option Hash) (unihash : Hash) (i j : Store) → object ≡ Some unihash → AgreesApart (object_folder unihash) i j → Shares object i j
 shares_by object unihash i j is agrees = record { others = λ q obj. agrees.apart q (obj unihash is) }
-
--- a tree stays where its folder and what is above it does
-pub tree_stays : (c : ℕ) (ps : List ℕ) (tree : List (List ℕ × Entry)) (i j : Store) → c ≢ 47 → ((qs : List ℕ) → j (c ∷ qs) ≡ i (c ∷ qs)) → HoldsTree (c ∷ ps) tree i → HoldsTree (c ∷ ps) tree j
-tree_stays c ps tree i j ne stays was = record {
-  entries = λ path. stays (ps ++ 47 ∷ path) ∙ was.entries path;
-  outside = record { at = stays ps ∙ was.outside.at; above = above };
-}
-  where
-    above : (q : List ℕ) → IsBelow q (c ∷ ps) → j q ≡ None
-    above [] up = absurd (ne (ap (λ (l : List ℕ). get_or l 0 0) up.1))
-    above (x ∷ q) up =
-        let head : c ≡ x = ap (λ (l : List ℕ). get_or l 0 0) up.1 in
-        ap (λ (y : ℕ). j (y ∷ q)) (sym head) ∙ stays q ∙ ap (λ (y : ℕ). i (y ∷ q)) head ∙ was.outside.above (x ∷ q) up
 
 -- the object's folder is apart from the work folder, so its tree stays there
 pub tree_lays : {T : Type 0} (folder : List ℕ) (object : Option Hash) (tree : List (List ℕ × Entry)) (i j : Store) (r : Result T DiskFault) → Shares object i j → HoldsTree (work_at folder) tree i → OnOk r (HoldsTree (work_at folder) tree j)
@@ -211,6 +202,16 @@ module _ (name : Hash) (file : Option Entry) where
 
   pub stages_by_stamp : (folder : List ℕ) (i j : Store) → slashes folder ≡ 1 → ChangesAt (staged_path folder) i j → Stages name file i j
   stages_by_stamp folder i j one change = by_temporary (inside (codes "stamp") folder) i j (well_staged folder one) change
+
+  -- what is staged, and no more
+  pub adds_nothing : (i : Store) → AddsStagedFile name file i i
+  adds_nothing i = record { others = λ q own. refl }
+
+  pub adds_record : (e : Entry) (i j : Store) → file ≡ Some e → ChangesAt (staged_record_path name) i j → AddsStagedFile name file i j
+  adds_record e i j is change = record { others = λ q own. change.others q (own (subst IsSome (sym is) refl)) }
+
+  pub adds_stamp : (folder : List ℕ) (i j k : Store) → AddsStagedFile name file i j → ChangesAt (staged_path folder) j k → AddsStaged folder name file i k
+  adds_stamp folder i j k adds change = record { others = λ q stamp own. change.others q stamp ∙ adds.others q own }
 
   pub settles_same : (i : Store) → Settles name file i i
   settles_same i = record { others = λ q staged own. refl; stages = stages_same i }

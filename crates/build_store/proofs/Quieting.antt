@@ -13,14 +13,14 @@ use Rattle.outside_traits.specs.Story.{IsImage, IsSound, Story}
 use Rattle.outside_traits.specs.Passes.{Passes}
 use Rattle.outside_traits.proofs.Runs.{each_now, passes_at, passes_so}
 use Rattle.meta_model.specs.CleanBuild.{Entries}
-use Rattle.stamp_store.specs.Stamp.{old_path, stamp_path, staged_path}
+use Rattle.stamp_store.specs.Stamp.{TakesAway, stamp_path, staged_path}
 use Rattle.store_model.specs.Paths.{record_path}
-use Rattle.build_store.specs.Paths.{staged_record_path}
+use Rattle.store_opening.specs.Paths.{staged_record_path}
 use Rattle.build_store.specs.Phases.{IsFileOf, IsStoredFile, Lays, Settles, Stages, put_of}
 use Rattle.build_store.specs.Publication.{HoldsObject, IsForeign, IsPublished, Publishes, SameObjects}
 use Rattle.store_model.specs.Publication.{Publication, stamp_at, stamp_file, work_at}
-use Rattle.build_store.proofs.Areas.{differ, heads_differ}
-use Rattle.build_store.proofs.Phasing.{lays_elsewhere, tree_stays}
+use Rattle.store_opening.proofs.Areas.{differ, heads_differ, tree_stays}
+use Rattle.build_store.proofs.Phasing.{lays_elsewhere}
 
 some_is : (o : Option Entry) → IsSome o → (e : Entry) × (o ≡ Some e)
 some_is None some = absurd (false≢true some)
@@ -41,8 +41,8 @@ module _ (folder : List ℕ) (name : Hash) (tree : Entries) (object : Option Has
   NoStamp i = i (stamp_at folder) ≡ None
 
   -- the stamp is taken away
-  by_aside : (x : Option Entry) (i j : Store) → Moves (stamp_path folder) (old_path folder) x i j → Publishes P i j
-  by_aside x i j move = record {
+  by_aside : (i j : Store) → TakesAway folder i j → Publishes P i j
+  by_aside i j move = record {
     others = λ q foreign. move.others q foreign.stamp (λ same. foreign.temporary (inside (codes "old") folder, same));
     stored = inl (move.others (record_path name) (heads_differ (differ 114 115 refl)) (heads_differ (differ 114 116 refl)));
     honest = ⊎_elim (λ same. inl (record { stamp = same; work = work })) (λ gone. inr (inl gone)) move.source;
@@ -84,8 +84,8 @@ module _ (folder : List ℕ) (name : Hash) (tree : Entries) (object : Option Has
     pub run : Passes a b (Publishes P)
     pub gone : (i : Store) → IsImage b i → NoStamp i
 
-  pub aside_run : {x : Option Entry} {a b : Story} → Passes a b (Moves (stamp_path folder) (old_path folder) x) → Passes a b (Publishes P)
-  aside_run {x} run = passes_so (Publishes P) run (λ i j move. by_aside x i j move)
+  pub aside_run : {a b : Story} → Passes a b (TakesAway folder) → Passes a b (Publishes P)
+  aside_run run = passes_so (Publishes P) run by_aside
 
   quiet_run : {a b c : Story} {S : Store → Store → Type 0} → IsSound b → ((j k : Store) → S j k → IsQuiet j k) → Quiets a b → Passes b c S → Passes a c (Publishes P)
   quiet_run sound is quiets run = passes_at NoStamp (Publishes P) sound quiets.gone quiets.run run (λ i j w. w) (λ i j k w none s. late i j k w none (is j k s))
@@ -149,8 +149,8 @@ module _ (folder : List ℕ) (name : Hash) (tree : Entries) (object : Option Has
       (λ qs. stages.others (111 ∷ qs) (not_temporary 111 qs (differ 111 116 refl)) (λ some. heads_differ (differ 111 114 refl))) (was unihash is)
 
   -- the record, at the end: the new one, or that which stood there
-  pub stored_last : (x : Option Entry) (ha hb hc hd he : Store) → IsFileOf name file ha f → Moves (stamp_path folder) (old_path folder) x ha hb → Lays folder object hb hc → Stages name file hc hd → Stages name file hd he → IsStoredFile name file he → he (record_path name) ≡ Some f
-  stored_last x ha hb hc hd he is aside lays stages settles stored = by file refl
+  pub stored_last : (ha hb hc hd he : Store) → IsFileOf name file ha f → TakesAway folder ha hb → Lays folder object hb hc → Stages name file hc hd → Stages name file hd he → IsStoredFile name file he → he (record_path name) ≡ Some f
+  stored_last ha hb hc hd he is aside lays stages settles stored = by file refl
     where
       old : file ≡ None → he (record_path name) ≡ Some f
       old none =
@@ -165,14 +165,14 @@ module _ (folder : List ℕ) (name : Hash) (tree : Entries) (object : Option Has
       by None none = old none
       by (Some e) some = stored e some ∙ ap (λ y. Some y) (is.new e some)
 
-pub object_aside : (folder : List ℕ) (name : Hash) (tree : Entries) (object : Option Hash) (file : Option Entry) (x : Option Entry) (i j : Store) → Moves (stamp_path folder) (old_path folder) x i j → HoldsObject i object tree → HoldsObject j object tree
-object_aside folder name tree object file x i j move was unihash is = tree_stays 111 (98 ∷ 106 ∷ 47 ∷ hash_text unihash) tree i j (differ 111 47 refl)
+pub object_aside : (folder : List ℕ) (tree : Entries) (object : Option Hash) (i j : Store) → TakesAway folder i j → HoldsObject i object tree → HoldsObject j object tree
+object_aside folder tree object i j move was unihash is = tree_stays 111 (98 ∷ 106 ∷ 47 ∷ hash_text unihash) tree i j (differ 111 47 refl)
     (λ qs. move.others (111 ∷ qs) (heads_differ (differ 111 115 refl)) (heads_differ (differ 111 116 refl))) (was unihash is)
 
 -- ---- objects stay
 
-pub objects_aside : (folder : List ℕ) (x : Option Entry) (i j : Store) → Moves (stamp_path folder) (old_path folder) x i j → SameObjects i j
-objects_aside folder x i j move = record { same = λ path. move.others (inside (codes "obj") path) (heads_differ (differ 111 115 refl)) (heads_differ (differ 111 116 refl)) }
+pub objects_aside : (folder : List ℕ) (i j : Store) → TakesAway folder i j → SameObjects i j
+objects_aside folder i j move = record { same = λ path. move.others (inside (codes "obj") path) (heads_differ (differ 111 115 refl)) (heads_differ (differ 111 116 refl)) }
 
 pub objects_stages : (name : Hash) (file : Option Entry) (i j : Store) → Stages name file i j → SameObjects i j
 objects_stages name file i j stages = record { same = λ path. stages.others (inside (codes "obj") path) (not_temporary 111 (98 ∷ 106 ∷ 47 ∷ path) (differ 111 116 refl)) (λ some. heads_differ (differ 111 114 refl)) }

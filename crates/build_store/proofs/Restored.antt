@@ -28,16 +28,16 @@ use Rattle.store_model.proofs.Ordered.{each_map}
 use Rattle.sig_gen.specs.Sound.{Spells}
 use Rattle.sig_gen.proofs.Records.{signature_again}
 use Rattle.build_store.specs.declared.fault.StoreFault.{StoreFault}
-use Rattle.build_store.specs.Named.{IsName}
-use Rattle.build_store.specs.Paths.{IsLaidOut}
+use Rattle.store_opening.specs.Named.{IsName}
+use Rattle.store_opening.specs.Paths.{IsLaidOut}
 use Rattle.store_model.specs.Paths.{record_path}
 use Rattle.build_store.specs.Phases.{IsFileOf, put_of}
 use Rattle.build_store.specs.Publication.{AreShort, HasNoObject, IsObjectOf, IsPublished, IsRestored, Publishes, Restores, restoration, stored_for}
 use Rattle.store_model.specs.Publication.{record_file}
 use Rattle.build_store.specs.Restoring.{IsObject, IsPutBack, PutsBack, PutsBackBy, back_of}
 use Rattle.store_model.specs.Readable.{HasShortPaths, IsHeld, IsRow}
-use Rattle.build_store.specs.Sound.{IsKept}
-use Rattle.build_store.proofs.Clean.{name_is_name}
+use Rattle.store_opening.specs.Sound.{IsKept}
+use Rattle.store_opening.proofs.Clean.{name_is_name}
 use Rattle.build_store.proofs.Rows.{row_has, row_named}
 use Rattle.build_store.proofs.Stays.{IsOther, held_stays}
 
@@ -150,7 +150,3 @@ kept_restored rows s a b was run laid = record {
     by : (i k : Store) → AllByRecursion (IsHeld i) rows → Restores a.held rows s i k → AllByRecursion (IsHeld k) rows
     by i k held (inl same) = subst (λ (h : Store). AllByRecursion (IsHeld h) rows) (sym same) held
     by i k held (inr w) = held_stays (restoration s w.row w.tree) rows i k (old_rows (name_of s.sig) rows) w.publishes held
-
--- nothing is restored where no row has the name
-pub no_row_object : (held : Store) (rows : List EquivRow) (s : Signed) → row_at rows (name_of s.sig) ≡ None → HasNoObject held rows s
-no_row_object held rows s none row tree o = let k : None ≡ Some row = sym none ∙ o.stored.is_row in cc

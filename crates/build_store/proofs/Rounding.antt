@@ -11,12 +11,12 @@ use Rattle.outside_traits.specs.Passes.{Passes, Same}
 use Rattle.outside_traits.proofs.Calls.{same_so}
 use Rattle.outside_traits.proofs.Folders.{under_same}
 use Rattle.outside_traits.proofs.Runs.{passes_so, passes_then}
-use Rattle.stamp_store.specs.Stamp.{old_path, staged_path, stamp_path}
+use Rattle.stamp_store.specs.Stamp.{TakesAway, staged_path, stamp_path}
 use Rattle.store_model.specs.Available.{object_folder}
 use Rattle.build_store.specs.Phases.{Settles, SharesRound, Stages}
 use Rattle.build_store.specs.Publication.{KeepsOthers}
 use Rattle.store_model.specs.Publication.{stamp_at, work_at}
-use Rattle.build_store.proofs.Areas.{apart_by_first, differ, heads, heads_differ}
+use Rattle.store_opening.proofs.Areas.{apart_by_first, differ, heads, heads_differ}
 
 -- what lies in a folder, or above one, begins as it does
 pub begins : (c : ℕ) (ps q : List ℕ) → IsAtOrBelow (c ∷ ps) q → (rest : List ℕ) × (q ≡ c ∷ rest)
@@ -100,8 +100,8 @@ module _ (folder : List ℕ) (object : Option Hash) where
   leaves_by_object {a} run = passes_so (KeepsOthers folder object a.held) run (by_object a.held)
 
   -- the stamp is taken away
-  pub leaves_by_aside : {x : Option Entry} {a b : Story} → Passes a b (Moves (stamp_path folder) (old_path folder) x) → Leaves a b
-  leaves_by_aside {x} {a} run = passes_so (KeepsOthers folder object a.held) run (λ i j move.
+  pub leaves_by_aside : {a b : Story} → Passes a b (TakesAway folder) → Leaves a b
+  leaves_by_aside {a} run = passes_so (KeepsOthers folder object a.held) run (λ i j move.
       elsewhere a.held i j
       (λ other ne. move.others (stamp_at other) (λ same. ne (under_same (codes "stamp") other folder same)) (heads_differ (differ 115 116 refl)))
       (λ rest. move.others (119 ∷ rest) (heads_differ (differ 119 115 refl)) (heads_differ (differ 119 116 refl)))
@@ -141,6 +141,3 @@ shares_round object unihash h i j is round = record {
       let same : other ≡ unihash = cc in
       round.around q (inr (subst (λ (u : Hash). IsBelow q (object_folder u)) same up)) none;
 }
-
-pub shares_none : (object : Option Hash) (h i : Store) → SharesRound object h i i
-shares_none object h i = record { others = λ q apart. refl; above = λ unihash is q up none. refl }

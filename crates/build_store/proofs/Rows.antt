@@ -1,5 +1,5 @@
 -- Rows by their names.
-use Rattle.std.proofs.Common.{◌≡◌, ◌∙◌, sym, ap, subst, refl, ℕ, List, Option, Some, None}
+use Rattle.std.proofs.Common.{◌≡◌, ◌∙◌, sym, ap, subst, ℕ, List, Option, Some, None}
 use Rattle.std.specs.Prelude.{IfSome}
 use Rattle.std.specs.List.{AllByRecursion}
 use Rattle.sha2.specs.Sha256.{sha256}
@@ -16,7 +16,8 @@ use Rattle.build_store.specs.declared.fault.StoreFault.{StoreFault}
 use Rattle.build_store.specs.declared.fault.StoreFault.TheVariants as fault
 use Rattle.build_store.specs.Faults.{IsClash, IsOtherSignature}
 use Rattle.store_model.specs.Readable.{IsRow}
-use Rattle.build_store.proofs.Sorted.{each_at}
+use Rattle.store_opening.proofs.Hexed.{name_digest}
+use Rattle.store_opening.proofs.Sorted.{each_at}
 
 -- what each row has, the row of a name has
 pub row_has : (P : EquivRow → Type 0) (rows : List EquivRow) (name : Hash) (row : EquivRow) → AllByRecursion P rows → row_at rows name ≡ Some row → P row
@@ -26,11 +27,6 @@ row_has P rows name row all is =
 
 pub row_named : (rows : List EquivRow) (name : Hash) (row : EquivRow) → row_at rows name ≡ Some row → row.name ≡ name
 row_named rows name row is = hash_same row.name name (find_splits (λ r. hash_eq r.name name) rows row is).1
-
--- a name is the digest of its signature
-pub name_digest : (sig : SigRecord) → (name_of sig).bytes ≡ sha256 (signature_bytes sig)
-unfolding name_of
-name_digest sig = refl
 
 same_name : (one other : SigRecord) → signature_bytes one ≡ signature_bytes other → name_of one ≡ name_of other
 unfolding name_of

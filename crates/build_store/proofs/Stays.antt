@@ -22,15 +22,15 @@ use Rattle.store_model.specs.Spelling.{name_of}
 use Rattle.store_model.proofs.Digests.{same_name_text}
 use Rattle.store_model.proofs.Listing.{find_nothing, find_splits, hash_itself}
 use Rattle.store_model.proofs.Ordered.{each_append, each_middle}
-use Rattle.build_store.specs.Named.{IsName}
-use Rattle.build_store.specs.Paths.{IsLaidOut}
+use Rattle.store_opening.specs.Named.{IsName}
+use Rattle.store_opening.specs.Paths.{IsLaidOut}
 use Rattle.store_model.specs.Paths.{record_path}
 use Rattle.store_model.specs.Publication.{Publication}
 use Rattle.build_store.specs.Publication.{Publishes, object_for, publication, unihash_for}
 use Rattle.store_model.specs.Readable.{IsHeld, IsRow}
-use Rattle.build_store.specs.Sound.{IsKept}
-use Rattle.build_store.proofs.Areas.{apart_by_first, differ, heads_differ}
-use Rattle.build_store.proofs.Clean.{hash_is_name, name_is_name}
+use Rattle.store_opening.specs.Sound.{IsKept}
+use Rattle.store_opening.proofs.Areas.{apart_by_first, differ, heads_differ}
+use Rattle.store_opening.proofs.Clean.{hash_is_name, name_is_name}
 use Rattle.build_store.proofs.Rows.{row_has}
 
 -- ---- unihashes are digests

@@ -3,7 +3,6 @@ use Rattle.std.proofs.Common.{◌≡◌, ◌≢◌, ◌∙◌, sym, ap, subst, r
 use Rattle.std.specs.Prelude.{codes, find}
 use Rattle.std.specs.Option.{option_map}
 use Rattle.std.specs.Str.{bytes_eq}
-use Rattle.std.specs.List.{AllByRecursion}
 use Rattle.std.proofs.lemmas.List.{map-append}
 use Rattle.tree_model.specs.Hash.{hash_text}
 use Rattle.tree_model.specs.Path.{inside}
@@ -11,21 +10,19 @@ use Rattle.tree_model.specs.Tree.{entry_at}
 use Rattle.outside_traits.specs.Store.{Store}
 use Rattle.outside_traits.proofs.Folders.{under_same}
 use Rattle.outside_traits.proofs.Puts.{path_cases}
-use Rattle.meta_model.proofs.Bools.{either_way, same_text, text_itself}
+use Rattle.meta_model.proofs.Bools.{either_way, same_text}
 use Rattle.meta_model.specs.CleanBuild.{Gives}
 use Rattle.store_model.specs.Origins.{Book, Line, Reading}
 use Rattle.store_model.specs.Spelling.{name_of}
 use Rattle.store_model.specs.Valid.{IsValid, IsValidLine, StandsIn, record_entry}
-use Rattle.store_model.proofs.Digests.{same_name_text}
-use Rattle.store_model.proofs.Listing.{find_behind}
-use Rattle.store_model.proofs.Ordered.{map_each}
-use Rattle.store_model.proofs.Standing.{each_line, split_last}
+use Rattle.store_model.proofs.Standing.{split_last}
 use Rattle.store_model.specs.Lines.{HasLine}
 use Rattle.build_store.specs.Laws.{IsOfLine, PublishedIsValid}
 use Rattle.store_model.specs.Paths.{record_path}
 use Rattle.store_model.specs.Publication.{Publication}
 use Rattle.build_store.specs.Publication.{Publishes}
-use Rattle.build_store.proofs.Areas.{apart_by_first, differ, heads_differ}
+use Rattle.store_opening.proofs.Areas.{apart_by_first, differ, heads_differ}
+use Rattle.store_opening.proofs.SameLines.{entry_of_line}
 
 -- ---- the records of a book
 
@@ -37,22 +34,7 @@ find_last p (x ∷ xs) y f = by (p x) refl (find_last p xs y f)
     by true e more = simp e
     by false e more = simp e more
 
--- no earlier line has this text for its name
-unlike : (before : Book) (line : Line) (path : List ℕ) → hash_text (name_of line.sig) ≡ path → ((behind : Book) (l : Line) → StandsIn before behind l → name_of l.sig ≢ name_of line.sig) → AllByRecursion (λ e. bytes_eq e.0 path ≡ false) (map record_entry before)
-unlike before line path is new = map_each record_entry (λ e. bytes_eq e.0 path ≡ false) before (each_line (λ l. bytes_eq (hash_text (name_of l.sig)) path ≡ false) before (λ behind l s.
-    elim (either_way (bytes_eq (hash_text (name_of l.sig)) path)) [
-      | inl t ↦ absurd (new behind l s (same_name_text l.sig line.sig (same_text (hash_text (name_of l.sig)) path t ∙ sym is)))
-      | inr f ↦ f
-    ]))
-
--- what a book says of a line's name
-pub entry_of_line : (before rest : Book) (line : Line) → ((behind : Book) (l : Line) → StandsIn before behind l → name_of l.sig ≢ name_of line.sig) → entry_at (map record_entry (before ++ line ∷ rest)) (hash_text (name_of line.sig)) ≡ Some (record_entry line).1
-entry_of_line before rest line new =
-    let path = hash_text (name_of line.sig) in
-    ap (λ l. entry_at l path) (map-append record_entry before (line ∷ rest))
-    ∙ ap (option_map (λ e. e.1)) (find_behind (λ e. bytes_eq e.0 path) (map record_entry before) (record_entry line) (map record_entry rest) (unlike before line path refl new) (text_itself path))
-
--- and of another's with a line behind
+-- what a book says of another name, with a line behind
 entry_beside : (book : Book) (line : Line) (path : List ℕ) → hash_text (name_of line.sig) ≢ path → entry_at (map record_entry (book ++ line ∷ [])) path ≡ entry_at (map record_entry book) path
 entry_beside book line path ne =
     ap (λ l. entry_at l path) (map-append record_entry book (line ∷ []))

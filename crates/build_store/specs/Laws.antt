@@ -15,7 +15,7 @@ use Rattle.store_model.specs.Spelling.{name_of}
 use Rattle.store_model.specs.Valid.{IsValid, IsValidBook, IsValidLine, stored_of}
 use Rattle.store_model.specs.Publication.{Publication, record_file}
 use Rattle.store_model.specs.Lines.{HasLine, KeepsWork}
-use Rattle.build_store.specs.Paths.{HasPlace, IsOnePart}
+use Rattle.store_opening.specs.Paths.{HasPlace, IsOnePart}
 use Rattle.build_store.specs.Publication.{KeepsOthers, Publishes}
 
 -- the publication's record is that of the line

@@ -1,15 +1,9 @@
-pub mod Paths
 pub mod View
 pub mod Publication
-pub mod Named
 pub mod Phases
 pub mod Restoring
-pub mod Sound
 pub mod Faults
 pub mod Drafts
 pub mod Outcome
 pub mod Finding
-pub mod Opening
-pub mod Survey
 pub mod Laws
-pub mod Reopened

@@ -7,7 +7,8 @@ use Rattle.tree_model.specs.Path.{IsBelow}
 use Rattle.outside_traits.specs.Store.{IsApart, Store}
 use Rattle.meta_model.specs.CleanBuild.{Entries}
 use Rattle.store_model.specs.Available.{object_folder}
-use Rattle.build_store.specs.Paths.{IsLaidOut, staged_record_path}
+use Rattle.stamp_store.specs.Stamp.{staged_path}
+use Rattle.store_opening.specs.Paths.{IsLaidOut, staged_record_path}
 use Rattle.store_model.specs.Paths.{record_path}
 use Rattle.store_model.specs.Publication.{Publication, work_at}
 
@@ -33,6 +34,14 @@ pub record Stages (name : Hash) (file : Option Entry) (old new : Store) : Type 0
   pub others : (q : List ℕ) → (IsBelow (codes "tmp") q → ⊥) → (IsSome file → q ≢ record_path name) → new q ≡ old q
   pub stored : (new (record_path name) ≡ old (record_path name)) ⊎ ((e : Entry) × (file ≡ Some e) × (new (record_path name) ≡ Some e))
   pub laid_out : IsLaidOut old → IsLaidOut new
+
+-- Nothing else is written than the record's file, if it is new, and the stamp, where they are staged.
+pub record AddsStaged (folder : List ℕ) (name : Hash) (file : Option Entry) (old new : Store) : Type 0 where
+  pub others : (q : List ℕ) → q ≢ staged_path folder → (IsSome file → q ≢ staged_record_path name) → new q ≡ old q
+
+-- the same, without the stamp
+pub record AddsStagedFile (name : Hash) (file : Option Entry) (old new : Store) : Type 0 where
+  pub others : (q : List ℕ) → (IsSome file → q ≢ staged_record_path name) → new q ≡ old q
 
 -- the record's file is staged, if it is new
 abbrev pub IsStagedFile : Hash → Option Entry → Store → Type 0

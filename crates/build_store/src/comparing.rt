@@ -7,10 +7,10 @@ ghost use Rattle.build_store.specs.Faults.{IsClash, IsOtherSignature, store_fail
 ghost use Rattle.store_model.specs.Readable.{IsRow};
 
 use crate::fault::StoreFault;
-use crate::naming::same_bytes;
 use hash_equiv::Index;
 use std::alloc::Global;
 use store_model::EquivRow;
+use store_opening::same_bytes;
 use tree_model::{Bytes, Hash};
 
 /// Compares a signature with that of a row.

@@ -18,14 +18,15 @@ ghost use Rattle.build_store.specs.View.{signed_by};
 
 use crate::comparing::compare_row;
 use crate::fault::StoreFault;
-use crate::naming::{name_of_sig, same_bytes};
-use crate::places::{stamp_at, task_folder, work_at, work_folder};
+use crate::naming::name_of_sig;
+use crate::places::{stamp_at, task_folder, work_folder};
 use hash_equiv::Index;
-use meta_model::{Avail, PlanTask};
+use meta_model::{Avail, MAX_OUTPUT_PATH, PlanTask};
 use outside_traits::{Disk, DiskFault, read_tree};
 use sstate_objects::{read_matching, read_verified};
 use std::alloc::Global;
 use store_model::{EquivRow, SigRecord};
+use store_opening::same_bytes;
 use tree_model::{Entry, Hash, Manifest, Size, Tree};
 
 /// The most of an output: entries, bytes of one entry, bytes of all together.
@@ -35,9 +36,6 @@ const MAX_OUTPUT: Size = Size {
     bytes: 33_554_432,
 };
 
-/// The most bytes of a path of an output.
-const MAX_PATH: usize = 3072;
-
 /// Whether no path of a tree has more bytes than an output may have.
 pub(crate) fn are_short(tree: &Tree) -> bool
     ensures short { IsTrue result ↔ All (λ e. length e.0 ≤ 3072) tree.now }
@@ -45,7 +43,7 @@ pub(crate) fn are_short(tree: &Tree) -> bool
 {
     tree.entries()
         .iter()
-        .all(|entry| entry.0.as_str().len() <= MAX_PATH)
+        .all(|entry| entry.0.as_str().len() <= MAX_OUTPUT_PATH)
 }
 
 /// The tree, where no path is too long.

@@ -14,7 +14,8 @@
 //!
 //! Opening keeps a valid store valid where its records can be read, with the same lines in an order that what is held decides
 //! (`opened_is_valid`), all that is available (`opened_stays`), and what a plan may reuse (`reuse_again`). The records that `publish`
-//! stores can be read.
+//! stores can be read. Opening makes way for folders, and leaves nothing under `tmp/` (`opened_has_way`); where nothing is held there,
+//! `publish` and `restore` leave nothing either, unless they answer with a fault (`swept`).
 //!
 //! Opening reads each file under `rec/` and `stamp/`. What the files under `rec/` say another thread may have worked out before (`Known`,
 //! `Ahead`): that counts only where opening reads just these files, so whatever was left there, no clause is another.
@@ -31,26 +32,20 @@ mod comparing;
 mod drafting;
 mod fault;
 mod finding;
-mod judging;
 mod keeping;
 mod kept;
-mod known;
 mod laws;
 mod naming;
-mod opening;
 mod places;
 mod publication;
 mod publishing;
-mod records;
 mod refused;
 mod restoring;
-mod stamps;
 mod store;
-mod survey;
 
 pub use fault::StoreFault;
 pub use kept::KeptSig;
-pub use known::{Ahead, Known};
-pub use laws::{opened_is_valid, opened_stays, others_stay, published_is_valid, reuse_again};
+pub use laws::{others_stay, published_is_valid};
 pub use refused::OpenRefused;
 pub use store::{Store, open_store};
+pub use store_opening::{Ahead, Known, opened_has_way, opened_is_valid, opened_stays, reuse_again};

@@ -1,5 +1,5 @@
 // Signatures with their bytes and their names.
-ghost use Rattle.std.specs.Prelude.{◌≡◌, ◌↔◌, IfOk, IsTrue};
+ghost use Rattle.std.specs.Prelude.{◌≡◌, IfOk};
 ghost use Rattle.store_model.specs.Spelled.{IsSpelled};
 ghost use Rattle.store_model.specs.Spelling.{name_of, signature_bytes};
 ghost use Rattle.sig_gen.specs.Sound.{Spells};
@@ -25,11 +25,4 @@ pub(crate) fn name_of_sig(alloc: Global, sig: &SigRecord) -> Result<Named, Mem>
     let bytes = encode(alloc, sig)?;
     let name = name_by(bytes.as_slice());
     Ok(Named { bytes, name })
-}
-
-/// Whether two byte strings are the same.
-pub(crate) fn same_bytes(one: &[u8], other: &[u8]) -> bool
-    ensures { IsTrue result ↔ (one.now ≡ other.now) }
-{
-    one == other
 }

@@ -1,12 +1,13 @@
 // Where a task's files stand.
-ghost use Rattle.std.specs.Prelude.{◌≡◌, IfOk, codes};
-ghost use Rattle.tree_model.specs.Path.{inside};
+ghost use Rattle.std.specs.Prelude.{◌≡◌, IfOk};
 ghost use Rattle.store_model.specs.Available.{task_folder, work_folder};
-ghost use Rattle.store_model.specs.Publication.{stamp_at, work_at};
+ghost use Rattle.store_model.specs.Publication.{stamp_at};
+ghost use Rattle.store_opening.specs.Paths.{staged_record_path};
 
 use meta_model::PlanTask;
 use std::alloc::Global;
-use tree_model::{Mem, Text};
+use store_opening::work_at;
+use tree_model::{Hash, Mem, Text};
 
 /// A task's folder: its PN and its name.
 pub(crate) fn task_folder(alloc: Global, task: &PlanTask) -> Result<Text, Mem>
@@ -16,15 +17,6 @@ pub(crate) fn task_folder(alloc: Global, task: &PlanTask) -> Result<Text, Mem>
     folder.push_str("/")?;
     folder.push_str(task.id.task.as_str())?;
     Ok(folder)
-}
-
-/// Where a task's output stands.
-pub(crate) fn work_at(alloc: Global, folder: &str) -> Result<Text, Mem>
-    ensures { IfOk result (λ path. path ≡ work_at folder.now) }
-{
-    let mut path = Text::from_str(alloc, "work/")?;
-    path.push_str(folder)?;
-    Ok(path)
 }
 
 /// Where a task's stamp stands.
@@ -42,4 +34,13 @@ pub(crate) fn work_folder(alloc: Global, task: &PlanTask) -> Result<Text, Mem>
 {
     let folder = task_folder(alloc, task)?;
     work_at(alloc, folder.as_str())
+}
+
+/// Where a record is written first.
+pub(crate) fn staged_record_path(alloc: Global, name: &Hash) -> Result<Text, Mem>
+    ensures { IfOk result (λ path. path ≡ staged_record_path name.now) }
+{
+    let mut path = Text::from_str(alloc, "tmp/rec/")?;
+    path.push_str(name.text(alloc)?.as_str())?;
+    Ok(path)
 }

@@ -1,5 +1,5 @@
 // What a publication does to a disk, one phase after the other.
-ghost use Rattle.std.specs.Prelude.{◌≡◌, ◌≤◌, OnOk, Some, IsSome};
+ghost use Rattle.std.specs.Prelude.{◌≡◌, ◌≤◌, ◌⊎◌, OnOk, None, Some, IsSome};
 ghost use Rattle.tree_model.specs.declared.entry.Entry.{Entry as AnEntry};
 ghost use Rattle.tree_model.specs.declared.hash.Hash.{Hash as AHash};
 ghost use Rattle.outside_traits.specs.Answers.{IsSettled};
@@ -7,19 +7,20 @@ ghost use Rattle.outside_traits.specs.Fault.{Counts, disk_failed};
 ghost use Rattle.outside_traits.specs.Passes.{EachNow, Passes, Same};
 ghost use Rattle.outside_traits.specs.Store.{AgreesApart, AgreesRound, ChangesAt, HoldsTree, Moves};
 ghost use Rattle.stamp_store.specs.Stamp.{IsFolder, staged_path};
-ghost use Rattle.build_store.specs.Paths.{IsLaidOut, staged_record_path};
+ghost use Rattle.store_opening.specs.Paths.{IsLaidOut, staged_record_path};
 ghost use Rattle.store_model.specs.Paths.{record_path, slashes};
-ghost use Rattle.build_store.specs.Phases.{IsFileOf, IsStagedFile, IsStoredFile, Lays, Settles, Shares, SharesRound, Stages, put_of};
+ghost use Rattle.build_store.specs.Phases.{AddsStaged, AddsStagedFile, IsFileOf, IsStagedFile, IsStoredFile, Lays, Settles, Shares, SharesRound, Stages, put_of};
 ghost use Rattle.build_store.specs.Publication.{AreShort, HoldsObject, IsPublished, KeepsOthers, Publishes, SameObjects};
+ghost use Rattle.store_model.specs.Opened.{HasNoLitter};
 ghost use Rattle.store_model.specs.Publication.{stamp_file, work_at};
-ghost use Rattle.build_store.specs.Named.{IsName};
+ghost use Rattle.store_opening.specs.Named.{IsName};
 
-use crate::places::work_at;
-use crate::records::{record_path, staged_record_path};
+use crate::places::staged_record_path;
 use outside_traits::{Disk, DiskFault, put_tree};
 use sstate_objects::put_object;
 use stamp_store::{invalidate, stage, stamp};
 use std::alloc::Global;
+use store_opening::{record_path, work_at};
 use tree_model::{Entry, Hash, Tree};
 
 /// Makes a task's work folder the tree.
@@ -124,6 +125,7 @@ fn stage_record<D: Disk>(
     requires name { IsName name.now }
     requires laid_out { D.tells → IsLaidOut (D.story disk.old).held }
     ensures staged { D.tells → OnOk result (IsStagedFile name.now file.now (D.story disk.new).held) }
+    ensures adds { D.tells → AddsStagedFile name.now file.now (D.story disk.old).held (D.story disk.new).held }
     ensures others { D.tells → Passes (D.story disk.old) (D.story disk.new) (Stages name.now file.now) }
     ensures cause { Counts (D.faults disk.old) (D.faults disk.new) (disk_failed result) }
 {
@@ -150,6 +152,8 @@ fn stage_all<D: Disk>(
     ensures stamp { D.tells → OnOk result ((D.story disk.new).held (staged_path folder.now)
         ≡ Some (stamp_file name.now)) }
     ensures synced { D.tells → OnOk result (EachNow (D.story disk.new) (λ image. image ≡ (D.story disk.new).held)) }
+    ensures adds { D.tells → OnOk result (AddsStaged folder.now name.now file.now (D.story disk.old).held
+        (D.story disk.new).held) }
     ensures others { D.tells → Passes (D.story disk.old) (D.story disk.new) (Stages name.now file.now) }
     ensures cause { Counts (D.faults disk.old) (D.faults disk.new) (disk_failed result) }
 {
@@ -166,6 +170,7 @@ fn rename_record<D: Disk>(alloc: Global, disk: &mut D, name: &Hash) -> Result<()
     requires settled { D.tells → IsSettled (staged_record_path name.now) (D.story disk.old) }
     ensures stored { D.tells → OnOk result ((D.story disk.new).held (record_path name.now)
         ≡ (D.story disk.old).held (staged_record_path name.now)) }
+    ensures swept { D.tells → OnOk result ((D.story disk.new).held (staged_record_path name.now) ≡ None) }
     ensures synced { D.tells → OnOk result (EachNow (D.story disk.new) (λ image. image ≡ (D.story disk.new).held)) }
     ensures others { D.tells → Passes (D.story disk.old) (D.story disk.new)
         (Moves (staged_record_path name.now) (record_path name.now)
@@ -191,6 +196,9 @@ fn settle_record<D: Disk>(
     requires staged { D.tells → IsStagedFile name.now file.now (D.story disk.old).held }
     requires synced { D.tells → EachNow (D.story disk.old) (λ image. image ≡ (D.story disk.old).held) }
     ensures stored { D.tells → OnOk result (IsStoredFile name.now file.now (D.story disk.new).held) }
+    ensures swept { D.tells → OnOk result (IsSome file.now
+        ⊎ ((D.story disk.old).held (staged_record_path name.now) ≡ None)
+        → (D.story disk.new).held (staged_record_path name.now) ≡ None) }
     ensures synced { D.tells → OnOk result (EachNow (D.story disk.new) (λ image. image ≡ (D.story disk.new).held)) }
     ensures others { D.tells → Passes (D.story disk.old) (D.story disk.new) (Settles name.now file.now) }
     ensures cause { Counts (D.faults disk.old) (D.faults disk.new) (disk_failed result) }
@@ -222,6 +230,7 @@ pub(crate) fn put<D: Disk>(
     requires laid_out { D.tells → IsLaidOut (D.story disk.old).held }
     ensures published { D.tells → OnOk result ((f : AnEntry) → IsFileOf name.now file.now (D.story disk.old).held f
         → EachNow (D.story disk.new) (IsPublished (put_of folder.now name.now tree.now object.now file.now f))) }
+    ensures swept { D.tells → OnOk result (HasNoLitter (D.story disk.old).held → HasNoLitter (D.story disk.new).held) }
     ensures unwritten { D.tells → HoldsObject (D.story disk.old).held object.now tree.now
         → Passes (D.story disk.old) (D.story disk.new) SameObjects }
     ensures others { D.tells → (f : AnEntry) → IsFileOf name.now file.now (D.story disk.old).held f

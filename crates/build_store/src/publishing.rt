@@ -1,5 +1,5 @@
 // Publishing what tasks gave.
-ghost use Rattle.std.specs.Prelude.{◌≡◌, ◌≤◌, ◌⊎◌, ◌++◌, ◌∷◌, [], IfErr, IfOk, IfSome, None, OnErr, OnOk, Some, false, if◌then◌else◌};
+ghost use Rattle.std.specs.Prelude.{◌≡◌, ◌≤◌, ◌⊎◌, IfErr, IfOk, IfSome, None, OnErr, OnOk, Some, false, if◌then◌else◌};
 ghost use Rattle.std.specs.List.{AllByRecursion};
 ghost use Rattle.tree_model.specs.Manifest.{manifest_lines};
 ghost use Rattle.tree_model.specs.declared.entry.Entry.{Entry as AnEntry};
@@ -12,11 +12,12 @@ ghost use Rattle.store_model.specs.Spelled.{IsSpelled};
 ghost use Rattle.store_model.specs.Spelling.{name_of};
 ghost use Rattle.build_store.specs.Drafts.{IsDraft, file_of, row_of_new, rows_behind};
 ghost use Rattle.build_store.specs.Faults.{IsOutside, IsRefusal, OnDifference, OnMemory, store_failed};
-ghost use Rattle.build_store.specs.Named.{IsName};
-ghost use Rattle.build_store.specs.Paths.{HasPlace, IsLaidOut};
+ghost use Rattle.store_opening.specs.Named.{IsName};
+ghost use Rattle.store_opening.specs.Paths.{HasPlace, IsLaidOut};
 ghost use Rattle.build_store.specs.Phases.{IsFileOf, put_of};
 ghost use Rattle.build_store.specs.Publication.{AreShort, HoldsObject, IsAgreed, IsPublished, KeepsOthers, Publishes, SameObjects, line_for, object_for, publication, rows_with, unihash_for};
-ghost use Rattle.build_store.specs.Sound.{IsKept};
+ghost use Rattle.store_opening.specs.Sound.{IsKept};
+ghost use Rattle.store_model.specs.Opened.{HasNoLitter};
 ghost use Rattle.store_model.specs.Readable.{IsReadable, IsRow};
 ghost use Rattle.build_store.specs.View.{kept_with, kept_without, signed_by};
 
@@ -26,11 +27,12 @@ use crate::keeping::{forget, keep};
 use crate::kept::KeptSig;
 use crate::places::task_folder;
 use crate::publication::put;
-use hash_equiv::{EquivFault, Index};
+use hash_equiv::Index;
 use meta_model::PlanTask;
 use outside_traits::{Disk, DiskFault};
 use std::alloc::Global;
 use store_model::{EquivRow, SigRecord};
+use store_opening::add_new;
 use tree_model::{Entry, Hash, Manifest, Mem, Tree};
 
 /// Puts a task's tree, under the name of its record.
@@ -52,6 +54,7 @@ pub(crate) fn put_task<D: Disk>(
     ensures published { D.tells → OnOk result ((f : AnEntry) → IsFileOf name.now file.now (D.story disk.old).held f
         → EachNow (D.story disk.new) (IsPublished (put_of (task_folder task.now) name.now tree.now object.now file.now
         f))) }
+    ensures swept { D.tells → OnOk result (HasNoLitter (D.story disk.old).held → HasNoLitter (D.story disk.new).held) }
     ensures unwritten { D.tells → HoldsObject (D.story disk.old).held object.now tree.now
         → Passes (D.story disk.old) (D.story disk.new) SameObjects }
     ensures others { D.tells → (f : AnEntry) → IsFileOf name.now file.now (D.story disk.old).held f
@@ -68,20 +71,6 @@ pub(crate) fn put_task<D: Disk>(
         Ok(()) => Ok(()),
         Err(DiskFault::Failed) => Err(StoreFault::Disk),
         Err(DiskFault::Memory) => Err(StoreFault::Memory),
-    }
-}
-
-/// Adds a row whose name has none.
-pub(crate) fn add_new(alloc: Global, index: &mut Index, row: EquivRow) -> Result<(), Mem>
-    requires { row_at index.old row.name ≡ None }
-    ensures ok { OnOk result (index.new ≡ index.old ++ row ∷ []) }
-    ensures err { OnErr result (index.new ≡ index.old) }
-{
-    match index.add(alloc, row) {
-        Ok(()) => Ok(()),
-        Err(EquivFault::Memory) => Err(Mem),
-        Err(EquivFault::Collision { held: _, given: _ }) => unreachable!(),
-        Err(EquivFault::Unsteady { held: _, given: _ }) => unreachable!(),
     }
 }
 
@@ -138,6 +127,7 @@ fn put_draft<D: Disk>(
     ensures unihash { IfOk result (λ unihash. unihash ≡ unihash_for index.old (signed_by task.now sig.now) tree.now) }
     ensures published { D.tells → OnOk result (EachNow (D.story disk.new)
         (IsPublished (publication index.old (signed_by task.now sig.now) tree.now))) }
+    ensures swept { D.tells → OnOk result (HasNoLitter (D.story disk.old).held → HasNoLitter (D.story disk.new).held) }
     ensures rows { OnOk result (index.new ≡ rows_with index.old (signed_by task.now sig.now) tree.now) }
     ensures refused { IfErr result IsOutside }
     ensures refused_rows { OnErr result (index.new ≡ index.old) }
@@ -189,6 +179,7 @@ pub(crate) fn publish<D: Disk>(
     ensures unihash { IfOk result (λ unihash. unihash ≡ unihash_for index.old (signed_by task.now sig.now) tree.now) }
     ensures published { D.tells → OnOk result (EachNow (D.story disk.new)
         (IsPublished (publication index.old (signed_by task.now sig.now) tree.now))) }
+    ensures swept { D.tells → OnOk result (HasNoLitter (D.story disk.old).held → HasNoLitter (D.story disk.new).held) }
     ensures agrees { OnOk result (IsAgreed index.old (signed_by task.now sig.now) tree.now) }
     ensures rows { OnOk result (index.new ≡ rows_with index.old (signed_by task.now sig.now) tree.now) }
     ensures kept { OnOk result (kept.new.items ≡ kept_without (signed_by task.now sig.now) kept.old.items) }

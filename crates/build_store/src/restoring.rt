@@ -13,10 +13,11 @@ ghost use Rattle.store_model.specs.Rows.{IsClear};
 ghost use Rattle.build_store.specs.Faults.{IsClash, IsOutside, store_failed};
 ghost use Rattle.build_store.specs.Finding.{IsOtherOrOutside};
 ghost use Rattle.build_store.specs.Restoring.{IsPutBack, PutsBack};
-ghost use Rattle.build_store.specs.Paths.{HasPlace, IsLaidOut};
+ghost use Rattle.store_opening.specs.Paths.{HasPlace, IsLaidOut};
 ghost use Rattle.build_store.specs.Publication.{AreShort, HasNoObject, IsRestored, KeepsOthers, Restores};
+ghost use Rattle.store_model.specs.Opened.{HasNoLitter};
 ghost use Rattle.store_model.specs.Readable.{HasShortPaths, IsRow};
-ghost use Rattle.build_store.specs.Sound.{IsKept};
+ghost use Rattle.store_opening.specs.Sound.{IsKept};
 ghost use Rattle.build_store.specs.View.{signed_by};
 
 use crate::comparing::compare_row;
@@ -79,6 +80,7 @@ fn restore_by<D: Disk>(
         (Matches (D.story disk.old).held (object_folder row.now.unihash) row.now.manifest → ⊥)) }
     ensures unchanged { D.tells → IfOk result (λ found. OnFalse found
         (Passes (D.story disk.old) (D.story disk.new) Same)) }
+    ensures swept { D.tells → OnOk result (HasNoLitter (D.story disk.old).held → HasNoLitter (D.story disk.new).held) }
     ensures images { D.tells → PutsBack task.now row.now (D.story disk.old) (D.story disk.new) }
     ensures laid_out { D.tells → IsLaidOut (D.story disk.new).held }
     ensures refused { IfErr result IsOutside }
@@ -114,6 +116,7 @@ fn restore_at<D: Disk>(
         (Matches (D.story disk.old).held (object_folder row.now.unihash) row.now.manifest → ⊥)) }
     ensures unchanged { D.tells → IfOk result (λ found. OnFalse found
         (Passes (D.story disk.old) (D.story disk.new) Same)) }
+    ensures swept { D.tells → OnOk result (HasNoLitter (D.story disk.old).held → HasNoLitter (D.story disk.new).held) }
     ensures clear { OnOk result (row.now.sig ≡ sig.now) }
     ensures images { D.tells → PutsBack task.now row.now (D.story disk.old) (D.story disk.new) }
     ensures other { D.tells → (row.now.sig ≡ sig.now → ⊥) → Passes (D.story disk.old) (D.story disk.new) Same }
@@ -145,6 +148,7 @@ pub(crate) fn restore<D: Disk>(
         (HasNoObject (D.story disk.old).held index.now (signed_by task.now sig.now))) }
     ensures unchanged { D.tells → IfOk result (λ found. OnFalse found
         (Passes (D.story disk.old) (D.story disk.new) Same)) }
+    ensures swept { D.tells → OnOk result (HasNoLitter (D.story disk.old).held → HasNoLitter (D.story disk.new).held) }
     ensures clear { OnOk result (IsClear index.now (name_of sig.now) (signature_bytes sig.now)) }
     ensures refused { IfErr result (IsClash index.now (name_of sig.now) (signature_bytes sig.now)) }
     ensures images { D.tells → Passes (D.story disk.old) (D.story disk.new)

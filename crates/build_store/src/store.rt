@@ -13,10 +13,10 @@ ghost use Rattle.store_model.specs.Spelling.{name_of, signature_bytes};
 ghost use Rattle.sig_gen.specs.Sound.{IsNameBy};
 ghost use Rattle.build_store.specs.Faults.{IsClash, IsOutside, IsRefusal, OnDifference, OnMemory, store_failed};
 ghost use Rattle.build_store.specs.Finding.{IsAnswered, IsOutput};
-ghost use Rattle.build_store.specs.Opening.{Clears};
-ghost use Rattle.store_model.specs.Opened.{IsOpened};
+ghost use Rattle.store_opening.specs.Opening.{Clears};
+ghost use Rattle.store_model.specs.Opened.{HasNoLitter, IsOpened};
 ghost use Rattle.build_store.specs.Outcome.{disk_of, open_failed};
-ghost use Rattle.build_store.specs.Paths.{HasPlace};
+ghost use Rattle.store_opening.specs.Paths.{HasPlace};
 ghost use Rattle.build_store.specs.Publication.{AreShort, HasNoObject, HoldsObject, IsAgreed, IsPublished, IsRestored, KeepsOthers, Publishes, Restores, SameObjects, line_for, object_for, publication, rows_with, unihash_for};
 ghost use Rattle.store_model.specs.Readable.{HoldsRecords, IsReadable};
 ghost use Rattle.build_store.specs.View.{IsSignatureOf, IsWanting, SameBooks, kept_with, kept_without, signed_by};
@@ -25,8 +25,6 @@ use crate::comparing::compare_at;
 use crate::fault::StoreFault;
 use crate::finding::{available, output};
 use crate::kept::KeptSig;
-use crate::known::Ahead;
-use crate::opening::open_disk;
 use crate::publishing::publish;
 use crate::refused::OpenRefused;
 use crate::restoring::restore;
@@ -36,6 +34,7 @@ use outside_traits::{Disk, DiskFault};
 use std::alloc::Global;
 use std::marker::Model;
 use store_model::SigRecord;
+use store_opening::{Ahead, open_disk};
 use tree_model::{Hash, Manifest, Tree};
 
 /// What runs of plans left on a disk, with the index of its records. Contracts see the disk, the rows and the kept signatures.
@@ -48,7 +47,7 @@ pub struct Store<D: Disk> {
 
 impl<D: Disk> Model for Store<D> {
     ghost use Rattle.build_store.specs.View.{View};
-    ghost use Rattle.build_store.specs.Sound.{IsKept};
+    ghost use Rattle.store_opening.specs.Sound.{IsKept};
     ghost use Rattle.store_model.specs.Readable.{IsRow};
     ghost use Rattle.std.specs.List.{AllByRecursion};
 
@@ -62,9 +61,10 @@ impl<D: Disk> Model for Store<D> {
 /// Opens the store that a disk holds, whatever that is.
 ///
 /// Records, stamps and temporary files are cleared up: all under `tmp/` goes, and of what is under `rec/` and `stamp/` just the believed
-/// records and the files that are stamps stay. The rows are those of the believed records, in an order in which what a record names
-/// stands before it: by depth, then by name. What is under `work/` and `obj/` is left alone. Then the disk is synced. (Own rule.) What
-/// `ahead` knows of just the files that are read spares the work on them, and nothing else.
+/// records and the files that are stamps stay, with nothing held above their work folders. What is held at `obj` itself goes. The rows are
+/// those of the believed records, in an order in which what a record names stands before it: by depth, then by name. What is under `work/`
+/// and `obj/` is left alone. Then the disk is synced. (Own rule.) What `ahead` knows of just the files that are read spares the work on
+/// them, and nothing else.
 ///
 /// Refused only where the disk failed or memory is wanting; the disk is given back then.
 pub fn open_store<D: Disk>(
@@ -178,6 +178,8 @@ impl<D: Disk> Store<D> {
             (signed_by task.now sig.now))) }
         ensures unchanged { D.tells → IfOk result (λ found. OnFalse found
             (Passes (D.story self.old.disk) (D.story self.new.disk) Same)) }
+        ensures swept { D.tells → OnOk result (HasNoLitter (D.story self.old.disk).held
+            → HasNoLitter (D.story self.new.disk).held) }
         ensures clear { OnOk result (IsClear self.old.rows (name_of sig.now) (signature_bytes sig.now)) }
         ensures refused { IfErr result (IsClash self.old.rows (name_of sig.now) (signature_bytes sig.now)) }
 
@@ -217,6 +219,8 @@ impl<D: Disk> Store<D> {
             ≡ unihash_for self.old.rows (signed_by task.now sig.now) tree.now) }
         ensures published { D.tells → OnOk result (EachNow (D.story self.new.disk)
             (IsPublished (publication self.old.rows (signed_by task.now sig.now) tree.now))) }
+        ensures swept { D.tells → OnOk result (HasNoLitter (D.story self.old.disk).held
+            → HasNoLitter (D.story self.new.disk).held) }
         ensures agrees { OnOk result (IsAgreed self.old.rows (signed_by task.now sig.now) tree.now) }
         ensures rows { OnOk result (self.new.rows ≡ rows_with self.old.rows (signed_by task.now sig.now) tree.now) }
         ensures kept { OnOk result (self.new.kept ≡ kept_without (signed_by task.now sig.now) self.old.kept) }

@@ -13,10 +13,7 @@ use override_eval::is_among;
 use std::alloc::Global;
 use std::marker::Model;
 use tree_model::{Mem, Text};
-use var_expand::holds_opening;
-
-/// The most bytes of an expanded text (own rule).
-const LONGEST: usize = 1_048_576;
+use var_expand::{LONGEST, holds_opening};
 
 /// Entries that are read one file after another. Contracts see all entries so far, in order, and the names of the classes
 /// of which the reading has begun, the last first.

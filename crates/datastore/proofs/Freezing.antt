@@ -1,13 +1,11 @@
 -- Names, conditions and lines, one after another.
-use Rattle.std.proofs.Common.{◌≡◌, refl, sym, ◌∙◌, ap, subst, ℕ, ◌+◌, ◌<◌, Bool, true, false, not, map, List, [], ◌∷◌, ◌++◌, length, get_or, take, drop, flat_map, filter, Option, Some, None, bytes_eq, Result, Ok, Err, append_assoc, append-nil}
-use Rattle.std.proofs.lemmas.List.{take_more}
-use Rattle.std.proofs.lemmas.List.Concat.{flat_map-append}
+use Rattle.std.proofs.Common.{◌≡◌, refl, sym, ◌∙◌, ap, subst, ℕ, ◌+◌, ◌<◌, Bool, true, false, not, map, List, [], ◌∷◌, ◌++◌, length, get_or, drop, flat_map, filter, Result, Ok, Err, append_assoc}
 use Rattle.meta_model.specs.declared.entry.EntryLine.{EntryLine}
 use Rattle.meta_model.specs.declared.entry.EntryLine.TheVariants.{Set, Later}
 use Rattle.meta_model.specs.declared.entry.Op.TheVariants.{Set as Assign, Weak}
 use Rattle.meta_model.specs.declared.entry.LateLine.{LateLine}
 use Rattle.meta_model.specs.Refusal.{Refusal, value_cycle, too_deep, too_long, unstable, ◌>>=◌}
-use Rattle.meta_model.specs.Base.{value_slot, flag_slot, lates, flag_in, flags_of, names}
+use Rattle.meta_model.specs.Base.{value_slot, lates, flags_of, names}
 use Rattle.meta_model.specs.Frozen.{Move, stays, moves, target_of, holds_reference, given, told_flag, conditions, told_lates, told, told_all, lines_where, is_task_line, frozen}
 use Rattle.var_expand.specs.declared.fault.ExpandFault.{ExpandFault}
 use Rattle.var_expand.specs.declared.fault.ExpandFault.TheVariants as expand
@@ -15,25 +13,10 @@ use Rattle.var_expand.specs.Faults.{IsFaultOf}
 use Rattle.datastore.specs.declared.fault.DataFault.{DataFault}
 use Rattle.datastore.specs.declared.fault.DataFault.TheVariants.{Unstable, Expand, Memory}
 use Rattle.datastore.specs.Faults.{IsDataFault}
-use Rattle.datastore.specs.Telling.{move_of, IsPushed, named_lines, value_lines, flag_lines, flag_told, told_kept, parted}
+use Rattle.value_maps.specs.Telling.{move_of, named_lines}
+use Rattle.datastore.specs.Telling.{IsPushed, parted}
 use Rattle.meta_model.specs.Passing.{behind}
 use Rattle.meta_model.proofs.Passing.{next_of}
-use Rattle.std.specs.BTreeMap.{get_by_text, IsOrdered}
-use Rattle.std.specs.String.{string_cmp}
-use Rattle.meta_model.proofs.Bools.{not_both, or_first, or_later, text_itself}
-use Rattle.meta_model.proofs.Winner.{filter_passes}
-use Rattle.meta_model.specs.Text.{is_in}
-use Rattle.meta_model.specs.Slot.{nothing, is_set}
-use Rattle.datastore.specs.declared.kept.Kept.{Kept}
-use Rattle.datastore.specs.declared.named.Named.{Named}
-use Rattle.datastore.specs.declared.maps.Maps.{Maps}
-use Rattle.datastore.specs.Kept.{slot_of, flag_kept}
-use Rattle.datastore.specs.Named.{slot_at, flag_at}
-use Rattle.datastore.specs.Maps.{named_at, Keeps}
-use Rattle.datastore.specs.Picked.{picked}
-use Rattle.datastore.specs.Left.{kept_set}
-use Rattle.meta_model.proofs.Ordered.{ordered_in}
-use Rattle.datastore.proofs.Naming.{flags_are, no_flags_of}
 
 -- faults
 
@@ -119,11 +102,6 @@ pub move_more : (list : List EntryLine) (before : List Move) (name : List ℕ) (
 move_more list before name rest target e =
     ap (λ m. behind before (m >>= (λ t. moves list rest >>= (λ others. Ok (record { source = name; target = t } ∷ others))))) e ∙ behind_next before (record { source = name; target = target }) (moves list rest)
 
--- one more of lists that are put together
-pub flat_turn : {A B : Type 0} (f : A → List B) (xs : List A) (i : ℕ) (x : A) → x ≡ get_or xs i x → i < length xs → flat_map f (take i xs) ++ f x ≡ flat_map f (take (i + 1) xs)
-flat_turn f xs i x is lt =
-    sym (ap (flat_map f) (take_more xs i x lt) ∙ flat_map-append f (take i xs) (get_or xs i x ∷ []) ∙ ap (λ l. flat_map f (take i xs) ++ l) (append-nil (f (get_or xs i x))) ∙ ap (λ z. flat_map f (take i xs) ++ f z) (sym is))
-
 -- a late entry, as one of another name
 abbrev pub late_made : List EntryLine → List ℕ → LateLine → Result EntryLine Refusal
 late_made list target line = conditions list line.when >>= (λ when. Ok (Later target line.kind when line.text))
@@ -180,9 +158,6 @@ stay_step list s g new move rest h n = stay_at (told list move) list s g new mov
 pub go_step : (list : List EntryLine) (s g new : List EntryLine) (move : Move) (rest : List Move) → stays move ≡ false → behind g (told list move) ≡ Ok new → parted s g (told_all list (move ∷ rest)) ≡ parted s new (told_all list rest)
 go_step list s g new move rest h n = go_at (told list move) list s g new move rest h refl n
 
-pub parted_ends : (s g : List EntryLine) → parted s g (Ok []) ≡ Ok (s, g)
-parted_ends s g = rw (append-nil s, append-nil g) refl
-
 -- a fault of what one name tells is one of all
 pub parted_fault : (list : List EntryLine) (whole : Result (List (Move × List EntryLine)) Refusal) (s g s' g' : List EntryLine) (move : Move) (rest : List Move) (fault : DataFault) → parted s g whole ≡ parted s' g' (told_all list (move ∷ rest)) → IsDataFault fault (told list move) → IsDataFault fault (parted s g whole)
 parted_fault list whole s g s' g' move rest fault e h =
@@ -197,15 +172,6 @@ ok_pair {A} {B} a c b d e =
     let second : A × B = (c, d) in
     let same : first ≡ second = cc in (ap (λ (p : A × B). p.0) same, ap (λ (p : A × B). p.1) same)
 
-frozen_at : (t : Result (List (Move × List EntryLine)) Refusal) (s g tasks : List EntryLine) → parted [] [] t ≡ Ok (s, g) → (t >>= (λ told. Ok (lines_where stays told ++ lines_where (λ move. not (stays move)) told ++ tasks))) ≡ Ok ((s ++ g) ++ tasks)
-frozen_at (Ok all) s g tasks e =
-    let same = ok_pair (lines_where stays all) s (lines_where (λ move. not (stays move)) all) g e in
-    ap Ok (ap (λ l. (l ++ lines_where (λ move. not (stays move)) all) ++ tasks) same.0 ∙ ap (λ l. (s ++ l) ++ tasks) same.1)
-frozen_at (Err refusal) s g tasks e = absurd cc
-
-pub frozen_ok : (list : List EntryLine) (all : List Move) (s g : List EntryLine) → moves list (names list) ≡ Ok all → parted [] [] (told_all list all) ≡ Ok (s, g) → frozen list ≡ Ok ((s ++ g) ++ filter is_task_line list)
-frozen_ok list all s g e h = ap (λ m. m >>= (λ a. told_all list a >>= (λ told. Ok (lines_where stays told ++ lines_where (λ move. not (stays move)) told ++ filter is_task_line list)))) e ∙ frozen_at (told_all list all) s g (filter is_task_line list) h
-
 pub moves_fault : (list : List EntryLine) (fault : DataFault) → IsDataFault fault (moves list (names list)) → IsDataFault fault (frozen list)
 moves_fault list fault h = fault_on fault (moves list (names list)) (λ a. told_all list a >>= (λ told. Ok (lines_where stays told ++ lines_where (λ move. not (stays move)) told ++ filter is_task_line list))) h
 
@@ -219,41 +185,6 @@ told_all_fault list all fault e h =
     fault_same fault (frozen list) (told_all list all >>= (λ told. Ok (lines_where stays told ++ lines_where (λ move. not (stays move)) told ++ filter is_task_line list)))
     (ap (λ m. m >>= (λ a. told_all list a >>= (λ told. Ok (lines_where stays told ++ lines_where (λ move. not (stays move)) told ++ filter is_task_line list)))) e)
     (parted_same (told_all list all) fault (filter is_task_line list) h)
-
--- flags that are told
-
-flat_same : (f g : List ℕ → List EntryLine) (fs : List (List ℕ)) → ((t : List ℕ) → is_in t fs ≡ true → f t ≡ g t) → flat_map f fs ≡ flat_map g fs
-flat_same f g [] h = refl
-flat_same f g (x ∷ fs) h =
-    ap (λ l. l ++ flat_map f fs) (h x (or_first (bytes_eq x x) (is_in x fs) (text_itself x)))
-    ∙ ap (λ l. g x ++ l) (flat_same f g fs (λ t i. h t (or_later (bytes_eq t x) (is_in t fs) i)))
-
-set_flag : (list : List EntryLine) (name f : List ℕ) → is_in f (flags_of list name) ≡ true → is_set (flag_slot list name f) ≡ true
-set_flag list name f h =
-    filter_passes (λ g. is_set (flag_slot list name g)) (flat_map (flag_in name) list) f (sym (ordered_in (filter (λ g. is_set (flag_slot list name g)) (flat_map (flag_in name) list)) f) ∙ h)
-
-told_at : (list : List EntryLine) (source target f : List ℕ) (o : Option Kept) → flag_kept o ≡ flag_slot list source f → is_set (flag_slot list source f) ≡ true → flag_told target f o ≡ told_flag list (record { source = source; target = target }) f
-told_at list source target f None e h = not_both (is_set (flag_slot list source f)) h (ap is_set (sym e))
-told_at list source target f (Some kept) e h = ap (flag_lines target f) e
-
-pub named_told : (list : List EntryLine) (maps : Maps) (source target : List ℕ) (named : Named) (old middle : List EntryLine) (fs : List (List ℕ)) → Keeps list maps → named_at maps source ≡ Some named → IsOrdered string_cmp named.flags
-    → fs ≡ picked kept_set named.flags.entries → middle ≡ old ++ value_lines target (slot_of named.kept)
-    → middle ++ flat_map (told_kept target named.flags) fs ≡ old ++ (value_lines target (value_slot list source) ++ flat_map (told_flag list (record { source = source; target = target })) (flags_of list source))
-named_told list maps source target named old middle fs keeps found ordered e m =
-    let move : Move = record { source = source; target = target } in
-    let names : fs ≡ flags_of list source = e ∙ flags_are list maps source named keeps found ordered in
-    ap (λ l. l ++ flat_map (told_kept target named.flags) fs) (m ∙ ap (λ s. old ++ value_lines target s) (ap slot_at (sym found) ∙ keeps.value source))
-    ∙ ap (λ l. (old ++ value_lines target (value_slot list source)) ++ flat_map (told_kept target named.flags) l) names
-    ∙ ap (λ l. (old ++ value_lines target (value_slot list source)) ++ l) (flat_same (told_kept target named.flags) (told_flag list move) (flags_of list source)
-    (λ t i. told_at list source target t (get_by_text named.flags t) (ap (λ o. flag_at o t) (sym found) ∙ keeps.flags source t) (set_flag list source t i)))
-    ∙ append_assoc old (value_lines target (value_slot list source)) (flat_map (told_flag list move) (flags_of list source))
-
-pub none_told : (list : List EntryLine) (maps : Maps) (source target : List ℕ) (old : List EntryLine) → Keeps list maps → named_at maps source ≡ None
-    → old ≡ old ++ (value_lines target (value_slot list source) ++ flat_map (told_flag list (record { source = source; target = target })) (flags_of list source))
-none_told list maps source target old keeps found =
-    let value : value_slot list source ≡ nothing = sym (keeps.value source) ∙ ap slot_at found in
-    let none : flags_of list source ≡ [] = no_flags_of list maps source keeps found in
-    rw (value, none) (sym (append-nil old))
 
 -- one more name
 step_at : (list : List EntryLine) (s g s' g' : List EntryLine) (move : Move) (rest : List Move) (b : Bool) → stays move ≡ b → IsPushed s g s' g' b (told list move) → parted s g (told_all list (move ∷ rest)) ≡ parted s' g' (told_all list rest)

@@ -1,12 +1,5 @@
-pub mod Flags
-pub mod Rests
-pub mod Steps
-pub mod Winning
-pub mod Keeping
+pub mod Storing
 pub mod Looking
-pub mod Picked
-pub mod Naming
-pub mod Sets
 pub mod Tasking
 pub mod Freezing
 pub mod Orders

@@ -12,11 +12,11 @@ use Rattle.meta_model.specs.declared.entry.EntryLine.{EntryLine}
 use Rattle.meta_model.specs.declared.entry.EntryLine.TheVariants.{Set, Later, Flag, Unset, UnsetFlag, Exported, Task, NoTask}
 use Rattle.meta_model.specs.Text.{is_in}
 use Rattle.meta_model.specs.Tasks.{is_task, task_in, task_names, comes_after, comes_after_line}
-use Rattle.datastore.specs.Picked.{picked}
+use Rattle.value_maps.specs.Picked.{picked}
 use Rattle.datastore.specs.Orders.{goes, is_gone, is_noted}
 use Rattle.meta_model.proofs.Ordered.{ascending_same, filter_ascending, filtered_in, ordered_ascending, ordered_in}
-use Rattle.datastore.proofs.Picked.{picked_ascending, picked_in}
-use Rattle.datastore.proofs.Sets.{in_end}
+use Rattle.value_maps.proofs.Picked.{picked_ascending, picked_in}
+use Rattle.value_maps.proofs.Sets.{in_end}
 use Rattle.datastore.proofs.Tasking.{task_named, there_passes}
 
 -- what is there before some entries stays where they take neither task away

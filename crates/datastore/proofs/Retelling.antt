@@ -16,8 +16,8 @@ use Rattle.meta_model.specs.Expansion.{longest, value_by}
 use Rattle.meta_model.specs.Active.{expand, find_in}
 use Rattle.meta_model.specs.Frozen.{Move, stays, moves, target_of, holds_reference, given, told_flag, conditions, told_lates, told, told_all, lines_where, is_task_line}
 use Rattle.var_expand.proofs.Expanding.{plain_text}
-use Rattle.datastore.specs.Named.{subject}
-use Rattle.datastore.specs.Plain.{is_plain_text, is_plain_late}
+use Rattle.value_maps.specs.Named.{subject}
+use Rattle.value_maps.specs.Plain.{is_plain_text, is_plain_late}
 
 -- names that are told again, and all names
 

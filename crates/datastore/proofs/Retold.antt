@@ -1,10 +1,8 @@
 -- A store whose names are moved keeps what it had of all names that needn't be told again.
-use Rattle.std.proofs.Common.{◌≡◌, refl, sym, ◌∙◌, ap, subst, ℕ, ◌+◌, ◌<◌, Bool, true, false, not, ◌||◌, ◌&&◌, ◌⊎◌, inl, inr, map, fold, List, [], ◌∷◌, ◌++◌, take, drop, length, get_or, filter, Option, Some, None, is_some, bytes_eq, Result, Ok, Err, append-nil, if◌then◌else◌}
-use Rattle.std.specs.BTreeMap.{get_by_text}
-use Rattle.std.specs.Option.{option_or}
+use Rattle.std.proofs.Common.{◌≡◌, refl, sym, ◌∙◌, ap, subst, ℕ, ◌+◌, ◌<◌, Bool, true, false, not, ◌||◌, ◌&&◌, inl, inr, map, fold, List, [], ◌∷◌, ◌++◌, take, drop, length, get_or, filter, Option, is_some, bytes_eq, Result, Ok, Err, append-nil, if◌then◌else◌}
 use Rattle.std.specs.List.{list_all}
 use Rattle.std.proofs.lemmas.List.{take_more}
-use Rattle.meta_model.proofs.Bools.{either_way, and_left, and_right, or_left, or_right, or_first, or_later, same_text}
+use Rattle.meta_model.proofs.Bools.{either_way, and_left, same_text}
 use Rattle.meta_model.proofs.Room.{ok_parts}
 use Rattle.meta_model.specs.declared.entry.EntryLine.{EntryLine}
 use Rattle.meta_model.specs.Refusal.{Refusal, ◌>>=◌}
@@ -12,15 +10,14 @@ use Rattle.meta_model.specs.Text.{is_in}
 use Rattle.meta_model.specs.Slot.{Slot, nothing}
 use Rattle.meta_model.specs.Base.{value_slot, flag_slot, lates, flags_of, is_left, names_in, names}
 use Rattle.meta_model.specs.Frozen.{Move, stays, moves, holds_reference, told_all, lines_where, is_task_line, frozen}
-use Rattle.datastore.specs.declared.maps.Maps.{Maps}
-use Rattle.datastore.specs.declared.named.Named.{Named}
+use Rattle.value_maps.specs.declared.maps.Maps.{Maps}
+use Rattle.value_maps.specs.declared.named.Named.{Named}
 use Rattle.datastore.specs.declared.freeze.Anew.{Anew}
-use Rattle.datastore.specs.Named.{slot_at, lates_at, flag_at, IsAlike}
-use Rattle.datastore.specs.Forms.{rests}
-use Rattle.datastore.specs.Plain.{is_plain_late, is_plain}
+use Rattle.value_maps.specs.Named.{slot_at, lates_at, flag_at}
+use Rattle.value_maps.specs.Plain.{is_plain_late}
 use Rattle.meta_model.specs.Ascending.{Ascending}
-use Rattle.datastore.specs.Keys.{AreKeys}
-use Rattle.datastore.specs.Maps.{named_at, noted_at, base_of, under_named, under_entries, under_noted, under_special, is_anew, Keeps, KeepsBase}
+use Rattle.value_maps.specs.Keys.{AreKeys}
+use Rattle.value_maps.specs.Maps.{named_at, base_of, under_entries, is_anew, Keeps, KeepsBase, IsHidden}
 use Rattle.std.specs.Global.{Vec}
 use Rattle.std.proofs.lemmas.List.Sums.{fold_push}
 use Rattle.std.proofs.lemmas.List.Elements.{filter-append}
@@ -31,20 +28,11 @@ use Rattle.datastore.specs.Store.{all_entries}
 use Rattle.datastore.specs.Parts.{moved_with}
 use Rattle.datastore.specs.Anew.{or_given, moved, IsAnew}
 use Rattle.meta_model.proofs.Ordered.{above_not_in, ordered_in, ordered_ascending, filtered_in, filter_ascending, ascending_same}
-use Rattle.datastore.proofs.Naming.{left_named, left_kept}
-use Rattle.datastore.proofs.Steps.{none_of}
+use Rattle.value_maps.proofs.Naming.{left_named, left_kept}
+use Rattle.value_maps.proofs.Hiding.{unmarked, plain_lates_at, no_reference, same_under, plain_of, anew_kept, under_kept}
 use Rattle.datastore.proofs.Freezing.{ok_pair, no_fault, moves_fault, told_all_fault}
 use Rattle.datastore.proofs.Retelling.{State, run, begin, run_is, run_append, run_where, run_tasks, run_told, Told, sources, Once, part, part_same, part_none, part_absent, part_told, where_filtered, where_moving, all_mapped, moves_filtered, told_filtered, told_targets, told_moves, move_sources, plain_stay, told_plain, where_tasks, tasks_again, gone_is, clean}
 use Rattle.datastore.proofs.Unexported.{clean_is, flag_told_is}
-
--- special names
-
-special_there : (n : List ℕ) (o : Option Named) → not (is_plain n o) ≡ true → is_some o ≡ true
-special_there n None h = absurd cc
-special_there n (Some named) h = refl
-
-pub special_are : (named : List ℕ → Option Named) (keys made : List (List ℕ)) → AreKeys keys (λ n. is_some (named n)) → made ≡ filter (λ n. not (is_plain n (named n))) keys → (n : List ℕ) → is_in n made ≡ not (is_plain n (named n))
-special_are named keys made all e n = ap (is_in n) e ∙ filtered_in (λ m. not (is_plain m (named m))) keys n (λ h. all.are n ∙ special_there n (named n) h)
 
 -- the names that are left
 
@@ -82,32 +70,6 @@ left_anew list maps keys left all e =
 
 -- a name that isn't told again
 
-not_true : (b : Bool) → not b ≡ true → b ≡ false
-not_true true e = absurd cc
-not_true false e = refl
-
-unmarked : (n : List ℕ) (o : Option Named) → is_plain n o ≡ true → (slot_at o).exported ≡ false
-unmarked n None h = refl
-unmarked n (Some named) h =
-    let rest = and_right (not (holds_reference n)) (not named.kept.exported && list_all is_plain_late named.lates.items) h in
-    not_true named.kept.exported (and_left (not named.kept.exported) (list_all is_plain_late named.lates.items) rest)
-
-plain_lates_at : (n : List ℕ) (o : Option Named) → is_plain n o ≡ true → list_all is_plain_late (lates_at o) ≡ true
-plain_lates_at n None h = refl
-plain_lates_at n (Some named) h =
-    let rest = and_right (not (holds_reference n)) (not named.kept.exported && list_all is_plain_late named.lates.items) h in
-    and_right (not named.kept.exported) (list_all is_plain_late named.lates.items) rest
-
-no_reference : (n : List ℕ) (o : Option Named) → is_some o ≡ true → is_plain n o ≡ true → holds_reference n ≡ false
-no_reference n None s h = absurd cc
-no_reference n (Some named) s h = not_true (holds_reference n) (and_left (not (holds_reference n)) (not named.kept.exported && list_all is_plain_late named.lates.items) h)
-
-same_under : (maps : Maps) (n : List ℕ) → is_anew maps n ≡ false → named_at maps n ≡ under_named (base_of maps) n
-same_under maps n h = ap (λ o. option_or o (under_named (base_of maps) n)) (none_of (get_by_text maps.named n) (or_left (is_some (get_by_text maps.named n)) (is_in n (under_special (base_of maps))) h))
-
-plain_of : (list : List EntryLine) (maps : Maps) (n : List ℕ) → Keeps list maps → is_anew maps n ≡ false → is_plain n (named_at maps n) ≡ true
-plain_of list maps n k h = ap (is_plain n) (same_under maps n h) ∙ k.shared.plain n (or_right (is_some (get_by_text maps.named n)) (is_in n (under_special (base_of maps))) h)
-
 stays_put : (list : List EntryLine) (maps : Maps) → Keeps list maps → (n : List ℕ) → is_in n (names list) ≡ true → is_anew maps n ≡ false → holds_reference n ≡ false
 stays_put list maps k n i h = no_reference n (named_at maps n) (left_kept list maps n k (sym (in_names list n) ∙ i)) (plain_of list maps n k h)
 
@@ -142,45 +104,14 @@ keeps_run a b after h k =
 
 -- the maps once names are moved
 
-or_some : {A : Type 0} (a b : Option A) → (is_some a || is_some b) ≡ is_some (option_or a b)
-or_some None b = refl
-or_some (Some a) b = refl
+hidden_there : (list : List EntryLine) (maps hid : Maps) (anew : Anew) → Keeps list maps → AreKeys anew.names (is_anew maps) → IsHidden maps hid anew.names → (n : List ℕ) → is_some (named_at hid n) ≡ true → is_some (named_at maps n) ≡ true
+hidden_there list maps hid anew k keys hidden n h = elim (either_way (is_anew maps n)) [
+  | inl a ↦ anew_kept list maps k n a
+  | inr a ↦ under_kept maps n (sym (ap is_some (hidden.others n (keys.are n ∙ a))) ∙ h)
+]
 
-left_kept_of : (a b : Bool) → (a || b) ≡ true → (a ≡ true) ⊎ (b ≡ true)
-left_kept_of true b h = inl refl
-left_kept_of false b h = inr h
-
--- nothing is kept of names that are told again
-pub record IsHidden (maps hid : Maps) (anew : Anew) : Type 0 where
-  pub same : base_of hid ≡ base_of maps
-  pub forms : hid.forms ≡ maps.forms
-  pub there : (n : List ℕ) → is_some (get_by_text hid.named n) ≡ is_in n anew.names
-  pub empty : (n : List ℕ) → IsAlike None (get_by_text hid.named n)
-
-hidden_there : (list : List EntryLine) (maps hid : Maps) (anew : Anew) → Keeps list maps → AreKeys anew.names (is_anew maps) → IsHidden maps hid anew → (n : List ℕ) → is_some (named_at hid n) ≡ true → is_some (named_at maps n) ≡ true
-hidden_there list maps hid anew k keys hidden n h =
-    let own = get_by_text maps.named n in
-    let under = under_named (base_of maps) n in
-    let first : (is_some (get_by_text hid.named n) || is_some (under_named (base_of hid) n)) ≡ true = or_some (get_by_text hid.named n) (under_named (base_of hid) n) ∙ h in
-    let whole : ((is_some own || is_in n (under_special (base_of maps))) || is_some under) ≡ true = ap (λ b. b || is_some under) (sym (keys.are n) ∙ sym (hidden.there n)) ∙ ap (λ b. is_some (get_by_text hid.named n) || is_some (under_named b n)) (sym hidden.same) ∙ first in
-    sym (or_some own under) ∙ (elim (left_kept_of (is_some own || is_in n (under_special (base_of maps))) (is_some under) whole) [
-      | inl a ↦ elim (left_kept_of (is_some own) (is_in n (under_special (base_of maps))) a) [
-        | inl o ↦ or_first (is_some own) (is_some under) o
-        | inr i ↦ or_later (is_some own) (is_some under) (k.shared.there n i)
-      ]
-      | inr u ↦ or_later (is_some own) (is_some under) u
-    ])
-
-hidden_at : (maps hid : Maps) (anew : Anew) → AreKeys anew.names (is_anew maps) → IsHidden maps hid anew → (n : List ℕ) → is_anew maps n ≡ true → IsAlike None (named_at hid n)
-hidden_at maps hid anew keys hidden n h = at (get_by_text hid.named n) (hidden.there n ∙ keys.are n ∙ h) (hidden.empty n)
-  where
-    at : (o : Option Named) → is_some o ≡ true → IsAlike None o → IsAlike None (option_or o (under_named (base_of hid) n))
-    at None s e = absurd cc
-    at (Some named) s e = e
-
-shown_at : (maps hid : Maps) (anew : Anew) → AreKeys anew.names (is_anew maps) → IsHidden maps hid anew → (n : List ℕ) → is_anew maps n ≡ false → named_at hid n ≡ named_at maps n
-shown_at maps hid anew keys hidden n h =
-    ap (λ o. option_or o (under_named (base_of hid) n)) (none_of (get_by_text hid.named n) (hidden.there n ∙ keys.are n ∙ h)) ∙ ap (λ b. under_named b n) hidden.same ∙ sym (same_under maps n h)
+shown_at : (maps hid : Maps) (anew : Anew) → AreKeys anew.names (is_anew maps) → IsHidden maps hid anew.names → (n : List ℕ) → is_anew maps n ≡ false → named_at hid n ≡ named_at maps n
+shown_at maps hid anew keys hidden n h = hidden.others n (keys.are n ∙ h) ∙ sym (same_under maps n h)
 
 -- what names tell that aren't told again
 abbrev pub kept_lines : Maps → Told → List EntryLine
@@ -222,7 +153,7 @@ and_all true b h = h
 and_all false b h = refl
 
 -- the maps in which names are hidden keep the lines of all other names
-pub hidden_keeps : (list : List EntryLine) (maps hid : Maps) (anew : Anew) (ms : List Move) (all : Told) → Keeps list maps → AreKeys anew.names (is_anew maps) → IsHidden maps hid anew → moves list (names list) ≡ Ok ms → told_all list ms ≡ Ok all → Keeps (kept_lines maps all) hid
+pub hidden_keeps : (list : List EntryLine) (maps hid : Maps) (anew : Anew) (ms : List Move) (all : Told) → Keeps list maps → AreKeys anew.names (is_anew maps) → IsHidden maps hid anew.names → moves list (names list) ≡ Ok ms → told_all list ms ≡ Ok all → Keeps (kept_lines maps all) hid
 hidden_keeps list maps hid anew ms all k keys hidden e t =
     let test = λ (m : Move). stays m && not (is_anew maps m.source) in
     let of_them = told_targets list ms all t in
@@ -230,7 +161,7 @@ hidden_keeps list maps hid anew ms all k keys hidden e t =
     let here : (n f : List ℕ) → run n f begin (kept_lines maps all) ≡ of_maps (named_at hid n) f = λ n f.
     run_where test (λ m h. and_left (stays m) (not (is_anew maps m.source)) h) n f begin all of_them single ∙ (elim (either_way (is_anew maps n)) [
       | inl a ↦
-          let empty = hidden_at maps hid anew keys hidden n a in
+          let empty = hidden.none n (keys.are n ∙ a) in
           ap (run n f begin) (part_none test n all (λ m s. and_none (stays m) (not (is_anew maps m.source)) (ap not (ap (is_anew maps) s ∙ a))))
           ∙ ap (λ s. (s, ([], nothing))) (sym empty.value) ∙ ap (λ l. (slot_at (named_at hid n), (l, nothing))) (sym empty.late) ∙ ap (λ s. (slot_at (named_at hid n), (lates_at (named_at hid n), s))) (sym (empty.flags f))
       | inr a ↦
@@ -238,13 +169,12 @@ hidden_keeps list maps hid anew ms all k keys hidden e t =
           ∙ plain_state list maps ms all k e t n f a ∙ ap (λ o. of_maps o f) (sym (shown_at maps hid anew keys hidden n a))
     ]) in
     let same = λ (n f : List ℕ). sym (here n f) ∙ state_is n f (kept_lines maps all) in
-    let noted : (n : List ℕ) → noted_at hid n ≡ noted_at maps n = λ n. ap (λ b. under_noted b n ++ rests (get_by_text hid.forms n)) hidden.same ∙ ap (λ m. under_noted (base_of maps) n ++ rests (get_by_text m n)) hidden.forms in
     record {
       shared = subst KeepsBase (sym hidden.same) k.shared;
       value = λ n. ap (λ (s : State). s.0) (same n []);
       late = λ n. ap (λ (s : State). s.1.0) (same n []);
       flags = λ n f. ap (λ (s : State). s.1.1) (same n f);
-      forms = λ n some. λ c lt colon. subst (λ l. is_in (drop (c + 1) n) l ≡ true) (sym (noted (take c n))) (k.forms n (hidden_there list maps hid anew k keys hidden n some) c lt colon);
+      forms = λ n some. λ c lt colon. subst (λ l. is_in (drop (c + 1) n) l ≡ true) (sym (hidden.noted (take c n))) (k.forms n (hidden_there list maps hid anew k keys hidden n some) c lt colon);
     }
 
 -- what is told again, as a part of what all names tell

@@ -9,8 +9,8 @@ use Rattle.meta_model.specs.declared.entry.EntryLine.TheVariants.{Set, Later, Fl
 use Rattle.meta_model.specs.Text.{is_in}
 use Rattle.meta_model.specs.Frozen.{is_task_line}
 use Rattle.meta_model.specs.Tasks.{is_task, is_task_after, comes_after, comes_after_line, task_in, task_names}
-use Rattle.datastore.specs.Picked.{picked, passes}
-use Rattle.datastore.proofs.Picked.{picked_is}
+use Rattle.value_maps.specs.Picked.{picked, passes}
+use Rattle.value_maps.proofs.Picked.{picked_is}
 
 none_there : (b : Bool) → (not b && false) ≡ false
 none_there true = refl

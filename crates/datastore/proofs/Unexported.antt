@@ -8,7 +8,7 @@ use Rattle.meta_model.specs.declared.entry.EntryLine.TheVariants.{Set, Later, Fl
 use Rattle.meta_model.specs.Text.{is_in}
 use Rattle.meta_model.specs.Slot.{Slot, nothing, with_value, with_soft, assigned}
 use Rattle.meta_model.specs.Base.{may_export, value_after, flag_after, flag_from, flag_slot, flags_of}
-use Rattle.datastore.proofs.Naming.{in_flags}
+use Rattle.value_maps.proofs.Naming.{in_flags}
 use Rattle.datastore.proofs.Retelling.{clean, unset_clean}
 
 soft : (text : List ℕ) (slot : Slot) (v : Option (List ℕ)) → slot.exported ≡ false → (with_soft text slot v).exported ≡ false

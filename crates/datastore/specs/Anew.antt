@@ -4,10 +4,10 @@ use Rattle.meta_model.specs.declared.entry.EntryLine.{EntryLine}
 use Rattle.meta_model.specs.Refusal.{Refusal}
 use Rattle.meta_model.specs.Base.{names}
 use Rattle.meta_model.specs.Frozen.{Move, moves, told_all, frozen}
-use Rattle.datastore.specs.declared.maps.Maps.{Maps}
+use Rattle.value_maps.specs.declared.maps.Maps.{Maps}
 use Rattle.datastore.specs.declared.freeze.Anew.{Anew}
-use Rattle.datastore.specs.Keys.{AreKeys}
-use Rattle.datastore.specs.Maps.{is_anew}
+use Rattle.value_maps.specs.Keys.{AreKeys}
+use Rattle.value_maps.specs.Maps.{is_anew}
 use Rattle.datastore.specs.Telling.{parted}
 
 -- the entries with their names moved; where this is refused, as they are

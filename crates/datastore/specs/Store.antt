@@ -3,9 +3,9 @@ use Rattle.std.specs.Prelude.{List, fold, ◌++◌, Option, IfSome}
 use Rattle.std.specs.Global.{Vec}
 use Rattle.meta_model.specs.declared.entry.EntryLine.{EntryLine}
 use Rattle.meta_model.specs.Active.{active}
-use Rattle.datastore.specs.declared.maps.Maps.{Maps}
+use Rattle.value_maps.specs.declared.maps.Maps.{Maps}
 use Rattle.datastore.specs.declared.looked.Overrides.{Overrides}
-use Rattle.datastore.specs.Maps.{Keeps, base_of, under_entries}
+use Rattle.value_maps.specs.Maps.{Keeps, base_of, under_entries}
 use Rattle.datastore.specs.Looked.{IsMeant}
 use Rattle.datastore.specs.Parts.{moved_with}
 

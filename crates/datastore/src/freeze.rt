@@ -1,37 +1,27 @@
 // Names that hold references, moved to what they expand to.
-ghost use Rattle.std.specs.Prelude.{◌≡◌, ◌++◌, ◌∷◌, [], List, ℕ, OnOk, IfOk, IfErr, Ok, None, is_some, map, flat_map, filter};
-ghost use Rattle.std.specs.BTreeMap.{get_by_text, IsOrdered};
-ghost use Rattle.std.specs.String.{string_cmp};
-ghost use Rattle.meta_model.specs.declared.entry.EntryLine.TheVariants.{Set, Later, Flag, UnsetFlag};
+ghost use Rattle.std.specs.Prelude.{◌≡◌, ◌++◌, ◌∷◌, [], List, OnOk, IfOk, IfErr, Ok, map, filter};
+ghost use Rattle.meta_model.specs.declared.entry.EntryLine.TheVariants.{Later};
 ghost use Rattle.meta_model.specs.declared.entry.EntryLine.{EntryLine as Line};
-ghost use Rattle.meta_model.specs.Text.{is_in};
 ghost use Rattle.meta_model.specs.Active as entries;
 ghost use Rattle.meta_model.specs.Base as base;
 ghost use Rattle.meta_model.specs.Frozen as frozen;
 ghost use Rattle.datastore.specs.Faults.{IsDataFault};
 ghost use Rattle.datastore.specs.Looked.{IsMeant};
-ghost use Rattle.datastore.specs.Telling.{move_of, parted, IsPushed, value_lines, flag_lines, told_kept, named_lines};
+ghost use Rattle.value_maps.specs.Telling.{move_of};
+ghost use Rattle.datastore.specs.Telling.{parted, IsPushed};
 ghost use Rattle.meta_model.specs.Passing.{behind};
-ghost use Rattle.datastore.specs.Maps.{Keeps, base_of, is_anew};
-ghost use Rattle.datastore.specs.Keys.{AreKeys};
+ghost use Rattle.value_maps.specs.Maps.{Keeps, base_of, is_anew};
+ghost use Rattle.value_maps.specs.Keys.{AreKeys};
 ghost use Rattle.datastore.specs.Anew.{IsAnew, moved};
-ghost use Rattle.datastore.specs.Named.{IsAlike};
-ghost use Rattle.datastore.specs.Kept.{slot_of};
-ghost use Rattle.datastore.specs.Left.{kept_set};
-ghost use Rattle.datastore.specs.Picked.{picked};
 
-use crate::by_name::{push_name, put_value};
 use crate::fault::DataFault;
-use crate::kept::Kept;
-use crate::line::{flag_of, late_of, push_line, set_of, unset_flag_of};
+use crate::line::late_line;
 use crate::looked::{Overrides, expand_over};
-use crate::maps::Maps;
-use crate::named::Named;
 use crate::store::Datastore;
-use meta_model::{EntryLine, LateLine, Op};
+use meta_model::{EntryLine, LateLine};
 use std::alloc::Global;
-use std::collections::BTreeMap;
 use tree_model::{Mem, Text, Texts};
+use value_maps::{Maps, push_line};
 use var_expand::{are_name_bytes, holds_opening};
 
 /// The name that a name goes to: what it expands to where it holds `${`, unless that is no name of a reference.
@@ -111,7 +101,7 @@ fn push_late(
     ensures { OnOk result (lines.new.items ≡ lines.old.items ++ Later target.now late.now.kind when late.now.text
         ∷ []) }
 {
-    push_line(lines, late_of(target, late.kind, when, &late.text)?)
+    push_line(lines, late_line(target, late.kind, when, &late.text)?)
 }
 
 /// Puts late entries behind the lines, as those of another name.
@@ -133,139 +123,6 @@ fn push_lates(
         push_late(lines, target, late, when)?;
     }
     Ok(())
-}
-
-/// Puts an assignment behind the lines.
-fn push_set(lines: &mut Vec<EntryLine>, target: &Text, op: Op, text: &Text) -> Result<(), Mem>
-    ensures { OnOk result (lines.new.items ≡ lines.old.items ++ Set target.now op text.now ∷ []) }
-{
-    push_line(lines, set_of(target, op, text)?)
-}
-
-/// An assignment behind the lines, where there is a text.
-fn push_text(
-    lines: &mut Vec<EntryLine>,
-    target: &Text,
-    op: Op,
-    text: &Option<Text>,
-) -> Result<(), Mem>
-    ensures { OnOk result (lines.new.items ≡ lines.old.items ++ frozen.given (Set target.now op) text.now) }
-{
-    match text {
-        Some(text) => push_set(lines, target, op, text),
-        None => Ok(()),
-    }
-}
-
-/// The value and the weak default as lines of a name, behind the lines.
-fn push_value(lines: &mut Vec<EntryLine>, target: &Text, kept: &Kept) -> Result<(), Mem>
-    ensures { OnOk result (lines.new.items ≡ lines.old.items ++ value_lines target.now (slot_of kept.now)) }
-{
-    push_text(lines, target, Op::Set, &kept.value)?;
-    push_text(lines, target, Op::Weak, &kept.weak)
-}
-
-/// Puts an assignment to a flag behind the lines.
-fn push_set_flag(
-    lines: &mut Vec<EntryLine>,
-    target: &Text,
-    flag: &Text,
-    op: Op,
-    text: &Text,
-) -> Result<(), Mem>
-    ensures { OnOk result (lines.new.items ≡ lines.old.items ++ Flag target.now flag.now op text.now ∷ []) }
-{
-    push_line(lines, flag_of(target, flag, op, text)?)
-}
-
-/// An assignment to a flag behind the lines, where there is a text.
-fn push_flag_text(
-    lines: &mut Vec<EntryLine>,
-    target: &Text,
-    flag: &Text,
-    op: Op,
-    text: &Option<Text>,
-) -> Result<(), Mem>
-    ensures { OnOk result (lines.new.items ≡ lines.old.items ++ frozen.given (Flag target.now flag.now op) text.now) }
-{
-    match text {
-        Some(text) => push_set_flag(lines, target, flag, op, text),
-        None => Ok(()),
-    }
-}
-
-/// A flag as lines of a name, behind the lines.
-fn push_flag(lines: &mut Vec<EntryLine>, target: &Text, flag: &Text, kept: &Kept) -> Result<(), Mem>
-    ensures { OnOk result (lines.new.items ≡ lines.old.items ++ flag_lines target.now flag.now (slot_of kept.now)) }
-{
-    push_line(lines, unset_flag_of(target, flag)?)?;
-    push_flag_text(lines, target, flag, Op::Set, &kept.value)?;
-    push_flag_text(lines, target, flag, Op::Weak, &kept.weak)
-}
-
-/// The flags that are set, in byte order.
-fn flags_of(alloc: Global, flags: &BTreeMap<String, Kept>) -> Result<Texts, Mem>
-    ensures flags { IfOk result (λ made. made ≡ picked kept_set flags.now.entries) }
-    ensures ordered { OnOk result (IsOrdered string_cmp flags.now) }
-{
-    let mut made = Texts::new(alloc);
-    for (flag, kept) in flags {
-        push_name(&mut made, alloc, flag.as_str(), kept.is_set())?;
-    }
-    Ok(made)
-}
-
-/// A flag that is kept as lines of a name, behind the lines.
-fn push_kept(
-    lines: &mut Vec<EntryLine>,
-    target: &Text,
-    flags: &BTreeMap<String, Kept>,
-    flag: &Text,
-) -> Result<(), Mem>
-    ensures { OnOk result (lines.new.items ≡ lines.old.items ++ told_kept target.now flags.now flag.now) }
-{
-    match flags.get(flag.as_str()) {
-        Some(kept) => push_flag(lines, target, flag, kept),
-        None => Ok(()),
-    }
-}
-
-/// The set flags as lines of a name, behind the lines.
-fn push_flags(
-    lines: &mut Vec<EntryLine>,
-    target: &Text,
-    flags: &BTreeMap<String, Kept>,
-    names: &[Text],
-) -> Result<(), Mem>
-    ensures { OnOk result (lines.new.items ≡ lines.old.items ++ flat_map (told_kept target.now flags.now) names.now) }
-{
-    for name in names {
-        push_kept(lines, target, flags, name)?;
-    }
-    Ok(())
-}
-
-impl Maps {
-    /// The value and the flags of a name as lines of another, behind the lines.
-    fn push_named(
-        &self,
-        lines: &mut Vec<EntryLine>,
-        alloc: Global,
-        source: &str,
-        target: &Text,
-    ) -> Result<(), Mem>
-        ensures { (list : List Line) → Keeps list self.now
-            → OnOk result (lines.new.items ≡ lines.old.items ++ named_lines list (move_of (source.now, target.now))) }
-    {
-        match self.of(source) {
-            Some(named) => {
-                let flags = flags_of(alloc, &named.flags)?;
-                push_value(lines, target, &named.kept)?;
-                push_flags(lines, target, &named.flags, flags.as_slice())
-            }
-            None => Ok(()),
-        }
-    }
 }
 
 /// All that a name has as lines of another, behind the lines.
@@ -385,7 +242,7 @@ fn moves_among(
 }
 
 /// What is told again of a store whose maps these are.
-pub(crate) fn told_anew(
+pub(crate) fn tell_anew(
     alloc: Global,
     store: &Datastore,
     maps: &Maps,
@@ -406,30 +263,12 @@ pub(crate) fn told_anew(
     })
 }
 
-/// Maps in which nothing is kept of these names, and of no other.
-fn hidden(alloc: Global, names: &[Text]) -> Result<BTreeMap<String, Named>, Mem>
-    ensures there { IfOk result (λ made. (name : List ℕ) → is_some (get_by_text made name) ≡ is_in name names.now) }
-    ensures empty { IfOk result (λ made. (name : List ℕ) → IsAlike None (get_by_text made name)) }
-{
-    let mut made = BTreeMap::new(alloc);
-    for name in names {
-        put_value(&mut made, alloc, name.as_str(), Named::new(alloc))?;
-    }
-    Ok(made)
-}
-
 /// The maps once names are moved.
-pub(crate) fn retold(alloc: Global, maps: Maps, anew: Anew) -> Result<Maps, Mem>
+pub(crate) fn retell(alloc: Global, maps: Maps, anew: Anew) -> Result<Maps, Mem>
     ensures { (list : List Line) → Keeps list maps → IsAnew list maps anew
         → IfOk result (λ made. (base_of made ≡ base_of maps) × Keeps (moved list) made) }
 {
-    let Maps {
-        base,
-        named: _,
-        forms,
-    } = maps;
-    let named = hidden(alloc, anew.names.as_slice())?;
-    let mut made = Maps { base, named, forms };
+    let mut made = maps.hide(alloc, anew.names.as_slice())?;
     made.change_all(alloc, anew.staying.as_slice())?;
     made.change_all(alloc, anew.moving.as_slice())?;
     Ok(made)

@@ -73,7 +73,7 @@ fn value_under(
 }
 
 /// No active overrides because of this fault, unless it is want of memory.
-fn refused(fault: ExpandFault) -> Result<Overrides, Mem>
+fn without_overrides(fault: ExpandFault) -> Result<Overrides, Mem>
     ensures { (meant : Result (List (List ℕ)) Refusal) → IfSome (refusal_of fault) (λ refusal. meant ≡ Err refusal)
         → IfOk result (λ made. IsMeant made meant) }
 {
@@ -92,7 +92,7 @@ pub(crate) fn overrides_of(alloc: Global, store: &Datastore) -> Result<Overrides
         Err(OverrideFault::Unstable { before, last }) => {
             Ok(Overrides::Refused(ExpandFault::Unstable { before, last }))
         }
-        Err(OverrideFault::Under(fault)) => refused(fault),
+        Err(OverrideFault::Under(fault)) => without_overrides(fault),
         Err(OverrideFault::Memory) => Err(Mem),
     }
 }

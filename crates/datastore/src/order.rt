@@ -7,16 +7,14 @@ ghost use Rattle.meta_model.specs.declared.entry.EntryLine.{EntryLine as Line};
 ghost use Rattle.meta_model.specs.declared.entry.EntryLine.TheVariants.{Task};
 ghost use Rattle.meta_model.specs.Text.{is_in};
 ghost use Rattle.meta_model.specs.Tasks as tasks;
-ghost use Rattle.datastore.specs.Picked.{picked};
+ghost use Rattle.value_maps.specs.Picked.{picked};
 ghost use Rattle.datastore.specs.Orders.{goes, comes, stay, IsOrderOf};
 
-use crate::by_name::{names_of, put_value};
-use crate::names::push_if;
-use crate::tasks::{Names, put};
 use meta_model::EntryLine;
 use std::alloc::Global;
 use std::collections::BTreeMap;
 use tree_model::{Mem, Text, Texts};
+use value_maps::{Names, names_of, push_if, put_name, put_value};
 
 /// For each task the set of those that it comes after.
 pub(crate) type Orders = BTreeMap<String, Names>;
@@ -26,7 +24,7 @@ fn first_of(alloc: Global, name: &str) -> Result<Names, Mem>
     ensures { IfOk result (λ made. (b : List ℕ) → is_some (get_by_text made b) ≡ bytes_eq name.now b) }
 {
     let mut made = BTreeMap::new(alloc);
-    put(&mut made, alloc, name)?;
+    put_name(&mut made, alloc, name)?;
     Ok(made)
 }
 
@@ -36,7 +34,7 @@ fn put_order(orders: &mut Orders, alloc: Global, task: &str, other: &str) -> Res
         ≡ ((bytes_eq task.now a && bytes_eq other.now b) || comes orders.old a b)) }
 {
     match orders.get_mut(task) {
-        Some(set) => put(set, alloc, other),
+        Some(set) => put_name(set, alloc, other),
         None => {
             let set = first_of(alloc, other)?;
             put_value(orders, alloc, task, set)
@@ -144,7 +142,7 @@ fn note_line(
             after.as_slice(),
             before.as_slice(),
         ),
-        EntryLine::NoTask { task } => put(gone, alloc, task.as_str()),
+        EntryLine::NoTask { task } => put_name(gone, alloc, task.as_str()),
         _ => Ok(()),
     }
 }

@@ -10,25 +10,24 @@ ghost use Rattle.meta_model.specs.Tasks as tasks;
 ghost use Rattle.meta_model.specs.Frozen as frozen;
 ghost use Rattle.datastore.specs.Faults.{IsDataFault};
 ghost use Rattle.datastore.specs.Looked.{IsMeant};
-ghost use Rattle.datastore.specs.Maps.{Keeps, KeepsBase, base_of, under_entries};
+ghost use Rattle.value_maps.specs.Maps.{Keeps, KeepsBase, base_of, under_entries};
 ghost use Rattle.datastore.specs.Anew.{moved};
 ghost use Rattle.datastore.specs.Parts.{moved_with};
 
 use crate::fault::DataFault;
-use crate::freeze::{apply_all, retold, told_anew};
+use crate::freeze::{apply_all, retell, tell_anew};
 use crate::line::{copy_line, push_tasks};
 use crate::looked::{
     Overrides, expand_anew, expand_over, overrides_of, resolved_anew, resolved_over, value_anew,
     value_over,
 };
-use crate::maps::{Base, Maps, copy_base};
-use crate::special::special_of;
 use crate::tasks::ordered_tasks;
 use meta_model::{EntryLine, Resolved};
 use std::alloc::Global;
 use std::marker::Model;
 use std::rc::Rc;
 use tree_model::{Mem, Text, Texts};
+use value_maps::{Base, Maps};
 
 /// What entries give. Contracts see the list of the entries, in the order in which they were applied: those that are shared, and
 /// behind them the store's own. Where names were moved, it begins with what that made of all entries before.
@@ -83,30 +82,6 @@ fn forget(settled: &mut Option<Overrides>)
     ensures { settled.new ≡ None }
 {
     *settled = None;
-}
-
-/// The entries and maps of a store that shares nothing, as shared ones.
-fn ground_of(alloc: Global, entries: Vec<EntryLine>, maps: Maps) -> Result<Rc<Base>, Mem>
-    requires keeps { Keeps entries.items maps }
-    requires alone { base_of maps ≡ None }
-    ensures entries { IfOk result (λ made. (rc_value made).entries ≡ entries) }
-    ensures keeps { IfOk result (λ made. KeepsBase (Some (rc_value made))) }
-{
-    let Maps {
-        base: _,
-        named,
-        forms,
-    } = maps;
-    let special = special_of(alloc, &named)?;
-    Ok(Rc::new(
-        alloc,
-        Base {
-            entries,
-            named,
-            forms,
-            special,
-        },
-    )?)
 }
 
 /// Whether a store shares nothing, and none of its names were moved.
@@ -166,8 +141,8 @@ impl Datastore {
     pub fn copy(&self, alloc: Global) -> Result<Datastore, Mem>
         ensures { IfOk result (λ made. made ≡ self.now) }
     {
-        let start = Datastore::over(alloc, copy_base(&self.maps.base)?);
-        let mut made = replayed(alloc, start, self.past.as_slice())?;
+        let start = Datastore::over(alloc, self.maps.copy_base()?);
+        let mut made = replay(alloc, start, self.past.as_slice())?;
         apply_all(&mut made, alloc, self.entries.as_slice())?;
         Ok(made)
     }
@@ -177,12 +152,12 @@ impl Datastore {
         ensures { IfOk result (λ made. made ≡ self) }
     {
         Ok(SharedStore {
-            store: self.grounded(alloc)?,
+            store: self.ground(alloc)?,
         })
     }
 
     /// The same store, whose own entries are shared ones from now on, unless it shares some already or its names were moved.
-    fn grounded(self, alloc: Global) -> Result<Datastore, Mem>
+    fn ground(self, alloc: Global) -> Result<Datastore, Mem>
         ensures { IfOk result (λ made. made ≡ self) }
     {
         let Datastore {
@@ -192,7 +167,7 @@ impl Datastore {
             settled,
         } = self;
         if is_alone(&maps, past.as_slice()) {
-            let base = ground_of(alloc, entries, maps)?;
+            let base = maps.share(alloc, entries)?;
             return Ok(Datastore::over(alloc, Some(base)));
         }
         Ok(Datastore {
@@ -212,7 +187,7 @@ impl Datastore {
     ) -> Result<Option<Resolved>, Mem>
         ensures { IfOk result (λ made. made ≡ under.resolved self.now active.now name.now) }
     {
-        self.maps.resolved(alloc, name, active)
+        self.maps.resolve(alloc, name, active)
     }
 
     /// Works out the active overrides, or why there are none, and keeps them until the next entry is applied. Without it each
@@ -324,7 +299,7 @@ impl Datastore {
         ensures err { IfErr result (λ fault. IsDataFault fault (frozen.frozen self)) }
     {
         let overrides = self.overrides(alloc)?;
-        let anew = told_anew(alloc, &self, &self.maps, &overrides)?;
+        let anew = tell_anew(alloc, &self, &self.maps, &overrides)?;
         let Datastore {
             past,
             entries,
@@ -332,7 +307,7 @@ impl Datastore {
             settled: _,
         } = self;
         let past = with_part(past, entries)?;
-        let maps = retold(alloc, maps, anew)?;
+        let maps = retell(alloc, maps, anew)?;
         Ok(Datastore {
             past,
             entries: Vec::new(alloc),
@@ -375,7 +350,7 @@ fn moved_store(alloc: Global, store: Datastore, part: &[EntryLine]) -> Result<Da
 }
 
 /// A store with more entries, and its names moved behind each list of these.
-fn replayed(alloc: Global, store: Datastore, past: &[Vec<EntryLine>]) -> Result<Datastore, Mem>
+fn replay(alloc: Global, store: Datastore, past: &[Vec<EntryLine>]) -> Result<Datastore, Mem>
     ensures { IfOk result (λ made. made ≡ fold moved_with store past.now) }
 {
     let mut made = store;

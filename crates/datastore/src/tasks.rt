@@ -1,5 +1,5 @@
 // The tasks that entries add and take away.
-ghost use Rattle.std.specs.Prelude.{◌≡◌, ◌++◌, ◌∷◌, [], ◌||◌, ◌&&◌, not, map, filter, List, ℕ, OnOk, IfOk, true, is_some, bytes_eq};
+ghost use Rattle.std.specs.Prelude.{◌≡◌, ◌++◌, ◌∷◌, [], ◌&&◌, not, map, filter, List, ℕ, OnOk, IfOk, true, is_some, bytes_eq};
 ghost use Rattle.std.specs.BTreeMap.{get_by_text, IsOrdered};
 ghost use Rattle.std.specs.String.{string_cmp};
 ghost use Rattle.meta_model.specs.Frozen.{is_task_line};
@@ -7,23 +7,12 @@ ghost use Rattle.meta_model.specs.Tasks as tasks;
 ghost use Rattle.meta_model.specs.declared.entry.EntryLine.{EntryLine as Line};
 ghost use Rattle.datastore.specs.Orders.{IsOrderOf, with_order};
 
-use crate::by_name::{drop_value, names_of, put_value};
 use crate::order::{Orders, order_of, orders_of};
 use meta_model::EntryLine;
 use std::alloc::Global;
 use std::collections::BTreeMap;
 use tree_model::{Mem, Text, Texts};
-
-/// A set of names.
-pub(crate) type Names = BTreeMap<String, ()>;
-
-/// Puts a name into the set.
-pub(crate) fn put(set: &mut Names, alloc: Global, name: &str) -> Result<(), Mem>
-    ensures { OnOk result ((b : List ℕ) → is_some (get_by_text set.new b)
-        ≡ (bytes_eq name.now b || is_some (get_by_text set.old b))) }
-{
-    put_value(set, alloc, name, ())
-}
+use value_maps::{Names, drop_value, names_of, put_name};
 
 /// Takes a name out of the set.
 fn drop_name(set: &mut Names, name: &str)
@@ -39,7 +28,7 @@ fn note_task(set: &mut Names, alloc: Global, line: &EntryLine) -> Result<(), Mem
         ≡ tasks.is_task_after t (is_some (get_by_text set.old t)) line.now) }
 {
     match line {
-        EntryLine::Task { task, .. } => put(set, alloc, task.as_str()),
+        EntryLine::Task { task, .. } => put_name(set, alloc, task.as_str()),
         EntryLine::NoTask { task } => {
             drop_name(set, task.as_str());
             Ok(())

@@ -1,10 +1,11 @@
 -- What holds of every clean build.
 use Rattle.std.proofs.Common.{◌≡◌, ◌∙◌, sym, ap, refl, ℕ, List, [], ◌∷◌, ◌++◌, map, Bool, true, false, Result, Ok, Err, append_assoc}
+use Rattle.std.specs.Prelude.{if◌then◌else◌}
 use Rattle.std.proofs.lemmas.List.{append-nil, map-append}
 use Rattle.meta_model.specs.declared.event.Why.{Why}
 use Rattle.meta_model.specs.declared.event.Why.TheVariants as why
 use Rattle.meta_model.specs.declared.plan.PlanTask.{PlanTask}
-use Rattle.meta_model.specs.CleanBuild.{Built, Entries, Gives, clean_build, clean_from, clean_output, clean_task, given, is_beyond, is_beyond_layout, limited, output_of, task_output}
+use Rattle.meta_model.specs.CleanBuild.{Built, Entries, Gives, clean_build, clean_from, clean_output, clean_task, given, has_long_part, is_beyond, is_beyond_layout, limited, output_of, task_output}
 
 from_tasks : (run : Gives) (before : List Built) (tasks : List PlanTask) → map (λ b. b.task) (clean_from run before tasks) ≡ map (λ b. b.task) before ++ tasks
 from_tasks run before [] = sym (append-nil (map (λ b. b.task) before))
@@ -49,7 +50,11 @@ limited_fits tree out h = by (is_beyond tree) refl
 
 output_fits : (sstate : Bool) (places : List (List ℕ × List ℕ)) (r : Result Entries Why) (out : Entries) → output_of sstate places r ≡ Ok out → is_beyond out ≡ false
 output_fits sstate places (Err cause) out h = absurd (cc)
-output_fits sstate places (Ok tree) out h = limited_fits (given sstate places tree) out h
+output_fits sstate places (Ok tree) out h = by (has_long_part sstate places tree) h
+  where
+    by : (long : Bool) → (if long then Err why.TooLarge else limited (Ok (given sstate places tree))) ≡ Ok out → is_beyond out ≡ false
+    by true e = absurd (cc)
+    by false e = limited_fits (given sstate places tree) out e
 
 pub within : (run : Gives) (script : List ℕ) (sstate : Bool) (places : List (List ℕ × List ℕ)) (layout tree : Entries) → task_output run script sstate places layout ≡ Ok tree → is_beyond tree ≡ false
 within run script sstate places layout tree h = by (is_beyond_layout layout) refl

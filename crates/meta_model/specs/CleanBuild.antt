@@ -1,5 +1,5 @@
 -- What a clean build gives: all tasks run in order from nothing, each over what the earlier ones gave. (Own rule.)
-use Rattle.std.specs.Prelude.{ℕ, Bool, List, [], ◌∷◌, ◌++◌, Result, Ok, Err, ◌||◌, nat_lt, length, map, if◌then◌else◌}
+use Rattle.std.specs.Prelude.{ℕ, Bool, List, [], ◌∷◌, ◌++◌, Result, Ok, Err, ◌&&◌, ◌||◌, nat_lt, length, map, if◌then◌else◌}
 use Rattle.std.specs.List.{list_any, filter_map, slice_get}
 use Rattle.tree_model.specs.declared.entry.Entry.{Entry}
 use Rattle.tree_model.specs.declared.tree.Size.{Size}
@@ -56,10 +56,14 @@ abbrev pub given : Bool → List (List ℕ × List ℕ) → Entries → Entries
 given sstate [] tree = tree
 given sstate (place ∷ places) tree = if sstate then laid.overlaid_all (map (part_at tree) (place ∷ places)) else tree
 
--- the output of what a script gave, where neither of the two is beyond the limits
+-- whether a part of the output has a path of more than 3,072 bytes, be it that a later part covers it
+abbrev pub has_long_part : Bool → List (List ℕ × List ℕ) → Entries → Bool
+has_long_part sstate places tree = list_any (λ place. list_any is_long (part_at tree place)) places && sstate
+
+-- the output of what a script gave, where neither of the two is beyond the limits, and no part has too long a path
 abbrev pub output_of : Bool → List (List ℕ × List ℕ) → Result Entries Why → Result Entries Why
 output_of sstate places (Err cause) = Err cause
-output_of sstate places (Ok tree) = limited (Ok (given sstate places tree))
+output_of sstate places (Ok tree) = if has_long_part sstate places tree then Err why.TooLarge else limited (Ok (given sstate places tree))
 
 -- What a task gives over its layout: its output, or why it fails.
 abbrev pub task_output : Gives → List ℕ → Bool → List (List ℕ × List ℕ) → Entries → Result Entries Why

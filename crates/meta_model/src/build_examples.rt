@@ -1,10 +1,10 @@
 // Worked layouts and builds. Each expected answer is derived from the rules by hand; the comment above it says why.
 #![tactic(auto, unfolding(crate::specs::Layout::layout_in_order, crate::specs::CleanBuild::is_beyond, crate::specs::CleanBuild::is_beyond_layout, tree_model::specs::Overlay::overlaid, tree_model::specs::Folder::picked))]
 
-ghost use Rattle.std.specs.Prelude.{◌≡◌, ◌∷◌, [], codes, true, false, Ok, Err};
+ghost use Rattle.std.specs.Prelude.{◌≡◌, ◌∷◌, ◌++◌, [], codes, replicate, true, false, Ok, Err};
 ghost use Rattle.tree_model.specs.declared.entry.Entry.TheVariants.{Link};
 ghost use Rattle.meta_model.specs.declared.event.Why.TheVariants as why;
-ghost use Rattle.meta_model.specs.CleanBuild.{clean_build, clean_output, fails, given, task_output, waits};
+ghost use Rattle.meta_model.specs.CleanBuild.{clean_build, clean_output, fails, given, output_of, task_output, waits};
 ghost use Rattle.meta_model.specs.Layout.{layout};
 ghost use Rattle.meta_model.specs.Worked.{file, gave, outcomes, planned, shell};
 
@@ -59,6 +59,9 @@ pub fn example_of_outputs()
     ensures missing { given true ((codes "sys", codes "o") ∷ []) (file (codes "sysroot/a") (codes "1") ∷ []) ≡ [] }
     // without pairs the whole tree is the output
     ensures no_pairs { given true [] (file (codes "x") (codes "1") ∷ []) ≡ file (codes "x") (codes "1") ∷ [] }
+    // a path of more than 3,072 bytes is too long, also where a later part covers it
+    ensures covered { output_of true ((codes "a", codes "o/" ++ replicate 3071 120) ∷ ((codes "b", codes ".") ∷ []))
+        (Ok (file (codes "a/x") (codes "1") ∷ (file (codes "b/o") (codes "2") ∷ []))) ≡ Err why.TooLarge }
     // and of a task that is no shared state object, whatever its pairs
     ensures no_object { given false ((codes "a", codes ".") ∷ []) (file (codes "x") (codes "1") ∷ [])
         ≡ file (codes "x") (codes "1") ∷ [] }

@@ -56,7 +56,7 @@ pub use laws::{
     build_laws, entry_laws, expansion_laws, one_meaning, reading_laws, step_laws, winning_laws,
 };
 pub use line::{Kind, Line, Place, SyntaxFault};
-pub use plan::{Options, Plan, PlanTask};
+pub use plan::{MAX_OUTPUT_PATH, Options, Plan, PlanTask};
 pub use quoting::{Quoting, push_escaped};
 pub use statement::Statement;
 pub use task_words::{is_shell_name, task_name};

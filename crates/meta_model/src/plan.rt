@@ -3,6 +3,9 @@ use crate::facts::TaskId;
 use crate::value::Key;
 use tree_model::{ListOf, Text, Tree};
 
+/// The most bytes of a path of an output. (Own rule.)
+pub const MAX_OUTPUT_PATH: usize = 3072;
+
 /// A task of a plan.
 #[derive(Debug, Drop)]
 pub struct PlanTask {

@@ -1,5 +1,5 @@
 -- What each call of a disk does to the images, whatever it answers.
-use Rattle.std.proofs.Common.{◌≡◌, ◌⊎◌, inl, inr, ⊎_elim, ℕ, List, ◌∷◌, Option, Result, Ok, Err, None, OnOk, refl, sym, ◌∙◌, ap, subst, arith}
+use Rattle.std.proofs.Common.{◌≡◌, ◌⊎◌, inl, inr, ⊎_elim, ℕ, List, ◌∷◌, Option, Result, Ok, Err, None, refl, sym, ◌∙◌, ap, subst, arith}
 use Rattle.tree_model.specs.declared.entry.Entry.{Entry}
 use Rattle.outside_traits.specs.declared.call.Call.{Call}
 use Rattle.outside_traits.specs.declared.call.Call.TheVariants.{Looked, Synced, Put, Moved}
@@ -115,13 +115,5 @@ same_then {R = R} same first second = passes_then R first second (λ i j s. subs
 pub same_so : {a b : Story} (R : Store → Store → Type 0) → ((i : Store) → R i i) → Passes a b Same → Passes a b R
 same_so R same run = passes_so R run (λ i j s. subst (R i) (sym s) (same i))
 
-pub Moves-same : (p q : List ℕ) (x : Option Entry) (i : Store) → Moves p q x i i
-Moves-same p q x i = record { others = λ s np nq. refl; source = inl refl; target = inl refl }
-
 pub ChangesAt-same : (p : List ℕ) (i : Store) → ChangesAt p i i
 ChangesAt-same p i = record { others = λ q ne. refl }
-
--- after a sync each image holds what was held
-pub synced_at : {b c : Story} {T : Type 0} (r : Result T DiskFault) (p : List ℕ) (x : Option Entry) → Syncs b c r → b.held p ≡ x → OnOk r ((i : Store) → IsImage c i → i p ≡ x)
-synced_at {b} {c} (Ok v) p x did is = λ i img. let same : i ≡ b.held = subst (λ (s : Story). IsImage s i) did.answers img in (λ k. same k p) ∙ is
-synced_at (Err e) p x did is = tt

@@ -9,9 +9,9 @@ use Rattle.std.proofs.lemmas.List.Folds.{list_any-append}
 use Rattle.std.proofs.lemmas.List.Concat.{flat_map-append}
 use Rattle.meta_model.proofs.Bools.{either_way, same_text, text_itself, differs}
 use Rattle.meta_model.specs.Text.{is_in, is_empty, begins_with, colon, cuts, in_byte_order}
-use Rattle.datastore.specs.Picked.{picked, passes}
+use Rattle.value_maps.specs.Picked.{picked, passes}
 use Rattle.meta_model.proofs.Ordered.{ascending_same, ordered_ascending, ordered_in}
-use Rattle.datastore.proofs.Picked.{picked_ascending, picked_in}
+use Rattle.value_maps.proofs.Picked.{picked_ascending, picked_in}
 use Rattle.load_model.specs.Facts.{fronts_of}
 use Rattle.recipe_facts.specs.Fronts.{is_behind, longer_fronts}
 

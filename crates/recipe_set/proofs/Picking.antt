@@ -17,9 +17,9 @@ use Rattle.std.proofs.lemmas.Map.Keys.{sorted_head, sorted_tail}
 use Rattle.std.proofs.lemmas.Map.Text.{is_eq-slice_cmp, text_cmp}
 use Rattle.meta_model.proofs.Bools.{either_way, same_text, text_itself}
 use Rattle.meta_model.specs.Text.{is_in, is_empty, in_byte_order}
-use Rattle.datastore.specs.Picked.{picked, passes}
+use Rattle.value_maps.specs.Picked.{picked, passes}
 use Rattle.meta_model.proofs.Ordered.{ascending_same, ordered_ascending, ordered_in}
-use Rattle.datastore.proofs.Picked.{picked_ascending, picked_in}
+use Rattle.value_maps.proofs.Picked.{picked_ascending, picked_in}
 use Rattle.load_model.specs.Recipes.{Recipe}
 use Rattle.load_model.specs.Facts.{greater, greatest, recipe_cmp, fits, that_count, chosen, all_chosen}
 use Rattle.recipe_facts.proofs.Fronted.{turned}

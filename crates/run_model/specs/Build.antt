@@ -1,12 +1,11 @@
 -- What a run of a plan leaves.
-use Rattle.std.specs.Prelude.{◌≡◌, ◌≢◌, ◌⊎◌, ◌<◌, ◌≤◌, ◌+◌, ◌-◌, ◌^◌, ℕ, Bool, true, false, List, [], ◌∷◌, ◌++◌, length, take, Contains, Option, Some, Ok, Err}
+use Rattle.std.specs.Prelude.{◌≡◌, ◌≢◌, ◌⊎◌, ◌<◌, ◌≤◌, ◌+◌, ◌-◌, ◌^◌, ℕ, Bool, true, false, List, [], ◌∷◌, ◌++◌, codes, length, take, Contains, Option, None, Some, Ok, Err}
 use Rattle.std.specs.List.{slice_get, AllByRecursion}
 use Rattle.sha2.specs.Sha256.{sha256}
 use Rattle.tree_model.specs.Path.{IsAtOrBelow}
 use Rattle.outside_traits.specs.Passes.{EachNow}
 use Rattle.outside_traits.specs.Store.{Store}
 use Rattle.outside_traits.specs.Story.{IsImageSince, Story}
-use Rattle.meta_model.specs.declared.event.Avail.TheVariants.{Object}
 use Rattle.meta_model.specs.declared.event.Event.{Event}
 use Rattle.meta_model.specs.declared.event.Event.TheVariants as events
 use Rattle.meta_model.specs.declared.event.Logged.{Logged}
@@ -17,20 +16,20 @@ use Rattle.meta_model.specs.declared.plan.Plan.{Plan}
 use Rattle.meta_model.specs.declared.plan.PlanTask.{PlanTask}
 use Rattle.meta_model.specs.CleanBuild.{Built, Entries, Gives, clean_build, fails}
 use Rattle.store_model.specs.declared.signature.EquivRow.{EquivRow}
-use Rattle.store_model.specs.Available.{HoldsClean, IsAvailable, object_folder, stamp_path, work_folder}
+use Rattle.store_model.specs.Available.{HoldsClean, IsInObject, IsInWork, object_folder, stamp_path, work_folder}
 use Rattle.store_model.specs.Origins.{Book, Line, Reading, rows_of}
 use Rattle.store_model.specs.Signatures.{Signed, signatures}
 use Rattle.store_model.specs.Valid.{IsValid}
 use Rattle.store_model.specs.Lines.{HasLine, HaveSameLines}
-use Rattle.store_model.specs.Opened.{IsLeft, IsOpened}
+use Rattle.store_model.specs.Opened.{HasNoLitter, IsLeft, IsOpened}
 use Rattle.store_model.specs.Readable.{HoldsRecords, IsReadable}
 use Rattle.run_model.specs.Report.{tale_text}
 use Rattle.run_model.specs.Books.{book_after}
 use Rattle.run_model.specs.Causes.{IsClashOf, IsUnsteadyOf}
 use Rattle.run_model.specs.Courses.{IsLegalTale}
-use Rattle.run_model.specs.Opening.{HasFolders, Opening}
+use Rattle.run_model.specs.Opening.{Opening}
 use Rattle.run_model.specs.Own.{IsAside, IsObjectOfNone}
-use Rattle.run_model.specs.Stands.{AllStand, HasBroken, HasStarted, IsHonest, IsPlaced}
+use Rattle.run_model.specs.Stands.{AllStand, HasBroken, HasFinished, HasStarted, IsHonest, IsPlaced, WereThere}
 use Rattle.run_model.specs.Runs.{RanScripts, Runs}
 use Rattle.run_model.specs.Seats.{own}
 use Rattle.run_model.specs.Seats as worked
@@ -46,14 +45,13 @@ abbrev pub AllClean : Gives → Plan → Type 0
 AllClean gives plan = (t : ℕ) (built : Built) → slice_get (clean_build gives plan.tasks) t ≡ Some built → (tree : Entries) × (built.outcome ≡ Ok tree)
 
 -- *Every crash leaves a valid store*: its book has the lines of the entry's, and behind them others (those that the run recorded: `HasRun`);
--- all of them can be read again, and folders stand where the store keeps them.
+-- all of them can be read again.
 pub record IsCrash (gives : Gives) (reading : Reading) (book : Book) (image : Store) : Type 0 where
   pub again : Book
   pub same : HaveSameLines book again
   pub lines : Book
   pub valid : IsValid gives reading image (again ++ lines)
   pub readable : AllByRecursion IsReadable (again ++ lines)
-  pub folders : HasFolders image
 
 -- A crash while the store was opened left it valid with the opening's book, and all that opening leaves alone as it was at entry, so each stamp
 -- and each work folder.
@@ -70,6 +68,8 @@ pub record IsLeftByRun (opening : Opening) (plan : Plan) (lines : Book) (image :
 
 -- A tale that is legal over the store as it was opened, with the lines of the entry's book in its own order. Behind these the run recorded
 -- the lines of what ended, and where it met a fault one more at most. Each settled task stands to the end, and since the moment of its event.
+-- What was found, restored and started was there so, or missing; what ended or broke off was started; and where the run met no fault it leaves
+-- no litter.
 pub record HasRun (gives : Gives) (reading : Reading) (book : Book) (held : Store) (plan : Plan) (options : Options) (tale : List Logged) (s : Status) (now : Story) : Type 0 where
   pub opening : Opening
   pub same_gives : opening.gives ≡ gives
@@ -77,12 +77,15 @@ pub record HasRun (gives : Gives) (reading : Reading) (book : Book) (held : Stor
   pub same_lines : HaveSameLines book opening.book
   pub opened : IsOpened held opening.story.held (rows_of opening.book)
   pub legal : IsLegalTale opening plan options tale
+  pub there : WereThere opening plan options tale
+  pub started : (t : ℕ) → HasFinished tale t ⊎ HasBroken tale t → HasStarted tale t
   pub lines : Book
   pub grown : book_after gives plan opening.book tale ≡ opening.book ++ lines
   pub last : Book
   pub few_last : length last ≤ 1
   pub none_last : is_faultless s ≡ true → last ≡ []
   pub recorded : is_faultless s ≡ true → EachNow now (λ image. IsValid gives reading image (opening.book ++ lines))
+  pub swept : is_faultless s ≡ true → HasNoLitter now.held
   pub early : (image : Store) → IsImageSince opening.story 0 image → IsLeftByOpening opening held image
   pub images : (image : Store) → IsImageSince now 0 image → IsImageSince opening.story 0 image ⊎ IsLeftByRun opening plan (lines ++ last) image
   pub stands : EachNow now (AllStand opening plan tale)
@@ -125,10 +128,10 @@ pub record IsLeftAlone (book : Book) (held image : Store) (of : PlanTask) : Type
 
 -- The run was halted while it published or restored the task: it met a fault, so its status isn't one of those that come without; and the tale
 -- breaks the task off by that, or the task had an object to be restored from, by its signature over the lines of the book and those that the
--- tale puts behind them.
+-- tale puts behind them: its output wasn't in its work folder, and it had the object, unless something stood at `obj`, which opening takes away.
 pub record WasHalted (gives : Gives) (book : Book) (held : Store) (plan : Plan) (options : Options) (tale : List Logged) (s : Status) (t : ℕ) : Type 0 where
   pub faulty : is_faultless s ≡ false
-  pub begun : HasBroken tale t ⊎ ((sg : Signed) → slice_get (signatures (rows_of (book_after gives plan book tale)) plan.tasks) t ≡ Some sg → IsAvailable held (rows_of (book_after gives plan book tale)) options.setscene sg Object)
+  pub begun : HasBroken tale t ⊎ ((sg : Signed) → slice_get (signatures (rows_of (book_after gives plan book tale)) plan.tasks) t ≡ Some sg → (IsInWork held (rows_of (book_after gives plan book tale)) sg → ⊥) × (held (codes "obj") ≡ None → IsInObject held (rows_of (book_after gives plan book tale)) options.setscene sg))
 
 -- The run may have touched the task: it ended in the tale, or the tale restores it, or it is the one at which the run was halted.
 abbrev pub MayTouch : Gives → Book → Store → Plan → Options → List Logged → Status → ℕ → ℕ → Type 0
@@ -141,15 +144,16 @@ MayPublish gives book held plan options tale s halted t = MayTouch gives book he
 -- Whatever a crash leaves since the run began, all else is left alone: each task of the plan that the run can't have touched, with the objects
 -- of the book's lines of it; the object of each line of the book, unless a task of the line's PN and name was published with the line's unihash;
 -- and, be it of a task of the plan or not, each path that opening the store leaves alone, that isn't under `tmp/`, that is neither the stamp nor
--- at or under the work folder of a task which the run may have touched, and, where the run may have published one, not at or under `rec` or
--- `obj`. (What is under `rec` there, `IsCrash` says.) The lines of the book have some order.
+-- at or under the work folder of a task which the run may have touched, nor above that folder, unless nothing was held there, and, where the run
+-- may have published one, not at or under `rec` or `obj`, unless it is `obj` and nothing was held there. (What is under `rec` there, `IsCrash`
+-- says.) The lines of the book have some order.
 pub record LeavesOthers (gives : Gives) (book : Book) (held : Store) (plan : Plan) (options : Options) (tale : List Logged) (s : Status) (story : Story) : Type 0 where
   pub again : Book
   pub same : HaveSameLines book again
   pub halted : ℕ
   pub others : (image : Store) → IsImageSince story 0 image → (t : ℕ) (task : PlanTask) → slice_get plan.tasks t ≡ Some task → (MayTouch gives again held plan options tale s halted t → ⊥) → IsLeftAlone book held image task
   pub objects : (image : Store) → IsImageSince story 0 image → (line : Line) → HasLine book line → IsObjectOfNone gives plan again tale (MayPublish gives again held plan options tale s halted) line → (q : List ℕ) → IsAtOrBelow (object_folder line.unihash) q → image q ≡ held q
-  pub paths : (image : Store) → IsImageSince story 0 image → (q : List ℕ) → IsLeft held q → IsAside plan (MayTouch gives again held plan options tale s halted) (MayPublish gives again held plan options tale s halted) q → image q ≡ held q
+  pub paths : (image : Store) → IsImageSince story 0 image → (q : List ℕ) → IsLeft held q → IsAside held plan (MayTouch gives again held plan options tale s halted) (MayPublish gives again held plan options tale s halted) q → image q ≡ held q
 
 -- ---- failed tasks
 

@@ -33,14 +33,14 @@ IsPromised gives reading held call =
     (book : Book) → MayBegin gives reading book held call.plan → Keeps gives reading book held call.plan call.options call.tales call.status call.story call.before call.now
 
 -- the plan may take what it wants of whatever book is valid there
-abbrev pub MayReuseAny : Gives → Reading → Store → Plan → Type 0
-MayReuseAny gives reading held plan = (book : Book) → IsValid gives reading held book → MayTake gives reading held book plan.tasks
+abbrev pub MayTakeAny : Gives → Reading → Store → Plan → Type 0
+MayTakeAny gives reading held plan = (book : Book) → IsValid gives reading held book → MayTake gives reading held book plan.tasks
 
 -- What a disk holds in an era: nothing; or what an interruption at any moment of a call left, or its end, where the call was made on what the
 -- disk held in the era, and its plan might reuse that.
 pub data IsOfEra (gives : Gives) (reading : Reading) : Store → Type 0 where
   begins : IsOfEra gives reading nothing
-  goes_on : (held : Store) (call : Call) (image : Store) → IsOfEra gives reading held → MayReuseAny gives reading held call.plan → IsPromised gives reading held call → IsImageSince call.story 0 image → IsOfEra gives reading image
+  goes_on : (held : Store) (call : Call) (image : Store) → IsOfEra gives reading held → MayTakeAny gives reading held call.plan → IsPromised gives reading held call → IsImageSince call.story 0 image → IsOfEra gives reading image
 
 -- There is a book by which what is held is valid, and by which a run of any plan that may take of it may begin.
 pub record HasBook (gives : Gives) (reading : Reading) (held : Store) : Type 0 where
@@ -55,5 +55,5 @@ ErasGoOn = (gives : Gives) (reading : Reading) (held : Store) → IsOfEra gives 
 -- And a call that answers Ok leaves exactly the clean outputs of its targets, whatever a crash behind it leaves.
 abbrev pub ErasAreExact : Type 0
 ErasAreExact =
-    (gives : Gives) (reading : Reading) (held : Store) (call : Call) → IsOfEra gives reading held → MayReuseAny gives reading held call.plan → IsPromised gives reading held call
+    (gives : Gives) (reading : Reading) (held : Store) (call : Call) → IsOfEra gives reading held → MayTakeAny gives reading held call.plan → IsPromised gives reading held call
     → call.status ≡ status.Ok → EachNow call.story (HasTargets gives call.plan)

@@ -14,7 +14,7 @@ use Rattle.store_model.specs.Origins.{Book, Reading}
 use Rattle.store_model.specs.Valid.{IsValid}
 use Rattle.store_model.specs.Readable.{IsReadable}
 use Rattle.plan_model.specs.Sound.{AreWanted}
-use Rattle.run_model.specs.Opening.{HasFolders, MayTake}
+use Rattle.run_model.specs.Opening.{MayTake}
 use Rattle.run_model.specs.Runs.{Runs}
 use Rattle.run_model.specs.Benches.{AtSeats}
 use Rattle.run_model.specs.Build.{FailsClean, HasRun, HasTargets, IsCrash, IsEachFailureTold, LeavesOthers, RanStarted, failed_in, is_unsteady}
@@ -23,12 +23,11 @@ use Rattle.run_model.specs.Build.{FailsClean, HasRun, HasTargets, IsCrash, IsEac
 abbrev pub nothing : Store
 nothing path = None
 
--- What is asked of a run beside its devices: what the disk holds is valid with a book of lines that can be read again, and has folders
--- where the store keeps them; and the plan may take of the book what it wants.
+-- What is asked of a run beside its devices: what the disk holds is valid with a book of lines that can be read again, and the plan may take of
+-- the book what it wants.
 pub record MayBegin (gives : Gives) (reading : Reading) (book : Book) (held : Store) (plan : Plan) : Type 0 where
   pub valid : IsValid gives reading held book
   pub readable : AllByRecursion IsReadable book
-  pub folders : HasFolders held
   pub may : MayTake gives reading held book plan.tasks
 
 -- Each bench ran what its seat started in the tale, each over the clean outputs of what it needs; without a tale none ran anything.

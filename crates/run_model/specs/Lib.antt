@@ -18,3 +18,4 @@ pub mod Benches
 pub mod Build
 pub mod Headline
 pub mod Era
+pub mod Lasts

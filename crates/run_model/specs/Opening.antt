@@ -1,6 +1,5 @@
 -- What a run begins with, where its disk tells.
-use Rattle.std.specs.Prelude.{◌≡◌, ℕ, List, None, codes}
-use Rattle.tree_model.specs.Path.{inside}
+use Rattle.std.specs.Prelude.{List}
 use Rattle.outside_traits.specs.Store.{Store}
 use Rattle.outside_traits.specs.Story.{Story}
 use Rattle.meta_model.specs.CleanBuild.{Gives}
@@ -8,7 +7,6 @@ use Rattle.meta_model.specs.declared.plan.PlanTask.{PlanTask}
 use Rattle.store_model.specs.Origins.{Book, Reading, rows_of}
 use Rattle.store_model.specs.Premises.{HasNoCollision}
 use Rattle.store_model.specs.Reuse.{MayReuse}
-use Rattle.store_model.specs.Paths.{slashes}
 
 -- What scripts give, what the lines of a key say, the disk as the store was opened on it, and the book of its rows.
 pub record Opening : Type 0 where
@@ -21,9 +19,3 @@ pub record Opening : Type 0 where
 -- finds itself.
 abbrev pub MayTake : Gives → Reading → Store → Book → List PlanTask → Type 0
 MayTake gives reading held book tasks = HasNoCollision book (rows_of book) tasks → MayReuse gives reading held book tasks
-
--- Nothing is held at `work` and `obj`, nor right below `work`: there folders stand (own rule).
-pub record HasFolders (held : Store) : Type 0 where
-  pub work : held (codes "work") ≡ None
-  pub objects : held (codes "obj") ≡ None
-  pub parts : (part : List ℕ) → slashes part ≡ 0 → held (inside (codes "work") part) ≡ None

@@ -22,8 +22,8 @@ pub record IsAtEnd (plan : Plan) (options : Options) (tale : List Logged) : Type
 
 -- Under Ok nothing is left to do, and no task failed; where a task failed it stands in the tale, and with `-k` nothing else is left to do.
 -- Neither of the two comes where a task broke off since a bench failed or memory was wanting, though another bench did it after all. Where one
--- broke off by a fault, the status is that of a fault that was kept. The first of these causes that stands is told: a fault that was kept, a bench
--- that failed, want of memory, a task that failed.
+-- broke off by a fault, the status is that of a fault that was kept. Of the causes that the tale shows the first one is told: a fault, a bench that
+-- failed, want of memory, a task that failed. A fault that was kept needn't have broken a task off, and so may be told before any of them.
 pub record EndsAs (plan : Plan) (options : Options) (tale : List Logged) (s : Status) : Type 0 where
   pub ok : s ≡ status.Ok → IsAtEnd plan options tale × (has_failure tale ≡ false)
   pub failed : s ≡ status.TaskFailed → has_failure tale ≡ true

@@ -1,7 +1,8 @@
 -- Which paths of a store are the own ones of tasks. (Own rules.)
-use Rattle.std.specs.Prelude.{◌≡◌, ◌⊎◌, ℕ, List, take, codes, Some, Ok}
+use Rattle.std.specs.Prelude.{◌≡◌, ◌⊎◌, ℕ, List, take, codes, None, Some, Ok}
 use Rattle.std.specs.List.{slice_get}
 use Rattle.tree_model.specs.Path.{IsAtOrBelow, IsBelow}
+use Rattle.outside_traits.specs.Store.{Store}
 use Rattle.meta_model.specs.declared.plan.Plan.{Plan}
 use Rattle.meta_model.specs.declared.plan.PlanTask.{PlanTask}
 use Rattle.meta_model.specs.CleanBuild.{Entries, Gives}
@@ -25,12 +26,14 @@ IsOfFolder task q = IsAtOrBelow (work_folder task) q ⊎ (q ≡ stamp_path task)
 abbrev pub IsShared : List ℕ → Type 0
 IsShared q = IsAtOrBelow (codes "rec") q ⊎ IsAtOrBelow (codes "obj") q
 
--- The path isn't under `tmp/`; it isn't at or under the work folder of a task of the plan that was touched, nor its stamp; and where one was
--- published it isn't one at which records and objects are.
-pub record IsAside (plan : Plan) (touched published : ℕ → Type 0) (q : List ℕ) : Type 0 where
+-- The path isn't under `tmp/`; it isn't at or under the work folder of a task of the plan that was touched, nor its stamp, nor is it above that
+-- folder, unless nothing was held there; and where one was published it isn't one at which records and objects are, unless it is `obj` and
+-- nothing was held there.
+pub record IsAside (held : Store) (plan : Plan) (touched published : ℕ → Type 0) (q : List ℕ) : Type 0 where
   pub temporary : IsBelow (codes "tmp") q → ⊥
   pub folder : (t : ℕ) (task : PlanTask) → slice_get plan.tasks t ≡ Some task → touched t → IsOfFolder task q → ⊥
-  pub output : (t : ℕ) → published t → IsShared q → ⊥
+  pub above : (t : ℕ) (task : PlanTask) → slice_get plan.tasks t ≡ Some task → touched t → IsBelow q (work_folder task) → held q ≡ None
+  pub output : (t : ℕ) → published t → IsShared q → (q ≡ codes "obj") × (held q ≡ None)
 
 -- Over these rows the task's clean output is published with this unihash: that of its record, where it is stored; else that with which it is
 -- recorded.

@@ -1,18 +1,22 @@
 -- What stands of a run in what a crash leaves.
-use Rattle.std.specs.Prelude.{◌≡◌, ◌≢◌, ◌⊎◌, ℕ, true, false, List, length, Some, None}
+use Rattle.std.specs.Prelude.{◌≡◌, ◌≢◌, ◌⊎◌, ℕ, true, false, List, Option, length, take, Some, None}
 use Rattle.std.specs.List.{slice_get}
 use Rattle.tree_model.specs.Path.{inside}
 use Rattle.tree_model.specs.Tree.{IsTree, entry_at}
 use Rattle.outside_traits.specs.Store.{Store}
+use Rattle.meta_model.specs.declared.event.Avail.{Avail}
+use Rattle.meta_model.specs.declared.event.Avail.TheVariants.{Missing, Object, Work}
 use Rattle.meta_model.specs.declared.event.Cut.{Cut}
 use Rattle.meta_model.specs.declared.event.Cut.TheVariants as cuts
+use Rattle.meta_model.specs.declared.event.Event.{Event}
 use Rattle.meta_model.specs.declared.event.Event.TheVariants as events
 use Rattle.meta_model.specs.declared.event.Logged.{Logged}
+use Rattle.meta_model.specs.declared.plan.Options.{Options}
 use Rattle.meta_model.specs.declared.plan.Plan.{Plan}
 use Rattle.meta_model.specs.declared.plan.PlanTask.{PlanTask}
 use Rattle.meta_model.specs.CleanBuild.{Built, clean_build}
 use Rattle.store_model.specs.declared.signature.EquivRow.{EquivRow}
-use Rattle.store_model.specs.Available.{HoldsClean, IsInWork, object_folder, stamp_path, task_folder, work_folder}
+use Rattle.store_model.specs.Available.{HoldsClean, IsAvailable, IsInWork, object_folder, stamp_path, task_folder, work_folder}
 use Rattle.store_model.specs.Rows.{row_at, uni}
 use Rattle.store_model.specs.Signatures.{Signed}
 use Rattle.store_model.specs.Spelling.{name_of}
@@ -46,6 +50,20 @@ pub record HasStarted (tale : List Logged) (t : ℕ) : Type 0 where
   pub is_entry : slice_get tale place ≡ Some entry
   pub seat : ℕ
   pub starts : entry.event ≡ events.Started t seat
+
+-- Of which task the event tells how its output was there: one that is found was in its work folder, one that is restored had an object, and
+-- one that is started was missing.
+abbrev pub there_by : Event → Option (ℕ × Avail)
+there_by (events.Found t) = Some (t, Work)
+there_by (events.Restored t) = Some (t, Object)
+there_by (events.Started t seat) = Some (t, Missing)
+there_by _ = None
+
+-- So it was of each task that the tale finds, restores or starts, in what was held as the run began, by the task's signature over the rows before
+-- that event.
+abbrev pub WereThere : Opening → Plan → Options → List Logged → Type 0
+WereThere o plan options tale = (k t : ℕ) (there : Avail) (entry : Logged) → slice_get tale k ≡ Some entry → there_by entry.event ≡ Some (t, there) →
+    (s : Signed) → signed_after o plan (take k tale) t ≡ Some s → IsAvailable o.story.held (rows_after o plan (take k tale)) options.setscene s there
 
 -- the tale restores the task
 pub record HasRestored (tale : List Logged) (t : ℕ) : Type 0 where

@@ -194,13 +194,6 @@ ended_or fates t = by (fate_at fates t)
     by fate.Ended = inl refl
     by fate.Failed = inr (λ e. cc)
 
-settled_or : (fates : List Fate) (t : ℕ) → (is_settled (fate_at fates t) ≡ true) ⊎ (is_settled (fate_at fates t) ≡ false)
-settled_or fates t = by (is_settled (fate_at fates t))
-  where
-    by : (b : Bool) → (b ≡ true) ⊎ (b ≡ false)
-    by true = inl refl
-    by false = inr refl
-
 module _ (plan : Plan) (need other : List Bool) (avail others : List Avail) (fates : List Fate) (long : length fates ≡ length plan.tasks) (is : IsNeed plan avail need) (too : IsNeed plan others other)
     (agree : (t : ℕ) → (fate_at fates t ≡ fate.Ended → ⊥) → IsIn need t → slice_get avail t ≡ slice_get others t) (settles : Settles plan.tasks others fates) where
   in_front : (t : ℕ) → is_settled (fate_at fates t) ≡ true → IsIn (with_settled need fates) t

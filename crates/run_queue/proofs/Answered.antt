@@ -1,6 +1,6 @@
 -- What a store answers now of the tasks of a plan is what was so when the run began.
 use Rattle.std.proofs.Common.{◌≡◌, ◌≢◌, ◌∙◌, sym, ap, subst, refl, ℕ, Bool, List, [], ◌∷◌, ◌++◌, append-nil, get_or, Option, Some, None, slice_get, inl, inr}
-use Rattle.std.specs.Prelude.{◌⊎◌, All}
+use Rattle.std.specs.Prelude.{◌⊎◌, All, IsSome}
 use Rattle.std.specs.List.{AllByRecursion}
 use Rattle.std.proofs.lemmas.Option.{none-some, same_Some, slice_get-get_or, slice_get_within}
 use Rattle.tree_model.specs.declared.hash.Hash.{Hash}
@@ -16,7 +16,7 @@ use Rattle.run_core.specs.Need.{AreOrdered}
 use Rattle.tale_model.specs.Need.{IsIn}
 use Rattle.store_model.specs.declared.signature.EquivRow.{EquivRow}
 use Rattle.store_model.specs.declared.signature.SigRecord.{SigRecord}
-use Rattle.store_model.specs.Available.{IsAvailable, IsInObject, IsInWork, Matches, object_folder, stamp_path, work_folder}
+use Rattle.store_model.specs.Available.{IsAvailable, IsInObject, IsInWork, Matches, object_folder, stamp_path, task_folder, work_folder}
 use Rattle.store_model.specs.Origins.{Book, Line, rows_of}
 use Rattle.store_model.specs.Premises.{HasNoCollision, HasOneSignature}
 use Rattle.store_model.specs.Rows.{row_at, IsClear}
@@ -26,8 +26,8 @@ use Rattle.store_model.specs.OneSpelling.{SignatureFits}
 use Rattle.store_model.specs.Valid.{IsValidBook, StandsIn}
 use Rattle.store_model.proofs.Standing.{row_found, stands_behind}
 use Rattle.store_model.specs.Lines.{HasLine}
-use Rattle.build_store.specs.Named.{IsName}
-use Rattle.build_store.specs.Paths.{HasPlace}
+use Rattle.store_opening.specs.Named.{IsName}
+use Rattle.store_opening.specs.Paths.{HasPlace}
 use Rattle.store_model.specs.Readable.{IsReadable}
 use Rattle.sig_gen.specs.Signing.{signature_by}
 use Rattle.setscene_plan.specs.declared.replan.Replan.{Replan}
@@ -48,11 +48,11 @@ use Rattle.run_queue.proofs.Placing.{has_place}
 
 -- ---- a task of which nothing changed
 
--- the stores agree on all that a task's availability depends on
+-- The stores agree on all that a task's availability depends on: what is above its work folder counts where it has a stamp.
 pub record AgreesOn (one other : Store) (rows : List EquivRow) (s : Signed) : Type 0 where
   pub stamp : one (stamp_path s.task) ≡ other (stamp_path s.task)
   pub work : (q : List ℕ) → IsAtOrBelow (work_folder s.task) q → one q ≡ other q
-  pub above : (q : List ℕ) → IsBelow q (work_folder s.task) → one q ≡ other q
+  pub above : IsSome (one (stamp_path s.task)) → (q : List ℕ) → IsBelow q (work_folder s.task) → one q ≡ other q
   pub object : (row : EquivRow) → row_at rows (name_of s.sig) ≡ Some row → (q : List ℕ) → IsAtOrBelow (object_folder row.unihash) q → one q ≡ other q
   pub above_object : (row : EquivRow) → row_at rows (name_of s.sig) ≡ Some row → (q : List ℕ) → IsBelow q (object_folder row.unihash) → one q ≡ other q
 
@@ -60,7 +60,7 @@ pub agrees_back : (one other : Store) (rows : List EquivRow) (s : Signed) → Ag
 agrees_back one other rows s a = record {
   stamp = sym a.stamp;
   work = λ q below. sym (a.work q below);
-  above = λ q below. sym (a.above q below);
+  above = λ stamped q below. sym (a.above (subst IsSome (sym a.stamp) stamped) q below);
   object = λ row at q below. sym (a.object row at q below);
   above_object = λ row at q below. sym (a.above_object row at q below);
 }
@@ -85,7 +85,7 @@ work_on one other rows s a is = record {
   row = is.row;
   stored = is.stored;
   stamp = sym a.stamp ∙ is.stamp;
-  folder = matches_on one other (work_folder s.task) is.row.manifest a.work a.above is.folder;
+  folder = matches_on one other (work_folder s.task) is.row.manifest a.work (a.above (subst IsSome (sym is.stamp) refl)) is.folder;
 }
 
 object_on : (one other : Store) (rows : List EquivRow) (setscene : Bool) (s : Signed) → AgreesOn one other rows s → IsInObject one rows setscene s → IsInObject other rows setscene s
@@ -145,20 +145,22 @@ own_name tasks us task = refl
 -- ---- a run
 
 module _ (o : Opening) (s : Seen) (run : IsRun o s) (sound : IsSound s.story) where
-  held_left : IsLeft o s (run.lines ++ run.last) s.story.held
+  held_left : IsLeft o s.plan s.begun s.tale (run.lines ++ run.last) s.story.held
   held_left = left_since o s run s.story.held (now-since s.story (moment o.story) s.story.held run.later (held-image s.story sound))
 
   rows_are : s.rows ≡ rows_of (o.book ++ run.lines)
   rows_are = run.rows ∙ ap rows_of run.grown
 
   -- of a task that wasn't begun what is held now is what was held when the run began, as far as its availability asks
-  pub unbegun : (image : Store) → IsLeft o s (run.lines ++ run.last) image → (t : ℕ) (sg : Signed) → s.fault ≡ None → slice_get s.plan.tasks t ≡ Some sg.task → (IsBegun s t → ⊥) → sg.sig.pn ≡ sg.task.id.pn → sg.sig.task ≡ sg.task.id.task → HasOneSignature (o.book ++ run.lines) sg → AgreesOn image o.story.held s.rows sg
+  pub unbegun : (image : Store) → IsLeft o s.plan s.begun s.tale (run.lines ++ run.last) image → (t : ℕ) (sg : Signed) → s.fault ≡ None → slice_get s.plan.tasks t ≡ Some sg.task → (IsBegun s t → ⊥) → sg.sig.pn ≡ sg.task.id.pn → sg.sig.task ≡ sg.task.id.task → HasOneSignature (o.book ++ run.lines) sg → AgreesOn image o.story.held s.rows sg
   unbegun image left t sg none at fresh pn name one = record {
     stamp = kept.stamp;
     work = kept.work;
-    above = λ q below. above_work image sg.task q left.folders place below ∙ sym (above_work o.story.held sg.task q run.may.folders place below);
+    above = λ stamped q below.
+        let none = run.may.way.stamps (task_folder sg.task) (subst IsSome kept.stamp stamped) q below in
+        above_work o.story.held image sg.task q left.folders place below none ∙ sym none;
     object = λ row is q below. let l = line_of row is in kept.objects l.0 l.1 l.2 l.3 q (subst (λ (h : _). IsAtOrBelow (object_folder h) q) (sym l.4) below);
-    above_object = λ row is q below. let name = unihash_name row is in above_object image row.unihash q left.folders name below ∙ sym (above_object o.story.held row.unihash q run.may.folders name below);
+    above_object = λ row is q below. let name = unihash_name row is in above_object image row.unihash q (left.folders.objects run.may.way.objects) name below ∙ sym (above_object o.story.held row.unihash q run.may.way.objects name below);
   }
     where
       place : HasPlace sg.task
@@ -257,11 +259,13 @@ known_run o s k run there = record {
   none_last = run.none_last;
   valid = run.valid;
   durable = run.durable;
+  swept = run.swept;
   objects = run.objects;
   later = run.later;
   marked = run.marked;
   reusable = run.reusable;
   legal = run.legal;
+  were_there = run.were_there;
   real = run.real;
   stored = run.stored;
   there = there;
@@ -270,10 +274,7 @@ known_run o s k run there = record {
   halted = run.halted;
   told = told_by s.begun s.begun s.tale s.tale s.fault s.fault run.halted (MayBeHalted o s) (MayBeHalted o (record s { known = Some k })) nobody (λ u b. inl b) (λ u up. up) (λ none. none)
       (halted_as o s (record s { known = Some k }) (λ u broken. broken) (λ u was x here. was x here)) (λ u never. absurd never) run.told;
-  images = λ t image le since. elim (run.images t image le since) [
-    | inl before ↦ inl before
-    | inr l ↦ inr (record { count = l.count; valid = l.valid; honest = l.honest; others = l.others; paths = l.paths; objects = l.objects; folders = l.folders })
-  ];
+  images = run.images;
   stands = run.stands;
   settled = run.settled;
 }

@@ -14,16 +14,16 @@ use Rattle.store_model.specs.Available.{object_folder, task_folder, work_folder}
 use Rattle.store_model.specs.Premises.{Differ}
 use Rattle.build_store.specs.Laws.{KeepsObject}
 use Rattle.store_model.specs.Lines.{KeepsWork}
-use Rattle.build_store.specs.Paths.{HasPlace}
+use Rattle.store_opening.specs.Paths.{HasPlace}
 use Rattle.store_model.specs.Paths.{record_path, slashes}
 use Rattle.build_store.specs.Publication.{IsForeign, IsPublished, IsUntouched, Publishes, KeepsOthers}
 use Rattle.store_model.specs.Publication.{Publication, stamp_at, work_at}
-use Rattle.build_store.proofs.Areas.{apart_by_first, differ, heads_differ}
+use Rattle.store_opening.proofs.Areas.{apart_by_first, differ, heads_differ}
 use Rattle.build_store.proofs.Others.{others_untouched}
-use Rattle.build_store.proofs.Slashes.{slashes_inside}
-use Rattle.run_model.specs.Opening.{HasFolders}
+use Rattle.store_opening.proofs.Slashes.{slashes_inside}
 use Rattle.run_model.specs.Own.{IsOfFolder}
 use Rattle.run_model.specs.Stands.{IsHonest, IsTold}
+use Rattle.run_queue.specs.Stands.{KeepsFolders}
 
 -- ---- paths above folders
 
@@ -205,33 +205,35 @@ object_on p held old earlier new unihash tree plain keeps publishes round h b ho
 
 -- ---- folders
 
--- Nothing comes to stand where folders are wanted. `earlier` is the image of which the changed one tells what was empty above a folder.
-pub folders_on : (p : Publication) (held earlier new : Store) (task : PlanTask) → HasPlace task → p.folder ≡ task_folder task → KeepsOthers p.folder p.object held earlier new → HasFolders held → HasFolders earlier → HasFolders new
-folders_on p held earlier new task place folder keeps h e = record {
-  work = keeps.above_work (codes "work") (p.folder, refl) h.work ∙ e.work;
-  objects = at_objects p.object refl;
-  parts = λ part plain. at_part part plain (path_cases part task.id.pn);
+-- Nothing comes to stand in the way of folders where nothing did at first. `held` is what was held before the publication, `earlier` the image of
+-- which the changed one tells what was empty above a folder.
+pub folders_on : (p : Publication) (first held earlier new : Store) (task : PlanTask) → HasPlace task → p.folder ≡ task_folder task → KeepsOthers p.folder p.object held earlier new → KeepsFolders first held → KeepsFolders first earlier → KeepsFolders first new
+folders_on p first held earlier new task place folder keeps h e = record {
+  work = λ none. keeps.above_work (codes "work") (p.folder, refl) (h.work none) ∙ e.work none;
+  objects = λ none. at_objects none p.object refl;
+  parts = λ part plain none. at_part part plain none (path_cases part task.id.pn);
 }
   where
-    at_objects : (o : Option Hash) → p.object ≡ o → new (codes "obj") ≡ None
-    at_objects (Some unihash) is = keeps.above_object unihash is (codes "obj") (hash_text unihash, refl) h.objects ∙ e.objects
-    at_objects None is = keeps.objects (codes "obj") (inl refl) (λ unihash some. absurd (let n : None ≡ Some unihash = sym is ∙ some in cc)) ∙ e.objects
+    at_objects : first (codes "obj") ≡ None → (o : Option Hash) → p.object ≡ o → new (codes "obj") ≡ None
+    at_objects none (Some unihash) is = keeps.above_object unihash is (codes "obj") (hash_text unihash, refl) (h.objects none) ∙ e.objects none
+    at_objects none None is = keeps.objects (codes "obj") (inl refl) (λ unihash some. absurd (let n : None ≡ Some unihash = sym is ∙ some in cc)) ∙ e.objects none
 
-    at_part : (part : List ℕ) → slashes part ≡ 0 → (part ≡ task.id.pn) ⊎ (part ≢ task.id.pn) → new (inside (codes "work") part) ≡ None
-    at_part part plain (inl same) =
+    at_part : (part : List ℕ) → slashes part ≡ 0 → first (inside (codes "work") part) ≡ None → (part ≡ task.id.pn) ⊎ (part ≢ task.id.pn) → new (inside (codes "work") part) ≡ None
+    at_part part plain none (inl same) =
         keeps.above_work (inside (codes "work") part)
         (subst (λ (f : List ℕ). IsBelow (inside (codes "work") part) (work_at f)) (sym folder) (task.id.task, ap (λ (l : List ℕ). inside (codes "work") (inside l task.id.task)) (sym same) ∙ sym (append_assoc (codes "work") (47 ∷ part) (47 ∷ task.id.task))))
-        (h.parts part plain) ∙ e.parts part plain
-    at_part part plain (inr ne) =
+        (h.parts part plain none) ∙ e.parts part plain none
+    at_part part plain none (inr ne) =
         keeps.work (inside (codes "work") part) (inr (part, refl))
-        (subst (λ (f : List ℕ). IsApart (work_at f) (inside (codes "work") part)) (sym folder) (recipes_apart task.id.pn task.id.task part place.pn.alone place.task.alone plain ne)) ∙ e.parts part plain
+        (subst (λ (f : List ℕ). IsApart (work_at f) (inside (codes "work") part)) (sym folder) (recipes_apart task.id.pn task.id.task part place.pn.alone place.task.alone plain ne)) ∙ e.parts part plain none
 
 -- ---- paths that are none of a publication's own
 
--- What a publication leaves of a path that isn't under `tmp/`, at or under the work folder or the object, the stamp or a new record.
-pub aside_stays : (p : Publication) (task : PlanTask) (old new : Store) (q : List ℕ) → HasPlace task → p.folder ≡ task_folder task → Publishes p old new → HasFolders old → HasFolders new
-    → (IsBelow (codes "tmp") q → ⊥) → (IsOfFolder task q → ⊥) → (p.is_new ≡ true → q ≢ record_path p.name) → ((unihash : Hash) → p.object ≡ Some unihash → (slashes (hash_text unihash) ≡ 0) × (IsAtOrBelow (object_folder unihash) q → ⊥)) → new q ≡ old q
-aside_stays p task old new q place folder publishes before after temporary own stored shared = by (path_cases q (codes "work")) (path_cases q (inside (codes "work") task.id.pn)) (path_cases q (codes "obj"))
+-- What a publication leaves of a path that isn't under `tmp/`, at or under the work folder or the object, the stamp or a new record, nor above
+-- the work folder, unless nothing was held there at first; nor was anything at `obj`.
+pub aside_stays : (p : Publication) (task : PlanTask) (first old new : Store) (q : List ℕ) → HasPlace task → p.folder ≡ task_folder task → Publishes p old new → KeepsFolders first old → KeepsFolders first new → first (codes "obj") ≡ None
+    → (IsBelow (codes "tmp") q → ⊥) → (IsOfFolder task q → ⊥) → (IsBelow q (work_folder task) → first q ≡ None) → (p.is_new ≡ true → q ≢ record_path p.name) → ((unihash : Hash) → p.object ≡ Some unihash → (slashes (hash_text unihash) ≡ 0) × (IsAtOrBelow (object_folder unihash) q → ⊥)) → new q ≡ old q
+aside_stays p task first old new q place folder publishes before after no_object temporary own above stored shared = by (path_cases q (codes "work")) (path_cases q (inside (codes "work") task.id.pn)) (path_cases q (codes "obj"))
   where
     work : q ≢ codes "work" → q ≢ inside (codes "work") task.id.pn → IsApart (work_folder task) q
     work a b = record {
@@ -262,11 +264,23 @@ aside_stays p task old new q place folder publishes before after temporary own s
       shared = object c;
     }
 
+    -- what is above the work folder
+    at_top : q ≡ codes "work" → first (codes "work") ≡ None
+    at_top same = sym (ap first same) ∙ above (subst (λ (l : List ℕ). IsBelow l (work_folder task)) (sym same) (task_folder task, refl))
+
+    at_recipe : q ≡ inside (codes "work") task.id.pn → first (inside (codes "work") task.id.pn) ≡ None
+    at_recipe same = sym (ap first same) ∙ above (subst (λ (l : List ℕ). IsBelow l (work_folder task)) (sym same) (task.id.task, sym (append_assoc (codes "work") (47 ∷ task.id.pn) (47 ∷ task.id.task))))
+
     by : (q ≡ codes "work") ⊎ (q ≢ codes "work") → (q ≡ inside (codes "work") task.id.pn) ⊎ (q ≢ inside (codes "work") task.id.pn) → (q ≡ codes "obj") ⊎ (q ≢ codes "obj") → new q ≡ old q
-    by (inl same) b c = ap new same ∙ after.work ∙ sym (ap old same ∙ before.work)
-    by (inr a) (inl same) c = ap new same ∙ after.parts task.id.pn place.pn.alone ∙ sym (ap old same ∙ before.parts task.id.pn place.pn.alone)
-    by (inr a) (inr b) (inl same) = ap new same ∙ after.objects ∙ sym (ap old same ∙ before.objects)
+    by (inl same) b c = let none = at_top same in ap new same ∙ after.work none ∙ sym (ap old same ∙ before.work none)
+    by (inr a) (inl same) c = let none = at_recipe same in ap new same ∙ after.parts task.id.pn place.pn.alone none ∙ sym (ap old same ∙ before.parts task.id.pn place.pn.alone none)
+    by (inr a) (inr b) (inl same) = ap new same ∙ after.objects no_object ∙ sym (ap old same ∙ before.objects no_object)
     by (inr a) (inr b) (inr c) = publishes.others q (foreign a b c)
+
+-- `obj` isn't at or below an object
+pub not_top : (unihash : Hash) → IsAtOrBelow (object_folder unihash) (codes "obj") → ⊥
+not_top unihash (inl same) = let e : 111 ∷ 98 ∷ 106 ∷ [] ≡ 111 ∷ 98 ∷ 106 ∷ 47 ∷ hash_text unihash = same in cc
+not_top unihash (inr down) = let e : 111 ∷ 98 ∷ 106 ∷ [] ≡ 111 ∷ 98 ∷ 106 ∷ 47 ∷ (hash_text unihash ++ 47 ∷ down.0) = down.1 in cc
 
 pub in_objects : (unihash : Hash) (q : List ℕ) → IsAtOrBelow (object_folder unihash) q → IsAtOrBelow (codes "obj") q
 in_objects unihash q (inl same) = inr (hash_text unihash, same)

@@ -33,17 +33,6 @@ some_or : {A : Type 0} (x : Option A) (y : A) → x ≡ None → x ≡ Some y �
 some_or x y none some = let e : None ≡ Some y = sym none ∙ some in cc
 
 module _ {D : Type 0} (plan : Plan) (tells : Type 0) (story : D → Story) (faults : D → ℕ) where
-  -- a question that nothing was in the way of
-  pub asks_fine : (a b : View D) (f : Option StoreFault) → b.rows ≡ a.rows → b.kept ≡ a.kept → (tells → Passes (story a.disk) (story b.disk) Same) → faults b.disk ≡ faults a.disk → Asks plan tells story faults a b f f
-  asks_fine a b f rows kept images count = record {
-    rows = rows;
-    kept = kept;
-    images = images;
-    stays = λ x is. (is, count);
-    none = λ was is. count;
-    met = λ x none some. absurd (some_or f x none some);
-  }
-
   -- one that met a fault, which is kept
   pub asks_met : (a b : View D) (f g : Option StoreFault) (fault : StoreFault) (answer : ProbeFault) → b.rows ≡ a.rows → b.kept ≡ a.kept → (tells → Passes (story a.disk) (story b.disk) Same) → f ≡ None → IsUnknown plan a.rows (faults a.disk) (faults b.disk) fault → Keeps fault f g answer → Asks plan tells story faults a b f g
   asks_met a b f g fault answer rows kept images none why keeps = record {

@@ -5,15 +5,13 @@ use Rattle.std.specs.List.{AllByRecursion}
 use Rattle.std.specs.List.{slice_get}
 use Rattle.outside_traits.specs.Store.{Store}
 use Rattle.outside_traits.specs.declared.call.Call.{Call}
-use Rattle.outside_traits.specs.Story.{Story, Leaves, LeftSince, before}
+use Rattle.outside_traits.specs.Story.{Story, LeftSince, before}
 use Rattle.meta_model.specs.declared.event.Avail.{Avail}
 use Rattle.meta_model.specs.declared.event.Logged.{Logged}
 use Rattle.meta_model.specs.declared.plan.Options.{Options}
 use Rattle.meta_model.specs.declared.plan.Plan.{Plan}
 use Rattle.tale_model.specs.Fates.{fate_at, fates_told, is_settled}
 use Rattle.tale_model.specs.declared.fate.Fate.TheVariants.{Waiting}
-use Rattle.store_model.specs.Publication.{stamp_at}
-use Rattle.store_model.specs.Available.{stamp_path, task_folder}
 use Rattle.store_model.specs.Valid.{IsValid, StandsIn}
 use Rattle.store_model.specs.Readable.{IsReadable}
 use Rattle.store_model.specs.Origins.{Book, Line, rows_of}
@@ -24,22 +22,15 @@ use Rattle.plan_model.specs.Sound.{IsSound}
 use Rattle.store_model.specs.declared.signature.EquivRow.{EquivRow}
 use Rattle.build_store.specs.View.{View}
 use Rattle.build_store.specs.declared.kept.KeptSig.{KeptSig}
-use Rattle.run_queue.specs.Laws.{BeginIsRun, at_begin}
-use Rattle.run_model.specs.Opening.{HasFolders, Opening}
+use Rattle.run_queue.specs.Laws.{BeginIsRun}
+use Rattle.run_model.specs.Opening.{Opening}
 use Rattle.run_queue.specs.Opening.{MayRun}
-use Rattle.run_queue.specs.Stands.{IsLeft}
 use Rattle.run_model.specs.Stands.{IsSettledIn}
 
 not_later : (held : Store) (calls : List Call) (t : ℕ) (image : Store) → LeftSince held calls t image → t ≤ length calls
 not_later held [] t image (le, e) = le
 not_later held (c ∷ calls) t image (inl x) = x.0
 not_later held (c ∷ calls) t image (inr x) = let le = not_later (before c held) calls t image x in omega (arith, le)
-
--- what a crash left since now it left now
-since_now : (held : Store) (calls : List Call) (image : Store) → LeftSince held calls (length calls) image → Leaves held calls image
-since_now held [] image (le, e) = e
-since_now held (c ∷ calls) image (inl x) = x.1
-since_now held (c ∷ calls) image (inr x) = absurd (let le = not_later (before c held) calls (length (c ∷ calls)) image x in omega (arith, le))
 
 all_wait : (count t : ℕ) → fate_at (replicate count Waiting) t ≡ Waiting
 all_wait zero t = refl
@@ -56,17 +47,6 @@ none_begun (suc count) (suc t) a e = none_begun count t a e
 
 begins_valid : (o : Opening) (plan : Plan) → MayRun o plan → IsValid o.gives o.reading o.story.held (o.book ++ [])
 begins_valid o plan may = subst (λ (b : Book). IsValid o.gives o.reading o.story.held b) (sym (append-nil o.book)) may.valid
-
-left : (o : Opening) (plan : Plan) (options : Options) (written : List ℕ) → MayRun o plan → (image : Store) → image ≡ o.story.held → IsLeft o (at_begin o plan options written) [] image
-left o plan options written may image same = record {
-  count = 0;
-  valid = subst (λ (h : Store). IsValid o.gives o.reading h (o.book ++ [])) (sym same) (begins_valid o plan may);
-  honest = λ t task at. inl (record { stamp = ap (λ (h : Store). h (stamp_at (task_folder task))) same; work = λ q below. ap (λ (h : Store). h q) same });
-  others = λ t task at none. record { stamp = ap (λ (h : Store). h (stamp_path task)) same; work = λ q below. ap (λ (h : Store). h q) same; objects = λ line has pn name q below. ap (λ (h : Store). h q) same };
-  paths = λ q aside. ap (λ (h : Store). h q) same;
-  objects = λ line has none q below. ap (λ (h : Store). h q) same;
-  folders = subst HasFolders (sym same) may.folders;
-}
 
 no_line : (before : Book) (line : Line) → StandsIn [] before line → ⊥
 no_line [] line stands = let e : [] ≡ line ∷ stands.rest = stands.is in cc
@@ -85,11 +65,13 @@ begin_is_run o plan options written may = record {
   none_last = λ none. refl;
   valid = λ none. begins_valid o plan may;
   objects = λ none image is t task at not_yet line has pn name q below. ap (λ (h : Store). h q) (may.durable image is);
+  swept = λ none. may.swept;
   durable = λ none image is. subst (λ (h : Store). IsValid o.gives o.reading h (o.book ++ [])) (sym (may.durable image is)) (begins_valid o plan may);
   later = omega arith;
   marked = λ k entry at. absurd (cc);
   reusable = may.may;
   legal = λ course same is k entry at. absurd (cc);
+  were_there = λ k t there entry at. absurd (cc);
   real = λ k entry at. absurd (cc);
   stored = λ t sg settled. absurd (none_settled plan t settled);
   there = tt;

@@ -12,6 +12,7 @@ use Rattle.run_queue.specs.Keeps.{IsRun, nobody}
 use Rattle.run_queue.specs.declared.fault.RunFault.{RunFault}
 use Rattle.run_queue.specs.Seen.{Seen}
 use Rattle.run_queue.proofs.Unsettled.{behind, unsettled_run}
+use Rattle.run_queue.proofs.There.{tells_none}
 
 pub running_within : (fates : List Fate) (t seat : ℕ) → fate_at fates t ≡ fate.Running seat → t < length fates
 running_within [] t seat e = let n : fate.Waiting ≡ fate.Running seat = e in absurd (cc)
@@ -27,3 +28,4 @@ broke_run o s t seat cut failed fault written runs run faultless =
     run (λ u never. absurd never) faultless
     (λ course same is. subst (λ (p : Plan). fate_at (fates_told (length p.tasks) s.tale) t ≡ fate.Running seat) (sym same) runs)
     tt
+    (tells_none o s.plan s.options s.tale (events.Broke t cut) refl)

@@ -21,7 +21,7 @@ use Rattle.store_model.specs.Valid.{IsNamedAlike, IsValidBook, StandsIn}
 use Rattle.store_model.proofs.Ordered.{each_middle, each_weaker, map_each}
 use Rattle.store_model.proofs.Reading.{signature_is_read}
 use Rattle.store_model.proofs.Standing.{AllNew, each_line, one_place, row_found, row_none}
-use Rattle.build_store.proofs.Clean.{name_is_name}
+use Rattle.store_opening.proofs.Clean.{name_is_name}
 use Rattle.store_model.specs.Readable.{IsReadable}
 
 -- ---- what can be read again can be held

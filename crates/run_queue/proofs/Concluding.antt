@@ -7,7 +7,7 @@ use Rattle.std.proofs.lemmas.List.{take_all, take-append-le}
 use Rattle.std.proofs.lemmas.Option.{same_Some, slice_get_within}
 use Rattle.tree_model.specs.declared.hash.Hash.{Hash}
 use Rattle.tree_model.specs.Tree.{IsTree}
-use Rattle.outside_traits.specs.Passes.{Passes}
+use Rattle.outside_traits.specs.Passes.{EachNow, Passes}
 use Rattle.outside_traits.specs.Store.{HoldsTree, Store}
 use Rattle.outside_traits.specs.Story.{IsImage, IsImageSince, Story, moment}
 use Rattle.outside_traits.specs.Story as story_of
@@ -31,13 +31,14 @@ use Rattle.store_model.specs.declared.signature.EquivRow.{EquivRow}
 use Rattle.store_model.specs.declared.signature.SigRecord.{SigRecord}
 use Rattle.store_model.specs.Available.{HoldsClean, IsAvailable, IsInObject, IsInWork, object_folder}
 use Rattle.store_model.specs.Origins.{Book, Line, row_of, rows_of}
+use Rattle.store_model.specs.Opened.{HasNoLitter}
 use Rattle.store_model.specs.Premises.{HasNoCollision, HasOneSignature}
 use Rattle.store_model.specs.Recording.{NeedsHaveRows, recorded}
 use Rattle.store_model.specs.Reuse.{MayReuse}
 use Rattle.store_model.specs.Rows.{row_at, uni, unihash_or}
 use Rattle.store_model.specs.Signatures.{Signed, signatures}
 use Rattle.store_model.specs.Spelling.{name_of, signature_bytes}
-use Rattle.store_model.specs.Valid.{IsValid, IsValidLine, StandsIn}
+use Rattle.store_model.specs.Valid.{IsValidLine, StandsIn}
 use Rattle.store_model.proofs.Lasting.{available_stays, reuse_goes_on}
 use Rattle.store_model.proofs.Standing.{row_found, row_none, split_last}
 use Rattle.store_model.proofs.Staying.{signatures_stay}
@@ -56,17 +57,18 @@ use Rattle.run_model.specs.Courses.{IsCourse}
 use Rattle.run_queue.specs.Courses.{IsReal}
 use Rattle.run_queue.specs.declared.fault.RunFault.{RunFault}
 use Rattle.run_queue.specs.Keeps.{IsRun, IsRunBut, MayBeHalted, WasThere}
-use Rattle.run_queue.specs.Seen.{IsBegun, Known, Seen, known_in, no_meaning}
+use Rattle.run_queue.specs.Seen.{Known, Seen, known_in, no_meaning}
 use Rattle.run_model.specs.Stands.{AllStand, HasEnded, HasOwnRow, HasStarted, IsSettledIn, IsStanding}
-use Rattle.run_queue.specs.Stands.{IsPublishing, KeepObjects}
+use Rattle.run_queue.specs.Stands.{IsLeft, KeepObjects, StandSince}
 use Rattle.run_queue.proofs.Answered.{means_there, one_signature, own_name, own_pn}
 use Rattle.run_queue.proofs.Known.{own_signature, own_task, sound_ordered, up_to_date}
 use Rattle.run_queue.proofs.Enduring.{differ_at, same_signed, row_on, signed_at, signed_task, standing_grown, keeps_object}
 use Rattle.run_queue.proofs.Growing.{book_grows, ended_grows, legal_grows}
+use Rattle.run_queue.proofs.There.{tells_none, there_grows}
 use Rattle.run_queue.proofs.Notes.{set_other, set_same}
 use Rattle.run_queue.proofs.Putting.{Begins, book_now, durable_after, few_more, left_after, more_begun, own_after, readable_after, stand_now, stand_since}
 use Rattle.run_queue.proofs.Recorded.{IsPut, which}
-use Rattle.run_queue.proofs.Touched.{aside_less, aside_on, broken_on, halted_as, none_besides, none_on, running_started, told_ended, told_halted}
+use Rattle.run_queue.proofs.Touched.{broken_on, halted_as, left_behind, left_besides, running_started, told_ended, told_halted}
 use Rattle.run_queue.proofs.Unsettled.{if_some_on}
 
 -- ---- with a fault
@@ -75,59 +77,61 @@ use Rattle.run_queue.proofs.Unsettled.{if_some_on}
 abbrev pub HaltsAt : Opening → Seen → ℕ → Type 0
 HaltsAt o s t = (run : IsRunBut o s (λ u. u ≡ t)) × (run.halted ≡ t)
 
--- A fault that is kept as a task is begun leaves what a run keeps, where the store wasn't touched.
-pub fault_run : (o : Opening) (s : Seen) (begun : List (Option Avail)) (kept : List KeptSig) (f : RunFault) (t : ℕ) → s.fault ≡ None → Begins s.begun begun t → (run : IsRun o s) → HaltsAt o (record s { begun = begun; kept = kept; fault = Some f }) t
-fault_run o s begun kept f t faultless begins run = (
+-- a longer list of moments
+pub later_moment : (a b c : ℕ) → a ≤ b → b ≤ c → a ≤ c
+later_moment a b c x y = omega (arith, x, y)
+
+-- A fault that is kept as a task is begun leaves what a run keeps, with these lines at the end, where all that a crash left, and what stands, is
+-- known.
+halted_run : (o : Opening) (s : Seen) (run : IsRun o s) (faultless : s.fault ≡ None) (t : ℕ) (begun : List (Option Avail)) → Begins s.begun begun t → (later : Story) (kept : List KeptSig) (f : RunFault) → moment s.story ≤ moment later
+    → (last : Book) → length last ≤ 1 → AllByRecursion IsReadable (o.book ++ (run.lines ++ last))
+    → ((from : ℕ) (image : Store) → from ≤ moment o.story → IsImageSince later from image → IsImageSince o.story from image ⊎ IsLeft o s.plan begun s.tale (run.lines ++ last) image)
+    → EachNow later (AllStand o s.plan s.tale) → StandSince o (record s { story = later }) → HaltsAt o (record s { story = later; begun = begun; kept = kept; fault = Some f }) t
+halted_run o s run faultless t begun begins later kept f come last few readable left stands settled = (
   record {
     may = run.may;
     rows = run.rows;
     lines = run.lines;
     grown = run.grown;
-    own = λ l has u other at pn name. more u (run.own l has u other at pn name);
-    last = run.last;
-    few_last = run.few_last;
+    own = λ l has u other at pn name. more_begun s begun t begins u (run.own l has u other at pn name);
+    last = last;
+    few_last = few;
     none_last = λ none. absurd (cc);
-    readable = run.readable;
+    readable = readable;
     valid = λ none. absurd (cc);
     durable = λ none. absurd (cc);
+    swept = λ none. absurd (cc);
     objects = λ none. absurd (cc);
-    later = run.later;
-    marked = run.marked;
+    later = later_moment (moment o.story) (moment s.story) (moment later) run.later come;
+    marked = λ k entry here. later_moment entry.moment (moment s.story) (moment later) (run.marked k entry here) come;
     reusable = run.reusable;
     legal = run.legal;
+    were_there = run.were_there;
     real = run.real;
     stored = run.stored;
     there = if_some_on s.known (λ (k : Known). (u : ℕ) (a : Avail) → IsIn k.need u → (HasEnded s.plan s.tale u → ⊥) → slice_get k.avail u ≡ Some a → WasThere o s u a)
-        (λ (k : Known). (u : ℕ) (a : Avail) → IsIn k.need u → (HasEnded s.plan s.tale u → ⊥) → slice_get k.avail u ≡ Some a → WasThere o (record s { begun = begun; kept = kept; fault = Some f }) u a)
+        (λ (k : Known). (u : ℕ) (a : Avail) → IsIn k.need u → (HasEnded s.plan s.tale u → ⊥) → slice_get k.avail u ≡ Some a → WasThere o (record s { story = later; begun = begun; kept = kept; fault = Some f }) u a)
         (λ k h u a member not_yet is. h u a member not_yet is) run.there;
     answered = λ none. absurd (cc);
     met = λ u settled not_yet. let m = run.met u settled not_yet in (m.0, m.1, m.2);
     halted = t;
-    told = told_halted s.begun begun t s.tale s.fault (Some f) run.halted (MayBeHalted o s) (MayBeHalted o (record s { begun = begun; kept = kept; fault = Some f })) (λ u. u ≡ t) begins.others faultless (inr refl) run.told;
-    images = λ from image le since. elim (run.images from image le since) [
-      | inl before ↦ inl before
-      | inr l ↦ inr (record {
-        count = l.count;
-        valid = l.valid;
-        honest = l.honest;
-        others = λ u other at_u not_begun. l.others u other at_u (λ b. not_begun (more u b));
-        paths = λ q aside. l.paths q (aside_less s.plan (IsBegun s) (IsBegun (record s { begun = begun })) (IsPublishing s) (IsPublishing (record s { begun = begun })) q more (λ u b. (more u b.0, b.1)) aside);
-        objects = λ line has none. l.objects line has (none_besides o.gives s.plan o.book s.tale s.begun begun line more none);
-        folders = l.folders;
-      })
-    ];
-    stands = run.stands;
-    settled = run.settled;
+    told = told_halted s.begun begun t s.tale s.fault (Some f) run.halted (MayBeHalted o s) (MayBeHalted o (record s { story = later; begun = begun; kept = kept; fault = Some f })) (λ u. u ≡ t) begins.others faultless (inr refl) run.told;
+    images = left;
+    stands = stands;
+    settled = settled;
   },
   refl,
 )
-  where
-    more : (u : ℕ) → IsBegun s u → IsBegun (record s { begun = begun }) u
-    more = more_begun s begun t begins
 
--- a longer list of moments
-pub later_moment : (a b c : ℕ) → a ≤ b → b ≤ c → a ≤ c
-later_moment a b c x y = omega (arith, x, y)
+-- So does one with which the store wasn't touched.
+pub fault_run : (o : Opening) (s : Seen) (begun : List (Option Avail)) (kept : List KeptSig) (f : RunFault) (t : ℕ) → s.fault ≡ None → Begins s.begun begun t → (run : IsRun o s) → HaltsAt o (record s { begun = begun; kept = kept; fault = Some f }) t
+fault_run o s begun kept f t faultless begins run =
+    halted_run o s run faultless t begun begins s.story kept f (omega arith) run.last run.few_last run.readable
+    (λ from image le since. elim (run.images from image le since) [
+      | inl before ↦ inl before
+      | inr left ↦ inr (left_besides o s.plan s.begun begun s.tale (run.lines ++ run.last) image (more_begun s begun t begins) left)
+    ])
+    run.stands run.settled
 
 -- ---- what was there, over more rows
 
@@ -145,13 +149,6 @@ same_available held rows others setscene sg a same = by a
     by avail.Work w = work rows others same w
     by avail.Object w = (λ x. w.0 (work others rows (sym same) x), object rows others same w.1)
     by avail.Missing w = (λ x. w.0 (work others rows (sym same) x), λ x. w.1 (object others rows (sym same) x))
-
--- What was there in one way is so over more rows, where the task has the same signature and its name the same row.
-pub was_same : (o : Opening) (s later : Seen) (u : ℕ) (a : Avail) → later.options ≡ s.options → ((sg : Signed) → slice_get (signatures later.rows later.plan.tasks) u ≡ Some sg → (slice_get (signatures s.rows s.plan.tasks) u ≡ Some sg) × (row_at later.rows (name_of sg.sig) ≡ row_at s.rows (name_of sg.sig))) → WasThere o s u a → WasThere o later u a
-was_same o s later u a options same was sg is =
-    let e = same sg is in
-    subst (λ (x : Bool). IsAvailable o.story.held later.rows x sg a) (ap (λ (x : Rattle.meta_model.specs.declared.plan.Options.Options). x.setscene) (sym options))
-    (same_available o.story.held s.rows later.rows s.options.setscene sg a e.1 (was sg e.0))
 
 -- What was there and isn't missing is so over the rows of a longer book.
 pub was_on : (o : Opening) (s : Seen) (more : Book) (rows : List EquivRow) → s.rows ≡ rows_of (book_now o s) → rows ≡ rows_of (book_now o s ++ more) → MayReuse o.gives o.reading o.story.held (book_now o s) s.plan.tasks → (u : ℕ) (a : Avail) → a ≢ avail.Missing → WasThere o s u a → WasThere o (record s { rows = rows }) u a
@@ -197,47 +194,17 @@ module _ (o : Opening) (s : Seen) (run : IsRun o s) (faultless : s.fault ≡ Non
 
   -- A publication in which a fault was met leaves what a run keeps, with that fault.
   pub faulty_run : (kept : List KeptSig) (f : RunFault) → Has o.gives s.plan.tasks t (Ok tree) → AllByRecursion IsReadable put.more → HaltsAt o (record s { story = later; begun = begun; kept = kept; fault = Some f }) t
-  faulty_run kept f output readable = (
-    record {
-      may = run.may;
-      rows = run.rows;
-      lines = run.lines;
-      grown = run.grown;
-      own = λ l has u other at_u pn name. more_begun s begun t begins u (run.own l has u other at_u pn name);
-      last = put.more;
-      few_last = few_more o s run faultless orderly may t sg at is_sg tree put rests later sound pass aside;
-      none_last = λ none. absurd (cc);
-      readable = readable_after o s run faultless orderly may t sg at is_sg tree put rests later sound pass aside readable;
-      valid = λ none. absurd (cc);
-      durable = λ none. absurd (cc);
-      objects = λ none. absurd (cc);
-      later = later_moment (moment o.story) (moment s.story) (moment later) run.later pass.later;
-      marked = λ k entry here. later_moment entry.moment (moment s.story) (moment later) (run.marked k entry here) pass.later;
-      reusable = run.reusable;
-      legal = run.legal;
-      real = run.real;
-      stored = run.stored;
-      there = if_some_on s.known (λ (k : Known). (u : ℕ) (a : Avail) → IsIn k.need u → (HasEnded s.plan s.tale u → ⊥) → slice_get k.avail u ≡ Some a → WasThere o s u a)
-          (λ (k : Known). (u : ℕ) (a : Avail) → IsIn k.need u → (HasEnded s.plan s.tale u → ⊥) → slice_get k.avail u ≡ Some a → WasThere o (record s { story = later; begun = begun; kept = kept; fault = Some f }) u a)
-          (λ k h u a member not_yet is. h u a member not_yet is) run.there;
-      answered = λ none. absurd (cc);
-      met = λ u settled not_yet. let m = run.met u settled not_yet in (m.0, m.1, m.2);
-      halted = t;
-      told = told_halted s.begun begun t s.tale s.fault (Some f) run.halted (MayBeHalted o s) (MayBeHalted o (record s { story = later; begun = begun; kept = kept; fault = Some f })) (λ u. u ≡ t) begins.others faultless (inr refl) run.told;
-      images = λ from image le since. elim (left_after o s run faultless orderly may t sg at is_sg tree put rests later sound pass aside begun begins started output from image le since) [
-        | inl before ↦ inl before
-        | inr l ↦ inr (record { count = l.count; valid = l.valid; honest = l.honest; others = l.others; paths = l.paths; objects = l.objects; folders = l.folders })
-      ];
-      stands = stand_now o s run faultless orderly may t sg at is_sg tree put rests later sound pass aside;
-      settled = stand_since o s run faultless orderly may t sg at is_sg tree put rests later sound pass aside;
-    },
-    refl,
-  )
+  faulty_run kept f output readable =
+      halted_run o s run faultless t begun begins later kept f pass.later put.more (few_more o s run faultless orderly may t sg at is_sg tree put rests later sound pass aside)
+      (readable_after o s run faultless orderly may t sg at is_sg tree put rests later sound pass aside readable)
+      (left_after o s run faultless orderly may t sg at is_sg tree put rests later sound pass aside begun begins started output)
+      (stand_now o s run faultless orderly may t sg at is_sg tree put rests later sound pass aside)
+      (stand_since o s run faultless orderly may t sg at is_sg tree put rests later sound pass aside)
 
   -- ---- the task has ended
 
   module _ (built : Built) (is_built : slice_get (clean_build o.gives s.plan.tasks) t ≡ Some built) (clean : built.outcome ≡ Ok tree) (is_tree : IsTree tree) (needs : NeedsHaveRows (rows_of (book_now o s)) (signatures (rows_of (book_now o s)) s.plan.tasks) sg.task)
-      (published : (image : Store) → IsImage later image → IsPublished (publication (rows_of (book_now o s)) sg tree) image) (later_sound : story_of.IsSound later) (readable : AllByRecursion IsReadable put.more) where
+      (published : (image : Store) → IsImage later image → IsPublished (publication (rows_of (book_now o s)) sg tree) image) (later_sound : story_of.IsSound later) (swept : HasNoLitter later.held) (readable : AllByRecursion IsReadable put.more) where
     abbrev pub entry : Logged
     entry = record { event = events.Ended t; seat = seat; moment = min (moment later) (2 ^ 64 - 1) }
 
@@ -442,6 +409,7 @@ module _ (o : Opening) (s : Seen) (run : IsRun o s) (faultless : s.fault ≡ Non
           readable = subst (λ (b : Book). AllByRecursion IsReadable (o.book ++ b)) (sym none) (readable_after o s run faultless orderly may t sg at is_sg tree put rests later sound pass aside readable);
           valid = λ n. durable later.held (held-image later later_sound);
           durable = λ n. durable;
+          swept = λ n. swept;
           objects = λ n image is u other at_u not_yet line has pn name q below. objects_longer image is u other at_u not_yet line has pn name q below;
           later = later_moment (moment o.story) (moment s.story) (moment later) run.later pass.later;
           marked = λ k x here. elim (front_at k x here) [
@@ -452,6 +420,7 @@ module _ (o : Opening) (s : Seen) (run : IsRun o s) (faultless : s.fault ≡ Non
               subst (λ (b : Book). MayReuse o.gives o.reading o.story.held b s.plan.tasks) (sym book_longer)
               (reusable_longer (subst (λ (r : List EquivRow). HasNoCollision (book_now o s ++ put.more) r s.plan.tasks) rows_are (subst (λ (b : Book). HasNoCollision b rows s.plan.tasks) book_longer clear)));
           legal = legal_grows o s.plan s.options s.tale entry run.legal may_come;
+          were_there = there_grows o s.plan s.options s.tale entry run.were_there (tells_none o s.plan s.options s.tale (events.Ended t) refl);
           real = λ k x here. elim (front_at k x here) [
             | inl f ↦ run.real k x f
             | inr l ↦ subst (λ (y : Logged). IsReal o.gives s.plan.tasks y.event) (sym l.1) tt
@@ -472,7 +441,7 @@ module _ (o : Opening) (s : Seen) (run : IsRun o s) (faultless : s.fault ≡ Non
           told = told_ended s.begun begun t s.tale entry s.fault fault run.halted (MayBeHalted o s) (MayBeHalted o (ended_as rows kept known failed fault written)) begins.others refl (λ e. faultless) also run.told;
           images = λ from image le since. elim (left_after o s run faultless orderly may t sg at is_sg tree put rests later sound pass aside begun begins started (built, is_built, clean) from image le since) [
             | inl before ↦ inl before
-            | inr l ↦ inr (record { count = l.count; valid = subst (λ (b : Book). IsValid o.gives o.reading image (o.book ++ take l.count b)) (sym none) l.valid; honest = l.honest; others = l.others; paths = λ q is. l.paths q (aside_on s.plan begun s.tale entry q is); objects = λ line has none. l.objects line has (none_on o.gives s.plan o.book begun s.tale entry line none); folders = l.folders })
+            | inr left ↦ inr (subst (λ (b : Book). IsLeft o s.plan begun longer b image) (sym none) (left_behind o s.plan begun s.tale entry (run.lines ++ put.more) image left))
           ];
           stands = λ image is. stands_longer image is;
           settled = λ k x here lt image since. settled_longer k x here lt image since;

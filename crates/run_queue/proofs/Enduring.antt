@@ -1,9 +1,8 @@
 -- Settled tasks stand through a publication of another task, and behind it.
-use Rattle.std.proofs.Common.{◌≡◌, ◌≢◌, ◌∙◌, sym, ap, subst, refl, ℕ, ◌<◌, ◌⊎◌, inl, inr, zero, suc, arith, false, List, [], ◌∷◌, ◌++◌, length, map, take, Some, None, append_assoc, append-nil}
+use Rattle.std.proofs.Common.{◌≡◌, ◌≢◌, ◌∙◌, sym, ap, subst, refl, ℕ, ◌<◌, ◌⊎◌, inl, inr, zero, suc, arith, false, List, [], ◌∷◌, ◌++◌, length, take, Some, None, append_assoc, append-nil}
 use Rattle.std.specs.List.{slice_get}
-use Rattle.std.specs.Option.{option_map}
 use Rattle.std.proofs.lemmas.List.{map-append}
-use Rattle.std.proofs.lemmas.Option.{same_Some, slice_get-map}
+use Rattle.std.proofs.lemmas.Option.{same_Some}
 use Rattle.tree_model.specs.declared.hash.Hash.{Hash}
 use Rattle.tree_model.specs.Hash.{hash_text}
 use Rattle.outside_traits.specs.Store.{HoldsTree, IsOpen, Store}
@@ -21,18 +20,18 @@ use Rattle.store_model.specs.Origins.{Book, Line, Reading, row_of, rows_of}
 use Rattle.store_model.specs.Premises.{Differ}
 use Rattle.store_model.specs.Reuse.{MayReuse}
 use Rattle.store_model.specs.Rows.{row_at, uni, unihash_or}
-use Rattle.store_model.specs.Signatures.{Signed, signature, signatures, signed_from}
+use Rattle.store_model.specs.Signatures.{Signed, signatures}
 use Rattle.store_model.specs.Spelling.{name_of}
 use Rattle.store_model.specs.Valid.{IsValidBook, IsValidLine}
 use Rattle.store_model.proofs.Standing.{row_found, stands_further}
 use Rattle.store_model.proofs.Staying.{kept_with_row, row_stays}
 use Rattle.store_model.specs.Lines.{HasLine}
 use Rattle.build_store.specs.Laws.{IsOfTask, KeepsObject}
-use Rattle.build_store.specs.Paths.{HasPlace, IsOnePart}
+use Rattle.store_opening.specs.Paths.{HasPlace, IsOnePart}
 use Rattle.store_model.specs.Paths.{slashes}
 use Rattle.build_store.specs.Publication.{KeepsOthers, Publishes}
 use Rattle.store_model.specs.Publication.{Publication}
-use Rattle.build_store.proofs.Clean.{hash_is_name, name_slashes}
+use Rattle.store_opening.proofs.Clean.{hash_is_name, name_slashes}
 use Rattle.build_store.proofs.Others.{others_stay, others_untouched}
 use Rattle.setscene_plan.proofs.Naming.{signed_count}
 use Rattle.run_model.specs.Opening.{Opening}
@@ -40,6 +39,7 @@ use Rattle.run_model.specs.Books.{book_after, book_by, rows_after, signed_after}
 use Rattle.run_model.specs.Stands.{HasEnded, HasOwnRow, IsStanding}
 use Rattle.run_queue.proofs.Aside.{object_on, work_on}
 use Rattle.run_queue.proofs.Clearing.{unihash_is}
+use Rattle.run_queue.proofs.Found.{signed_task_at}
 use Rattle.run_queue.proofs.Placing.{has_place}
 
 -- ---- numbers and signatures of tasks
@@ -57,20 +57,9 @@ differ_at plan sound u t other task at_u at_t ne pn name = elim (apart_numbers u
   | inr gt ↦ pair_at Differ plan.tasks sound.differ t u task other gt at_t at_u (sym pn) (sym name)
 ]
 
-tasks_of_signed : (rows : List EquivRow) (before : List Signed) (tasks : List PlanTask) → map (λ (s : Signed). s.task) (signed_from rows before tasks) ≡ map (λ (s : Signed). s.task) before ++ tasks
-tasks_of_signed rows before [] = sym (append-nil (map (λ (s : Signed). s.task) before))
-tasks_of_signed rows before (task ∷ tasks) =
-    let s : Signed = record { task = task; sig = signature rows before task } in
-    tasks_of_signed rows (before ++ s ∷ []) tasks
-    ∙ ap (λ l. l ++ tasks) (map-append (λ (x : Signed). x.task) before (s ∷ []))
-    ∙ append_assoc (map (λ (x : Signed). x.task) before) (task ∷ []) tasks
-
 -- a task's signature is with the task
 pub signed_task : (rows : List EquivRow) (tasks : List PlanTask) (t : ℕ) (s : Signed) (task : PlanTask) → slice_get (signatures rows tasks) t ≡ Some s → slice_get tasks t ≡ Some task → s.task ≡ task
-signed_task rows tasks t s task is at =
-    same_Some s.task task (
-    sym (ap (option_map (λ (x : Signed). x.task)) is) ∙ sym (slice_get-map (λ (x : Signed). x.task) (signatures rows tasks) t)
-    ∙ ap (λ (l : List PlanTask). slice_get l t) (tasks_of_signed rows [] tasks) ∙ at)
+signed_task rows tasks t s task is at = same_Some s.task task (sym (signed_task_at rows tasks t s is) ∙ at)
 
 -- each task that has a signature over some rows has one over others
 pub signed_at : (rows others : List EquivRow) (tasks : List PlanTask) (t : ℕ) (s : Signed) → slice_get (signatures rows tasks) t ≡ Some s → (x : Signed) × (slice_get (signatures others tasks) t ≡ Some x)
@@ -210,9 +199,6 @@ module _ (gives : Gives) (reading : Reading) (held : Store) (book more : Book) (
   row_on name has = ap (λ (r : List EquivRow). row_at r name) (map-append row_of book more) ∙ row_stays (rows_of book) (rows_of more) name has
 
 module _ (o : Opening) (plan : Plan) (tale longer : List Logged) (more : Book) (may : MayReuse o.gives o.reading o.story.held (book_after o.gives plan o.book tale) plan.tasks) (grown : book_after o.gives plan o.book longer ≡ book_after o.gives plan o.book tale ++ more) where
-  abbrev Book_now : Book
-  Book_now = book_after o.gives plan o.book tale
-
   rows_grown : rows_after o plan longer ≡ rows_of (book_after o.gives plan o.book tale ++ more)
   rows_grown = ap rows_of grown
 

@@ -11,34 +11,36 @@ use Rattle.meta_model.specs.CleanBuild.{Gives}
 use Rattle.store_model.specs.Available.{object_folder, task_folder, work_folder}
 use Rattle.store_model.specs.Origins.{Book, Line, Reading}
 use Rattle.store_model.specs.Valid.{IsValidBook, StandsIn}
-use Rattle.build_store.specs.Named.{IsName}
-use Rattle.build_store.specs.Paths.{HasPlace}
+use Rattle.store_opening.specs.Named.{IsName}
+use Rattle.store_opening.specs.Paths.{HasPlace}
 use Rattle.store_model.specs.Paths.{slashes}
-use Rattle.build_store.proofs.Clean.{folder_slashes, name_is_name, name_slashes}
-use Rattle.build_store.proofs.Slashes.{slashes_inside}
-use Rattle.run_model.specs.Opening.{HasFolders}
+use Rattle.store_opening.proofs.Clean.{folder_slashes, name_is_name, name_slashes}
+use Rattle.store_opening.proofs.Slashes.{slashes_inside}
+use Rattle.run_queue.specs.Stands.{KeepsFolders}
 
 -- what stands above a path has fewer slashes
 fewer : (q path : List ℕ) (below : IsBelow q path) → slashes path ≡ slashes q + 1 + slashes below.0
 fewer q path below = ap slashes below.1 ∙ slashes_inside q below.0
 
-pub above_work : (held : Store) (task : PlanTask) (q : List ℕ) → HasFolders held → HasPlace task → IsBelow q (work_folder task) → held q ≡ None
-above_work held task q has place below = elim (above_under (codes "work") (task_folder task) q below) [
+-- where nothing stood above a task's work folder, nothing does
+pub above_work : (held image : Store) (task : PlanTask) (q : List ℕ) → KeepsFolders held image → HasPlace task → IsBelow q (work_folder task) → held q ≡ None → image q ≡ None
+above_work held image task q keeps place below none = elim (above_under (codes "work") (task_folder task) q below) [
   | inl up ↦ let n : 0 ≡ slashes q + 1 + slashes up.0 = fewer q (codes "work") up in absurd (omega (arith, n))
   | inr rest ↦ elim rest [
-    | inl same ↦ ap held same ∙ has.work
+    | inl same ↦ ap image same ∙ keeps.work (sym (ap held same) ∙ none)
     | inr under ↦
         let n = fewer under.0 (task_folder task) under.2 in
         let flat : slashes under.0 ≡ 0 = omega (arith, n, folder_slashes task place) in
-        ap held under.1 ∙ has.parts under.0 flat
+        ap image under.1 ∙ keeps.parts under.0 flat (sym (ap held under.1) ∙ none)
   ]
 ]
 
-pub above_object : (held : Store) (unihash : Hash) (q : List ℕ) → HasFolders held → IsName unihash → IsBelow q (object_folder unihash) → held q ≡ None
-above_object held unihash q has name below = elim (above_under (codes "obj") (hash_text unihash) q below) [
+-- above an object stands `obj` alone
+pub above_object : (held : Store) (unihash : Hash) (q : List ℕ) → held (codes "obj") ≡ None → IsName unihash → IsBelow q (object_folder unihash) → held q ≡ None
+above_object held unihash q none name below = elim (above_under (codes "obj") (hash_text unihash) q below) [
   | inl up ↦ let n : 0 ≡ slashes q + 1 + slashes up.0 = fewer q (codes "obj") up in absurd (omega (arith, n))
   | inr rest ↦ elim rest [
-    | inl same ↦ ap held same ∙ has.objects
+    | inl same ↦ ap held same ∙ none
     | inr under ↦
         let n = fewer under.0 (hash_text unihash) under.2 in
         absurd (omega (arith, n, name_slashes unihash name))

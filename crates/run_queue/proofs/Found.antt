@@ -1,6 +1,6 @@
 -- A task whose output is in its work folder is found.
 use Rattle.std.proofs.Common.{◌≡◌, ◌≢◌, ◌∙◌, sym, ap, subst, refl, ℕ, ◌<◌, zero, suc, arith, Bool, true, List, [], ◌∷◌, ◌++◌, length, map, get_or, append_assoc, Some, None, inl, inr}
-use Rattle.std.specs.Prelude.{Contains}
+use Rattle.std.specs.Prelude.{Contains, IsSome}
 use Rattle.std.specs.List.{AllByRecursion, slice_get}
 use Rattle.std.specs.Option.{option_map}
 use Rattle.std.proofs.lemmas.List.{append-nil, length-map, map-append}
@@ -47,7 +47,7 @@ use Rattle.run_model.specs.Opening.{Opening}
 use Rattle.run_model.specs.Books.{rows_after, signed_after}
 use Rattle.run_model.specs.Courses.{IsCourse}
 use Rattle.run_queue.specs.Keeps.{IsRun, IsUpToDate, WasThere}
-use Rattle.run_queue.specs.Seen.{IsBegun, Known, Seen}
+use Rattle.run_queue.specs.Seen.{IsBegunIn, Known, Seen}
 use Rattle.run_model.specs.Stands.{HasEnded, IsStanding, HasOwnRow}
 use Rattle.store_model.proofs.Standing.{row_found}
 use Rattle.setscene_plan.proofs.Naming.{signed_count}
@@ -59,6 +59,7 @@ use Rattle.run_queue.proofs.Notes.{set_same}
 use Rattle.run_queue.proofs.Passed.{left_since}
 use Rattle.run_queue.proofs.ReadyJobs.{task_at}
 use Rattle.run_queue.proofs.Settled.{SettlesOne}
+use Rattle.run_queue.proofs.There.{tells_one}
 
 -- ---- the tasks of signatures, and their names
 
@@ -158,7 +159,7 @@ module _ (o : Opening) (s : Seen) (run : IsRun o s) (sound : IsSound s.story) (n
   held : IsInWork o.story.held s.rows signed.0
   held = was signed.0 signed.1
 
-  fresh : IsBegun s t → ⊥
+  fresh : IsBegunIn s.begun t → ⊥
   fresh b =
       let a = run.answered none t b.0 b.1 not_ended in
       (subst (λ (x : Avail). IsAvailable o.story.held s.rows s.options.setscene signed.0 x) a.1 (a.0 signed.0 signed.1)).0 held
@@ -223,7 +224,7 @@ module _ (o : Opening) (s : Seen) (run : IsRun o s) (sound : IsSound s.story) (n
       built = built.0;
       is_built = built.1;
       stored = λ x at. subst (λ (r : List EquivRow). HasOwnRow r x) (sym rows_next) (subst (λ (y : Signed). HasOwnRow s.rows y) (one_signed x at) own_row);
-      work = record { tree = clean.clean.tree; clean = clean.clean.clean; holds = holds_on o.story.held image (work_folder signed.0.task) clean.clean.tree (agrees image is).work (agrees image is).above clean.clean.holds };
+      work = record { tree = clean.clean.tree; clean = clean.clean.clean; holds = holds_on o.story.held image (work_folder signed.0.task) clean.clean.tree (agrees image is).work ((agrees image is).above (subst IsSome (sym held.stamp) refl)) clean.clean.holds };
       tree = clean.tree;
       stays = λ kept x at. subst (λ (r : List EquivRow). IsInWork image r x) (sym rows_next) (subst (λ (y : Signed). IsInWork image s.rows y) (one_signed x at) (work_on o.story.held image s.rows signed.0 (agrees image is) held));
       shared = λ sstate ended x at. absurd (let n : fate.Found ≡ fate.Ended = sym is_found ∙ ended in cc);
@@ -236,6 +237,7 @@ module _ (o : Opening) (s : Seen) (run : IsRun o s) (sound : IsSound s.story) (n
       after = λ e. (let n : fate.Found ≡ fate.Ended = e in cc);
       book = λ b. refl;
       stored = λ x at. subst (λ (y : Signed). row_at s.rows (name_of y.sig) ≢ None) (same_Some signed.0 x (sym signed.1 ∙ at)) has_row;
+      so = tells_one o s (events.Found t) t avail.Work run.rows was refl;
       met = (avail.Work, was, λ e. (let n : avail.Work ≡ avail.Missing = e in cc));
       stands = λ image is own at. subst (λ (x : PlanTask). IsStanding o s.plan (s.tale ++ entry ∷ []) t x image) (same_Some signed.0.task own (sym task ∙ at)) (standing image is);
     }

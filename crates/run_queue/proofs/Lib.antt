@@ -2,6 +2,7 @@ pub mod Causing
 pub mod Notes
 pub mod Printed
 pub mod Growing
+pub mod There
 pub mod Ending
 pub mod Unsettled
 pub mod Agreement
@@ -33,5 +34,6 @@ pub mod Turning
 pub mod PutBack
 pub mod Restored
 pub mod Tried
+pub mod Trying
 pub mod Steady
 pub mod Touched

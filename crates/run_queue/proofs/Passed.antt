@@ -5,6 +5,7 @@ use Rattle.outside_traits.specs.Passes.{Passes, Same}
 use Rattle.outside_traits.specs.Store.{Store}
 use Rattle.outside_traits.specs.Story.{IsImage, IsImageSince, Story, moment}
 use Rattle.outside_traits.proofs.Images.{now-since, since-now}
+use Rattle.store_model.specs.Opened.{HasNoLitter}
 use Rattle.store_model.specs.Valid.{IsValid}
 use Rattle.run_model.specs.Opening.{Opening}
 use Rattle.run_queue.specs.Keeps.{IsRun, MayBeHalted, nobody}
@@ -38,11 +39,13 @@ passed_run o s story fault p faultless run = record {
   none_last = λ none. run.none_last (faultless none);
   valid = λ none. subst (λ (h : Store). IsValid o.gives o.reading h (o.book ++ run.lines)) (sym p.held) (run.valid (faultless none));
   durable = λ none image is. run.durable (faultless none) image (same_now s.story story image p is);
+  swept = λ none. subst HasNoLitter (sym p.held) (run.swept (faultless none));
   objects = λ none image is. run.objects (faultless none) image (same_now s.story story image p is);
   later = let a = run.later in let b = p.later in omega arith;
   marked = λ k entry at. let a = run.marked k entry at in let b = p.later in omega arith;
   reusable = run.reusable;
   legal = run.legal;
+  were_there = run.were_there;
   real = run.real;
   stored = run.stored;
   there = run.there;
@@ -51,10 +54,7 @@ passed_run o s story fault p faultless run = record {
   halted = run.halted;
   told = told_by s.begun s.begun s.tale s.tale s.fault fault run.halted (MayBeHalted o s) (MayBeHalted o (record s { story = story; fault = fault })) nobody (λ u b. inl b) (λ u up. up) faultless
       (halted_as o s (record s { story = story; fault = fault }) (λ u broken. broken) (λ u was x here. was x here)) (λ u never. absurd never) run.told;
-  images = λ t image le since. elim (run.images t image le (same_since s.story story t image p (let a = run.later in omega (arith, a, le)) since)) [
-    | inl before ↦ inl before
-    | inr l ↦ inr (record { count = l.count; valid = l.valid; honest = l.honest; others = l.others; paths = l.paths; objects = l.objects; folders = l.folders })
-  ];
+  images = λ t image le since. run.images t image le (same_since s.story story t image p (let a = run.later in omega (arith, a, le)) since);
   stands = λ image is. run.stands image (same_now s.story story image p is);
   settled = λ k entry at lt image since. run.settled k entry at lt image (same_since s.story story entry.moment image p (run.marked k entry at) since);
 }
@@ -82,13 +82,13 @@ passed_view story written o old store fault books p faultless run =
 
 -- Whatever a crash left since the run began is valid with a front of the lines, has no stamp that lies, and has the tasks that weren't
 -- begun as they were.
-pub left_since : (o : Opening) (s : Seen) (run : IsRun o s) (image : Store) → IsImageSince s.story (moment o.story) image → IsLeft o s (run.lines ++ run.last) image
+pub left_since : (o : Opening) (s : Seen) (run : IsRun o s) (image : Store) → IsImageSince s.story (moment o.story) image → IsLeft o s.plan s.begun s.tale (run.lines ++ run.last) image
 left_since o s run image since = elim (run.images (moment o.story) image (omega arith) since) [
-  | inl before ↦ subst (λ (i : Store). IsLeft o s (run.lines ++ run.last) i) (sym (run.may.durable image (since-now o.story image before))) at_opening
+  | inl before ↦ subst (λ (i : Store). IsLeft o s.plan s.begun s.tale (run.lines ++ run.last) i) (sym (run.may.durable image (since-now o.story image before))) at_opening
   | inr left ↦ left
 ]
   where
-    at_opening : IsLeft o s (run.lines ++ run.last) o.story.held
+    at_opening : IsLeft o s.plan s.begun s.tale (run.lines ++ run.last) o.story.held
     at_opening = record {
       count = 0;
       valid = subst (IsValid o.gives o.reading o.story.held) (sym (append-nil o.book)) run.may.valid;
@@ -96,5 +96,5 @@ left_since o s run image since = elim (run.images (moment o.story) image (omega 
       others = λ t task at none. record { stamp = refl; work = λ q below. refl; objects = λ line has pn name q below. refl };
       paths = λ q aside. refl;
       objects = λ line has none q below. refl;
-      folders = run.may.folders;
+      folders = record { work = λ none. none; objects = λ none. none; parts = λ part plain none. none };
     }

@@ -8,7 +8,7 @@ use Rattle.plan_model.specs.Sound.{IsSound}
 use Rattle.task_worker.specs.Work.{IsName}
 use Rattle.task_worker.proofs.Building.{sound_is_runnable}
 use Rattle.task_worker.proofs.Names.{has_names}
-use Rattle.build_store.specs.Paths.{HasPlace, IsOnePart}
+use Rattle.store_opening.specs.Paths.{HasPlace, IsOnePart}
 use Rattle.store_model.specs.Paths.{slashes}
 
 no_slashes : (text : List ℕ) → All (λ b. (b == 47) ≡ false) text → slashes text ≡ 0

@@ -39,26 +39,27 @@ use Rattle.store_model.specs.Reuse.{MayReuse}
 use Rattle.store_model.specs.Rows.{row_at}
 use Rattle.store_model.specs.Signatures.{Signed, signatures}
 use Rattle.store_model.specs.Spelling.{name_of}
+use Rattle.store_model.specs.Opened.{HasNoLitter}
 use Rattle.store_model.specs.Valid.{IsValid, StandsIn}
 use Rattle.store_model.proofs.Contents.{tree_same}
 use Rattle.store_model.proofs.Ordered.{each_weaker}
 use Rattle.store_model.proofs.Reusing.{known, reuse_is_clean}
 use Rattle.store_model.proofs.Standing.{row_found}
 use Rattle.build_store.specs.Laws.{IsOfLine, IsOfTask}
-use Rattle.build_store.specs.Named.{IsName}
+use Rattle.store_opening.specs.Named.{IsName}
 use Rattle.build_store.specs.Publication.{HasNoObject, IsObjectOf, KeepsOthers, Publishes, Restores, RestoresObject, restoration}
 use Rattle.store_model.specs.Publication.{record_file}
 use Rattle.build_store.proofs.Others.{others_untouched}
 use Rattle.build_store.proofs.Validity.{published_is_valid}
 use Rattle.setscene_plan.proofs.Naming.{signed_count}
-use Rattle.run_model.specs.Opening.{HasFolders, Opening}
+use Rattle.run_model.specs.Opening.{Opening}
 use Rattle.run_queue.specs.declared.fault.RunFault.{RunFault}
 use Rattle.run_queue.specs.Keeps.{IsRun, IsRunBut, IsUpToDate, MayBeHalted, WasThere}
-use Rattle.run_queue.specs.Seen.{IsBegun, Known, Seen}
-use Rattle.run_model.specs.Own.{IsAside, IsObjectOfNone}
+use Rattle.run_queue.specs.Seen.{IsBegunIn, Known, Seen}
+use Rattle.run_model.specs.Own.{IsAside}
 use Rattle.run_model.specs.Stands.{AllStand, HasEnded}
-use Rattle.run_queue.specs.Stands.{IsAsBegun, IsLeft, IsPublishing, KeepObjects}
-use Rattle.run_queue.proofs.Touched.{aside_less, none_besides, told_halted}
+use Rattle.run_queue.specs.Stands.{IsAsBegun, IsLeft, IsPublishing, KeepObjects, KeepsFolders}
+use Rattle.run_queue.proofs.Touched.{left_besides, told_halted}
 use Rattle.run_queue.proofs.Agreement.{some_known}
 use Rattle.run_queue.proofs.Aside.{aside_stays, folders_on, honest_on, object_stays}
 use Rattle.run_queue.proofs.Concluding.{later_moment}
@@ -183,7 +184,7 @@ module _ (o : Opening) (s : Seen) (run : IsRun o s) (sound : story_of.IsSound s.
       let r = line_at row at_row in
       let name : IsName row.unihash = subst (λ (x : EquivRow). IsName x.unihash) r.is_row (unihash_is_name o.gives o.reading (book_now o s) r.before r.line may.valid r.stands) in
       let left = left_since o s run image (now-since s.story (moment o.story) image run.later is) in
-      above_object image row.unihash q left.folders name below ∙ sym (above_object o.story.held row.unihash q run.may.folders name below)
+      above_object image row.unihash q (left.folders.objects run.may.way.objects) name below ∙ sym (above_object o.story.held row.unihash q run.may.way.objects name below)
 
   -- What the store has under the object is the task's clean output.
   pub object_is_clean : (image : Store) → IsImage s.story image → (row : EquivRow) (tree : Entries) → IsObjectOf image s.rows signed.0 row tree → built.0.outcome ≡ Ok tree
@@ -274,13 +275,8 @@ module _ (o : Opening) (s : Seen) (run : IsRun o s) (sound : story_of.IsSound s.
     -- ---- whatever a crash left
 
     module _ (begun : List (Option Avail)) (begins : Begins s.begun begun t) (restoring : slice_get begun t ≡ Some (Some avail.Object)) (fault : Option RunFault) where
-      abbrev after : Seen
-      after = record s { story = later; begun = begun; fault = fault }
-
-      was_not : (u : ℕ) → (IsBegun (record s { story = later; begun = begun; fault = fault }) u → ⊥) → (u ≡ t → ⊥) × (IsBegun s u → ⊥)
-      was_not u not_begun =
-          let ne : u ≡ t → ⊥ = λ same. not_begun (begins.there, ap (slice_get begun) same ∙ begins.here) in
-          (ne, λ b. not_begun (b.0, begins.others u ne ∙ b.1))
+      was_not : (u : ℕ) → (IsBegunIn begun u → ⊥) → u ≡ t → ⊥
+      was_not u not_begun same = not_begun (begins.there, ap (slice_get begun) same ∙ begins.here)
 
       as_begun : (old new : Store) (r : RestoresObject s.story.held s.rows signed.0 old new) (u : ℕ) (other : PlanTask) → slice_get s.plan.tasks u ≡ Some other → (u ≡ t → ⊥) → IsAsBegun o.book o.story.held old other → IsAsBegun o.book o.story.held new other
       as_begun old new r u other at_u ne past =
@@ -296,72 +292,65 @@ module _ (o : Opening) (s : Seen) (run : IsRun o s) (sound : story_of.IsSound s.
                 (has.0, Rattle.store_model.proofs.Standing.stands_further (book_now o s) o.book run.lines has.0 x run.grown has.1) pn name old new r.publishes).object q below ∙ past.objects x has pn name q below;
           }
 
-      -- what is aside now was so before
-      aside_before : (q : List ℕ) → IsAside s.plan (IsBegun (record s { story = later; begun = begun; fault = fault })) (IsPublishing (record s { story = later; begun = begun; fault = fault })) q → IsAside s.plan (IsBegun s) (IsPublishing s) q
-      aside_before q is = aside_less s.plan (IsBegun s) (IsBegun (record s { story = later; begun = begun; fault = fault })) (IsPublishing s) (IsPublishing (record s { story = later; begun = begun; fault = fault })) q (more_begun s begun t begins) (λ u b. (more_begun s begun t begins u b.0, b.1)) is
-
-      -- a line whose object none put is so before
-      none_before : (l : Line) → IsObjectOfNone o.gives s.plan o.book s.tale (IsPublishing (record s { story = later; begun = begun; fault = fault })) l → IsObjectOfNone o.gives s.plan o.book s.tale (IsPublishing s) l
-      none_before l none = none_besides o.gives s.plan o.book s.tale s.begun begun l (more_begun s begun t begins) none
-
       -- what is at a path that is none of the own ones of tasks that are begun
-      paths_put : (old new : Store) (q : List ℕ) → RestoresObject s.story.held s.rows signed.0 old new → HasFolders old → HasFolders new → IsAside s.plan (IsBegun (record s { story = later; begun = begun; fault = fault })) (IsPublishing (record s { story = later; begun = begun; fault = fault })) q → new q ≡ old q
+      paths_put : (old new : Store) (q : List ℕ) → RestoresObject s.story.held s.rows signed.0 old new → KeepsFolders o.story.held old → KeepsFolders o.story.held new → IsAside o.story.held s.plan (IsBegunIn begun) (IsPublishing begun s.tale) q → new q ≡ old q
       paths_put old new q r before folders is =
-          aside_stays (restoration signed.0 r.row r.tree) signed.0.task old new q (has_place s.plan t signed.0.task run.may.sound at) refl r.publishes before folders is.temporary
-          (λ own. is.folder t signed.0.task at (begins.there, begins.here) own)
+          aside_stays (restoration signed.0 r.row r.tree) signed.0.task o.story.held old new q (has_place s.plan t signed.0.task run.may.sound at) refl r.publishes before folders run.may.way.objects is.temporary
+          (is.folder t signed.0.task at (begins.there, begins.here))
+          (is.above t signed.0.task at (begins.there, begins.here))
           (λ new_one. absurd (false≢true new_one))
           (λ unihash some. absurd (let n : None ≡ Some unihash = some in cc))
 
-      left_was : (image : Store) → IsLeft o s (run.lines ++ run.last) image → IsLeft o (record s { story = later; begun = begun; fault = fault }) (run.lines ++ run.last) image
-      left_was image past = record { count = past.count; valid = past.valid; honest = past.honest; others = λ u other at_u not_begun. past.others u other at_u (was_not u not_begun).1; paths = λ q is. past.paths q (aside_before q is); objects = λ l has none. past.objects l has (none_before l none); folders = past.folders }
+      left_was : (image : Store) → IsLeft o s.plan s.begun s.tale (run.lines ++ run.last) image → IsLeft o s.plan begun s.tale (run.lines ++ run.last) image
+      left_was image = left_besides o s.plan s.begun begun s.tale (run.lines ++ run.last) image (more_begun s begun t begins)
 
-      left_put : (old new : Store) → IsImage s.story old → HasFolders new → RestoresObject s.story.held s.rows signed.0 old new → IsLeft o (record s { story = later; begun = begun; fault = fault }) (run.lines ++ run.last) new
+      left_put : (old new : Store) → IsImage s.story old → KeepsFolders o.story.held new → RestoresObject s.story.held s.rows signed.0 old new → IsLeft o s.plan begun s.tale (run.lines ++ run.last) new
       left_put old new is folders r =
-          let past = left_since o s run old (now-since s.story (moment o.story) old run.later is) in
+          let past = left_was old (left_since o s run old (now-since s.story (moment o.story) old run.later is)) in
           let w = whole_again run.lines run.last in
           let v = valid_on o.gives o.reading (book_now o s) signed.0 r.row r.tree (row_of_put old new r) old new (durable_now o s run none old is) r.publishes in
           record {
             count = w.0;
             valid = subst (IsValid o.gives o.reading new) (run.grown ∙ ap (λ (b : Book). o.book ++ b) (sym w.1)) v;
             honest = λ u other at_u. honest_on (restoration signed.0 r.row r.tree) o.story.held old new signed.0.task other (has_place s.plan t signed.0.task run.may.sound at) (has_place s.plan u other run.may.sound at_u) refl (either_or u other at_u) r.publishes (λ new_one. not_new new_one) (past.honest u other at_u);
-            others = λ u other at_u not_begun. let x = was_not u not_begun in as_begun old new r u other at_u x.0 (past.others u other at_u x.1);
-            paths = λ q is. paths_put old new q r past.folders folders is ∙ past.paths q (aside_before q is);
-            objects = λ l has free q below. object_stays (restoration signed.0 r.row r.tree) old new l.unihash q r.publishes (λ own some. absurd (let n : None ≡ Some own = some in cc)) below ∙ past.objects l has (none_before l free) q below;
+            others = λ u other at_u not_begun. as_begun old new r u other at_u (was_not u not_begun) (past.others u other at_u not_begun);
+            paths = λ q is. paths_put old new q r past.folders folders is ∙ past.paths q is;
+            objects = λ l has free q below. object_stays (restoration signed.0 r.row r.tree) old new l.unihash q r.publishes (λ own some. absurd (let n : None ≡ Some own = some in cc)) below ∙ past.objects l has free q below;
             folders = folders;
           }
 
-      left_after : (from : ℕ) (image : Store) → from ≤ moment o.story → IsImageSince later from image → IsImageSince o.story from image ⊎ IsLeft o (record s { story = later; begun = begun; fault = fault }) (run.lines ++ run.last) image
+      left_after : (from : ℕ) (image : Store) → from ≤ moment o.story → IsImageSince later from image → IsImageSince o.story from image ⊎ IsLeft o s.plan begun s.tale (run.lines ++ run.last) image
       left_after from image le since = by (pass.since from image come since) (aside.since from image come since)
         where
           come : from ≤ moment s.story
           come = let a = run.later in omega (arith, a, le)
 
-          folders : (i : Store) → IsImage s.story i → HasFolders i
+          folders : (i : Store) → IsImage s.story i → KeepsFolders o.story.held i
           folders i is = (left_since o s run i (now-since s.story (moment o.story) i run.later is)).folders
 
-          old : IsImageSince o.story from image ⊎ IsLeft o s (run.lines ++ run.last) image → IsImageSince o.story from image ⊎ IsLeft o (record s { story = later; begun = begun; fault = fault }) (run.lines ++ run.last) image
+          old : IsImageSince o.story from image ⊎ IsLeft o s.plan s.begun s.tale (run.lines ++ run.last) image → IsImageSince o.story from image ⊎ IsLeft o s.plan begun s.tale (run.lines ++ run.last) image
           old (inl before) = inl before
           old (inr left) = inr (left_was image left)
 
-          same_left : (earlier : Store) → IsImage s.story earlier → image ≡ earlier → IsLeft o (record s { story = later; begun = begun; fault = fault }) (run.lines ++ run.last) image
-          same_left earlier is same = subst (λ (i : Store). IsLeft o (record s { story = later; begun = begun; fault = fault }) (run.lines ++ run.last) i) (sym same) (left_was earlier (left_since o s run earlier (now-since s.story (moment o.story) earlier run.later is)))
+          same_left : (earlier : Store) → IsImage s.story earlier → image ≡ earlier → IsLeft o s.plan begun s.tale (run.lines ++ run.last) image
+          same_left earlier is same = subst (λ (i : Store). IsLeft o s.plan begun s.tale (run.lines ++ run.last) i) (sym same) (left_was earlier (left_since o s run earlier (now-since s.story (moment o.story) earlier run.later is)))
 
-          put_or : (earlier : Store) → IsImage s.story earlier → Restores s.story.held s.rows signed.0 earlier image → HasFolders image → IsLeft o (record s { story = later; begun = begun; fault = fault }) (run.lines ++ run.last) image
+          put_or : (earlier : Store) → IsImage s.story earlier → Restores s.story.held s.rows signed.0 earlier image → KeepsFolders o.story.held image → IsLeft o s.plan begun s.tale (run.lines ++ run.last) image
           put_or earlier is (inl same) f = same_left earlier is same
           put_or earlier is (inr r) f = left_put earlier image is f r
 
           by : IsImageSince s.story from image ⊎ ((earlier : Store) × IsImage s.story earlier × Restores s.story.held s.rows signed.0 earlier image)
               → IsImageSince s.story from image ⊎ ((earlier : Store) × IsImage s.story earlier × KeepsOthers (task_folder signed.0.task) None s.story.held earlier image)
-              → IsImageSince o.story from image ⊎ IsLeft o (record s { story = later; begun = begun; fault = fault }) (run.lines ++ run.last) image
+              → IsImageSince o.story from image ⊎ IsLeft o s.plan begun s.tale (run.lines ++ run.last) image
           by (inl past) other = old (run.images from image le past)
           by (inr made) (inl past) = old (run.images from image le past)
           by (inr made) (inr kept) =
               inr (put_or made.0 made.1 made.2
-              (folders_on (record (restoration signed.0 in_object.row in_object.object.tree) { object = None }) s.story.held kept.0 image signed.0.task (has_place s.plan t signed.0.task run.may.sound at) refl kept.2 (folders s.story.held held_now) (folders kept.0 kept.1)))
+              (folders_on (record (restoration signed.0 in_object.row in_object.object.tree) { object = None }) o.story.held s.story.held kept.0 image signed.0.task (has_place s.plan t signed.0.task run.may.sound at) refl kept.2 (folders s.story.held held_now) (folders kept.0 kept.1)))
 
       -- Whatever a restoring answers, it leaves what a run keeps, with this fault, if one is kept; where none is, its task isn't told of yet.
-      pub restoring_run : (but : ℕ → Type 0) → IsSome fault ⊎ but t → IsRunBut o (record s { story = later; begun = begun; fault = fault }) but
-      restoring_run but spare = record {
+      pub restoring_run : (but : ℕ → Type 0) → IsSome fault ⊎ but t → (fault ≡ None → HasNoLitter later.held) → IsRunBut o (record s { story = later; begun = begun; fault = fault }) but
+      restoring_run but spare swept = record {
         may = run.may;
         rows = run.rows;
         lines = run.lines;
@@ -373,11 +362,13 @@ module _ (o : Opening) (s : Seen) (run : IsRun o s) (sound : story_of.IsSound s.
         readable = run.readable;
         valid = λ e. subst (IsValid o.gives o.reading later.held) run.grown (valid_now later.held (held-image later later_sound));
         durable = λ e image is. subst (IsValid o.gives o.reading image) run.grown (valid_now image is);
+        swept = swept;
         objects = λ e image is. objects_now image is;
         later = later_moment (moment o.story) (moment s.story) (moment later) run.later pass.later;
         marked = λ n entry here. later_moment entry.moment (moment s.story) (moment later) (run.marked n entry here) pass.later;
         reusable = run.reusable;
         legal = run.legal;
+        were_there = run.were_there;
         real = run.real;
         stored = run.stored;
         there = if_some_on s.known (λ (x : Known). (u : ℕ) (a : Avail) → IsIn x.need u → (HasEnded s.plan s.tale u → ⊥) → slice_get x.avail u ≡ Some a → WasThere o s u a)

@@ -37,30 +37,31 @@ use Rattle.store_model.proofs.Digests.{same_name_text}
 use Rattle.store_model.proofs.Ordered.{each_append}
 use Rattle.store_model.proofs.Standing.{split_last, stands_further}
 use Rattle.store_model.specs.Lines.{HasLine}
-use Rattle.build_store.specs.Named.{IsName}
+use Rattle.store_opening.specs.Named.{IsName}
 use Rattle.store_model.specs.Paths.{record_path}
 use Rattle.build_store.specs.Publication.{IsPublished, KeepsOthers, Publishes, line_for, publication}
 use Rattle.store_model.specs.Publication.{Publication}
 use Rattle.store_model.specs.Readable.{IsReadable}
-use Rattle.build_store.proofs.Clean.{name_is_name, name_slashes}
+use Rattle.store_opening.proofs.Clean.{name_is_name, name_slashes}
 use Rattle.build_store.proofs.Apart.{apart_by_count, apart_under, apart_within}
+use Rattle.store_opening.proofs.Areas.{differ, heads_differ}
 use Rattle.build_store.proofs.Others.{longer_valid, others_untouched, texts_apart}
-use Rattle.run_model.specs.Opening.{HasFolders, Opening}
+use Rattle.run_model.specs.Opening.{Opening}
 use Rattle.run_model.specs.Books.{book_after}
 use Rattle.run_queue.specs.Keeps.{IsRun}
-use Rattle.run_queue.specs.Seen.{IsBegun, Seen}
+use Rattle.run_queue.specs.Seen.{IsBegunIn, Seen}
 use Rattle.run_model.specs.CleanOutputs.{Has}
 use Rattle.run_model.specs.Own.{IsAside, IsObjectOfNone, IsUnihashOver}
 use Rattle.run_model.specs.Stands.{AllStand, HasStarted, IsSettledIn, IsStanding}
-use Rattle.run_queue.specs.Stands.{IsAsBegun, IsLeft, IsPublishing}
-use Rattle.run_queue.proofs.Aside.{aside_stays, folders_on, honest_on, in_objects, object_stays}
+use Rattle.run_queue.specs.Stands.{IsAsBegun, IsLeft, IsPublishing, KeepsFolders}
+use Rattle.run_queue.proofs.Aside.{aside_stays, folders_on, honest_on, in_objects, not_top, object_stays}
 use Rattle.run_queue.proofs.Clearing.{clear_is_no_collision, unihashes_are}
 use Rattle.run_queue.proofs.Enduring.{differ_at, front_book, keeps_object, standing_on}
 use Rattle.run_queue.proofs.FoldersAbove.{unihash_is_name}
 use Rattle.run_queue.proofs.Passed.{left_since}
 use Rattle.run_queue.proofs.Placing.{has_place}
 use Rattle.run_queue.proofs.Recorded.{IsPut, either_valid, front_again, published_valid, unknown, which, whole_again}
-use Rattle.run_queue.proofs.Touched.{aside_less, none_besides}
+use Rattle.run_queue.proofs.Touched.{left_besides}
 
 -- ---- the book of a run in which no fault is kept
 
@@ -119,7 +120,7 @@ pub record Begins (old new : List (Option Avail)) (t : ℕ) : Type 0 where
   pub others : (u : ℕ) → (u ≡ t → ⊥) → slice_get new u ≡ slice_get old u
 
 -- what was begun is begun
-pub more_begun : (s : Seen) (begun : List (Option Avail)) (t : ℕ) → Begins s.begun begun t → (u : ℕ) → IsBegun s u → IsBegun (record s { begun = begun }) u
+pub more_begun : (s : Seen) (begun : List (Option Avail)) (t : ℕ) → Begins s.begun begun t → (u : ℕ) → IsBegunIn s.begun u → IsBegunIn begun u
 more_begun s begun t begins u was = elim (cases_eq u t) [
   | inl same ↦ (begins.there, ap (slice_get begun) same ∙ begins.here)
   | inr ne ↦ (was.0, begins.others u ne ∙ was.1)
@@ -182,21 +183,8 @@ module _ (o : Opening) (s : Seen) (run : IsRun o s) (faultless : s.fault ≡ Non
   -- ---- images
 
   module _ (begun : List (Option Avail)) (begins : Begins s.begun begun t) where
-    abbrev after : Seen
-    after = record s { begun = begun }
-
-    was_not : (u : ℕ) → (IsBegun (record s { begun = begun }) u → ⊥) → (u ≡ t → ⊥) × (IsBegun s u → ⊥)
-    was_not u not_begun =
-        let ne : u ≡ t → ⊥ = λ same. not_begun (begins.there, ap (slice_get begun) same ∙ begins.here) in
-        (ne, λ b. not_begun (b.0, begins.others u ne ∙ b.1))
-
-    -- what is aside now was so before
-    aside_before : (q : List ℕ) → IsAside s.plan (IsBegun (record s { begun = begun })) (IsPublishing (record s { begun = begun })) q → IsAside s.plan (IsBegun s) (IsPublishing s) q
-    aside_before q is = aside_less s.plan (IsBegun s) (IsBegun (record s { begun = begun })) (IsPublishing s) (IsPublishing (record s { begun = begun })) q (more_begun s begun t begins) (λ u b. (more_begun s begun t begins u b.0, b.1)) is
-
-    -- a line whose object none put is so before
-    none_before : (l : Line) → IsObjectOfNone o.gives s.plan o.book s.tale (IsPublishing (record s { begun = begun })) l → IsObjectOfNone o.gives s.plan o.book s.tale (IsPublishing s) l
-    none_before l none = none_besides o.gives s.plan o.book s.tale s.begun begun l (more_begun s begun t begins) none
+    was_not : (u : ℕ) → (IsBegunIn begun u → ⊥) → u ≡ t → ⊥
+    was_not u not_begun same = not_begun (begins.there, ap (slice_get begun) same ∙ begins.here)
 
     -- the objects of the opening's lines of a task that isn't begun
     as_begun : (u : ℕ) (other : PlanTask) → slice_get s.plan.tasks u ≡ Some other → (u ≡ t → ⊥) → (old new : Store) → Publishes (publication (rows_of (book_now o s)) sg tree) old new → IsAsBegun o.book o.story.held old other → IsAsBegun o.book o.story.held new other
@@ -220,18 +208,19 @@ module _ (o : Opening) (s : Seen) (run : IsRun o s) (faultless : s.fault ≡ Non
         by (inr v) = let l : List Line = run.lines ++ put.more in (length l, subst (IsValid o.gives o.reading new) (longer ∙ ap (λ (b : Book). o.book ++ b) (sym (take_all (length l) l (omega arith)))) v)
 
     -- what is at a path that is no own one of tasks that are begun
-    paths_put : (old new : Store) (q : List ℕ) → HasStarted s.tale t → HasFolders old → HasFolders new → Publishes (publication (rows_of (book_now o s)) sg tree) old new → IsAside s.plan (IsBegun (record s { begun = begun })) (IsPublishing (record s { begun = begun })) q → new q ≡ old q
+    paths_put : (old new : Store) (q : List ℕ) → HasStarted s.tale t → KeepsFolders o.story.held old → KeepsFolders o.story.held new → Publishes (publication (rows_of (book_now o s)) sg tree) old new → IsAside o.story.held s.plan (IsBegunIn begun) (IsPublishing begun s.tale) q → new q ≡ old q
     paths_put old new q started before folders publishes is =
-        aside_stays p sg.task old new q (has_place s.plan t sg.task run.may.sound at) refl publishes before folders is.temporary
-        (λ own. is.folder t sg.task at (begins.there, begins.here) own)
-        (λ new_one same. is.output t ((begins.there, begins.here), started) (inl (inr (hash_text (name_of sg.sig), same))))
+        aside_stays p sg.task o.story.held old new q (has_place s.plan t sg.task run.may.sound at) refl publishes before folders run.may.way.objects is.temporary
+        (is.folder t sg.task at (begins.there, begins.here))
+        (is.above t sg.task at (begins.there, begins.here))
+        (λ new_one same. let at = is.output t ((begins.there, begins.here), started) (inl (inr (hash_text (name_of sg.sig), same))) in heads_differ (differ 111 114 refl) (sym at.0 ∙ same))
         (λ unihash some. (
           name_slashes unihash (subst IsName (sym (put.of_task.object unihash some)) own_name),
-          λ below. is.output t ((begins.there, begins.here), started) (inr (in_objects unihash q below)),
+          λ below. let at = is.output t ((begins.there, begins.here), started) (inr (in_objects unihash q below)) in not_top unihash (subst (IsAtOrBelow (object_folder unihash)) at.0 below),
         ))
 
     -- the object of a line that none put
-    objects_put : (old new : Store) (l : Line) (q : List ℕ) → HasStarted s.tale t → Has o.gives s.plan.tasks t (Ok tree) → Publishes (publication (rows_of (book_now o s)) sg tree) old new → HasLine o.book l → IsObjectOfNone o.gives s.plan o.book s.tale (IsPublishing (record s { begun = begun })) l → IsAtOrBelow (object_folder l.unihash) q → new q ≡ old q
+    objects_put : (old new : Store) (l : Line) (q : List ℕ) → HasStarted s.tale t → Has o.gives s.plan.tasks t (Ok tree) → Publishes (publication (rows_of (book_now o s)) sg tree) old new → HasLine o.book l → IsObjectOfNone o.gives s.plan o.book s.tale (IsPublishing begun s.tale) l → IsAtOrBelow (object_folder l.unihash) q → new q ≡ old q
     objects_put old new l q started output publishes has none below = object_stays p old new l.unihash q publishes (λ own some. subst (λ (h : Hash). IsApart (object_folder h) q) (sym (put.of_task.object own some)) apart) below
       where
         here : HasLine (book_now o s) l
@@ -278,76 +267,77 @@ module _ (o : Opening) (s : Seen) (run : IsRun o s) (faultless : s.fault ≡ Non
         apart = apart_within (object_folder put.line.unihash) (object_folder l.unihash) q (apart_under (codes "obj") (hash_text put.line.unihash) (hash_text l.unihash) texts) below
 
     -- what an image is that the publication made
-    left_put : (old new : Store) → HasStarted s.tale t → Has o.gives s.plan.tasks t (Ok tree) → IsImage s.story old → HasFolders new → Publishes (publication (rows_of (book_now o s)) sg tree) old new → IsLeft o (record s { begun = begun }) (run.lines ++ put.more) new
+    left_put : (old new : Store) → HasStarted s.tale t → Has o.gives s.plan.tasks t (Ok tree) → IsImage s.story old → KeepsFolders o.story.held new → Publishes (publication (rows_of (book_now o s)) sg tree) old new → IsLeft o s.plan begun s.tale (run.lines ++ put.more) new
     left_put old new started output is folders publishes =
-        let was = left_since o s run old (now-since s.story (moment o.story) old run.later is) in
+        let was = left_besides o s.plan s.begun begun s.tale (run.lines ++ run.last) old (more_begun s begun t begins) (left_since o s run old (now-since s.story (moment o.story) old run.later is)) in
         let v = left_valid old new is publishes in
         record {
           count = v.0;
           valid = v.1;
           honest = λ u other at_u. honest_on p o.story.held old new sg.task other (has_place s.plan t sg.task run.may.sound at) (has_place s.plan u other run.may.sound at_u) refl (either_or u other at_u) publishes (new_name old is) (was.honest u other at_u);
-          others = λ u other at_u not_begun. let w = was_not u not_begun in as_begun u other at_u w.0 old new publishes (was.others u other at_u w.1);
-          paths = λ q aside. paths_put old new q started was.folders folders publishes aside ∙ was.paths q (aside_before q aside);
-          objects = λ l has none q below. objects_put old new l q started output publishes has none below ∙ was.objects l has (none_before l none) q below;
+          others = λ u other at_u not_begun. as_begun u other at_u (was_not u not_begun) old new publishes (was.others u other at_u not_begun);
+          paths = λ q aside. paths_put old new q started was.folders folders publishes aside ∙ was.paths q aside;
+          objects = λ l has none q below. objects_put old new l q started output publishes has none below ∙ was.objects l has none q below;
           folders = folders;
         }
 
     -- and one that was there before
-    left_was : (image : Store) → IsLeft o s (run.lines ++ run.last) image → IsLeft o (record s { begun = begun }) (run.lines ++ put.more) image
-    left_was image was =
+    left_was : (image : Store) → IsLeft o s.plan s.begun s.tale (run.lines ++ run.last) image → IsLeft o s.plan begun s.tale (run.lines ++ put.more) image
+    left_was image before =
+        let was = left_besides o s.plan s.begun begun s.tale (run.lines ++ run.last) image (more_begun s begun t begins) before in
         let none = ap (λ (b : Book). run.lines ++ b) (run.none_last faultless) ∙ append-nil run.lines in
         let d = front_again was.count run.lines put.more in
         record {
           count = d.0;
           valid = subst (λ (b : Book). IsValid o.gives o.reading image (o.book ++ b)) (ap (take was.count) none ∙ sym d.1) was.valid;
           honest = was.honest;
-          others = λ u other at_u not_begun. was.others u other at_u (was_not u not_begun).1;
-          paths = λ q aside. was.paths q (aside_before q aside);
-          objects = λ l has none. was.objects l has (none_before l none);
+          others = was.others;
+          paths = was.paths;
+          objects = was.objects;
           folders = was.folders;
         }
 
     -- whatever a crash left by now
-    pub left_after : HasStarted s.tale t → Has o.gives s.plan.tasks t (Ok tree) → (from : ℕ) (image : Store) → from ≤ moment o.story → IsImageSince later from image → IsImageSince o.story from image ⊎ IsLeft o (record s { begun = begun }) (run.lines ++ put.more) image
+    pub left_after : HasStarted s.tale t → Has o.gives s.plan.tasks t (Ok tree) → (from : ℕ) (image : Store) → from ≤ moment o.story → IsImageSince later from image → IsImageSince o.story from image ⊎ IsLeft o s.plan begun s.tale (run.lines ++ put.more) image
     left_after started output from image le since = by (pass.since from image come since) (aside.since from image come since)
       where
         come : from ≤ moment s.story
         come = let a = run.later in omega (arith, a, le)
 
-        folders : (i : Store) → IsImage s.story i → HasFolders i
+        folders : (i : Store) → IsImage s.story i → KeepsFolders o.story.held i
         folders i is = (left_since o s run i (now-since s.story (moment o.story) i run.later is)).folders
 
-        old : IsImageSince o.story from image ⊎ IsLeft o s (run.lines ++ run.last) image → IsImageSince o.story from image ⊎ IsLeft o (record s { begun = begun }) (run.lines ++ put.more) image
+        old : IsImageSince o.story from image ⊎ IsLeft o s.plan s.begun s.tale (run.lines ++ run.last) image → IsImageSince o.story from image ⊎ IsLeft o s.plan begun s.tale (run.lines ++ put.more) image
         old (inl before) = inl before
         old (inr left) = inr (left_was image left)
 
-        put_or : (made : (earlier : Store) × IsImage s.story earlier × Publishes (publication (rows_of (book_now o s)) sg tree) earlier image) → IsImageSince o.story from image ⊎ IsLeft o s (run.lines ++ run.last) image → IsImageSince o.story from image ⊎ IsLeft o (record s { begun = begun }) (run.lines ++ put.more) image
+        put_or : (made : (earlier : Store) × IsImage s.story earlier × Publishes (publication (rows_of (book_now o s)) sg tree) earlier image) → IsImageSince o.story from image ⊎ IsLeft o s.plan s.begun s.tale (run.lines ++ run.last) image → IsImageSince o.story from image ⊎ IsLeft o s.plan begun s.tale (run.lines ++ put.more) image
         put_or made (inl before) = inl before
         put_or made (inr left) = inr (left_put made.0 image started output made.1 left.folders made.2)
 
         by : IsImageSince s.story from image ⊎ ((earlier : Store) × IsImage s.story earlier × Publishes (publication (rows_of (book_now o s)) sg tree) earlier image)
             → IsImageSince s.story from image ⊎ ((earlier : Store) × IsImage s.story earlier × KeepsOthers (publication (rows_of (book_now o s)) sg tree).folder (publication (rows_of (book_now o s)) sg tree).object s.story.held earlier image)
-            → IsImageSince o.story from image ⊎ IsLeft o (record s { begun = begun }) (run.lines ++ put.more) image
+            → IsImageSince o.story from image ⊎ IsLeft o s.plan begun s.tale (run.lines ++ put.more) image
         by (inl was) other = old (run.images from image le was)
         by (inr made) (inl was) = put_or made (run.images from image le was)
         by (inr made) (inr kept) =
             inr (left_put made.0 image started output made.1
-            (folders_on p s.story.held kept.0 image sg.task (has_place s.plan t sg.task run.may.sound at) refl kept.2 (folders s.story.held held_now) (folders kept.0 kept.1)) made.2)
+            (folders_on p o.story.held s.story.held kept.0 image sg.task (has_place s.plan t sg.task run.may.sound at) refl kept.2 (folders s.story.held held_now) (folders kept.0 kept.1)) made.2)
 
     -- the lines are of tasks that are begun
-    pub own_after : (l : Line) → HasLine (run.lines ++ put.more) l → (u : ℕ) (other : PlanTask) → slice_get s.plan.tasks u ≡ Some other → l.sig.pn ≡ other.id.pn → l.sig.task ≡ other.id.task → IsBegun (record s { begun = begun }) u
+    pub own_after : (l : Line) → HasLine (run.lines ++ put.more) l → (u : ℕ) (other : PlanTask) → slice_get s.plan.tasks u ≡ Some other → l.sig.pn ≡ other.id.pn → l.sig.task ≡ other.id.task → IsBegunIn begun u
     own_after l has u other at_u pn name = by put.stands
       where
-        known : HasLine run.lines l → IsBegun (record s { begun = begun }) u
+        known : HasLine run.lines l → IsBegunIn begun u
         known it = more_begun s begun t begins u (run.own l it u other at_u pn name)
 
-        last : l ≡ put.line → (u ≡ t) ⊎ (u ≡ t → ⊥) → IsBegun (record s { begun = begun }) u
+        last : l ≡ put.line → (u ≡ t) ⊎ (u ≡ t → ⊥) → IsBegunIn begun u
         last is (inl same) = (begins.there, ap (slice_get begun) same ∙ begins.here)
         last is (inr ne) =
             absurd (differ_at s.plan run.may.sound u t other sg.task at_u at ne
             (sym pn ∙ ap (λ (x : Line). x.sig.pn) is ∙ put.pn) (sym name ∙ ap (λ (x : Line). x.sig.task) is ∙ put.task))
 
-        by : (HasLine (book_now o s) put.line × (put.more ≡ []) × ((publication (rows_of (book_now o s)) sg tree).is_new ≡ false)) ⊎ (IsValidLine o.gives o.reading (book_now o s) put.line × (put.more ≡ put.line ∷ []) × (row_at (rows_of (book_now o s)) (name_of sg.sig) ≡ None) × (put.line ≡ recorded (rows_of (book_now o s)) sg tree)) → IsBegun (record s { begun = begun }) u
+        by : (HasLine (book_now o s) put.line × (put.more ≡ []) × ((publication (rows_of (book_now o s)) sg tree).is_new ≡ false)) ⊎ (IsValidLine o.gives o.reading (book_now o s) put.line × (put.more ≡ put.line ∷ []) × (row_at (rows_of (book_now o s)) (name_of sg.sig) ≡ None) × (put.line ≡ recorded (rows_of (book_now o s)) sg tree)) → IsBegunIn begun u
         by (inl none) = known (subst (λ (b : Book). HasLine b l) (ap (λ (b : Book). run.lines ++ b) none.1 ∙ append-nil run.lines) has)
         by (inr new) =
             let it = subst (λ (b : Book). HasLine b l) (ap (λ (b : Book). run.lines ++ b) new.1) has in

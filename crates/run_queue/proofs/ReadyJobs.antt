@@ -7,12 +7,14 @@ use Rattle.std.proofs.lemmas.Bool.{false≢true}
 use Rattle.std.proofs.lemmas.List.Elements.{All-contains, recursion_from_All}
 use Rattle.std.proofs.lemmas.Option.{slice_get-map, slice_get_within}
 use Rattle.tree_model.proofs.LawLemmas.{same_trees}
+use Rattle.meta_model.specs.declared.event.Avail.{Avail}
+use Rattle.meta_model.specs.declared.event.Avail.TheVariants.{Missing}
 use Rattle.meta_model.specs.declared.event.Event.{Event}
 use Rattle.meta_model.specs.declared.event.Event.TheVariants as events
 use Rattle.meta_model.specs.declared.event.Why.{Why}
 use Rattle.meta_model.specs.declared.event.Why.TheVariants as why
 use Rattle.meta_model.specs.declared.plan.PlanTask.{PlanTask}
-use Rattle.meta_model.specs.CleanBuild.{Built, Entries, Gives, Lack, built_over, by_itself, clean_build, clean_output, given, is_beyond, is_beyond_layout, limited, output_of, outputs_of, task_output}
+use Rattle.meta_model.specs.CleanBuild.{Built, Entries, Gives, Lack, built_over, by_itself, clean_build, clean_output, given, has_long_part, is_beyond, is_beyond_layout, limited, output_of, outputs_of, task_output}
 use Rattle.meta_model.specs.Layout as laid
 use Rattle.meta_model.proofs.Building.{all_tasks}
 use Rattle.plan_model.specs.Sound.{IsSound}
@@ -22,7 +24,7 @@ use Rattle.run_core.specs.Choice.{MayAnswer}
 use Rattle.tale_model.specs.Fates.{IsFree, fate_at, fate_by, fates_told, is_settled, task_of}
 use Rattle.tale_model.specs.History.{Clean, Course, EachAfter, MayCome, layout_too_large}
 use Rattle.run_core.specs.History.{IsInOrder, IsOrderly, started_as}
-use Rattle.tale_model.specs.Need.{IsNeed, deps_in}
+use Rattle.tale_model.specs.Need.{IsIn, IsNeed, deps_in}
 use Rattle.run_core.specs.declared.next.Next.TheVariants as next
 use Rattle.run_core.proofs.Steps.{count_told}
 use Rattle.meta_model.specs.declared.event.Logged.{Logged}
@@ -41,12 +43,14 @@ use Rattle.run_queue.specs.Outputs.{AreRead, IsJobOf, IsRead, IsTooLarge, LacksO
 use Rattle.run_queue.specs.Outputs.IsTooLarge.{laid as too_laid, output as too_output}
 use Rattle.run_model.specs.Books.{book_by}
 use Rattle.run_model.specs.Courses.{IsCourse, clean_says, said}
-use Rattle.run_queue.specs.Keeps.{IsRun, IsUpToDate}
+use Rattle.run_queue.specs.Keeps.{IsRun, IsUpToDate, WasThere}
 use Rattle.run_queue.specs.Seen.{Known, Seen}
-use Rattle.run_model.specs.Stands.{AllStand}
+use Rattle.run_model.specs.Stands.{AllStand, HasEnded}
 use Rattle.run_queue.specs.Turns.{IsCleanJob}
+use Rattle.run_queue.proofs.Agreement.{some_known}
 use Rattle.run_queue.proofs.Claiming.{claim_may_come}
 use Rattle.run_queue.proofs.Jobs.{job_is_said}
+use Rattle.run_queue.proofs.There.{WasSo, tells_one}
 use Rattle.run_queue.proofs.Unsettled.{SettlesNone}
 
 -- ---- clean outputs are within the limits
@@ -60,7 +64,11 @@ limited_small x tree is = by (is_beyond x) refl is
 
 output_small : (sstate : Bool) (places : List (List ℕ × List ℕ)) (x : Result Entries Why) (tree : Entries) → output_of sstate places x ≡ Ok tree → is_beyond tree ≡ false
 output_small sstate places (Err cause) tree is = absurd (cc)
-output_small sstate places (Ok x) tree is = limited_small (given sstate places x) tree is
+output_small sstate places (Ok x) tree is = by (has_long_part sstate places x) is
+  where
+    by : (long : Bool) → (if long then Err why.TooLarge else limited (Ok (given sstate places x))) ≡ Ok tree → is_beyond tree ≡ false
+    by true e = absurd (cc)
+    by false e = limited_small (given sstate places x) tree e
 
 task_small : (gives : Gives) (task : PlanTask) (layout tree : Entries) → task_output gives task.script task.sstate task.places layout ≡ Ok tree → is_beyond tree ≡ false
 task_small gives task layout tree is = by (is_beyond_layout layout) is
@@ -188,6 +196,16 @@ module _ (o : Opening) (s : Seen) (k : Known) (t seat : ℕ) (task : PlanTask) (
 
   pub settles_started : (moment : ℕ) → SettlesNone o s.plan s.tale (record { event = events.Started t seat; seat = seat; moment = moment })
   settles_started moment = settles_none (events.Started t seat) moment refl refl (λ b. refl)
+
+  -- it was missing when the run began
+  pub told_missing : WasSo o s.plan s.options s.tale (events.Started t seat)
+  told_missing = tells_one o s (events.Started t seat) t Missing run.rows was refl
+    where
+      not_ended : HasEnded s.plan s.tale t → ⊥
+      not_ended ended = let n : fate.Waiting ≡ fate.Ended = sym answer.0.waits ∙ ended in cc
+
+      was : WasThere o s t Missing
+      was = some_known (λ (x : Known). (u : ℕ) (a : Avail) → IsIn x.need u → (HasEnded s.plan s.tale u → ⊥) → slice_get x.avail u ≡ Some a → WasThere o s u a) s.known k known run.there t Missing answer.0.needed not_ended answer.0.missing
 
   pub settles_large : (moment : ℕ) → SettlesNone o s.plan s.tale (record { event = events.Failed t why.TooLarge; seat = seat; moment = moment })
   settles_large moment = settles_none (events.Failed t why.TooLarge) moment refl refl (λ b. refl)

@@ -37,13 +37,14 @@ use Rattle.run_queue.specs.Seen.{Known, RunView, Seen, seen}
 use Rattle.run_model.specs.Stands.{AllStand, HasEnded, HasOwnRow, IsSettledIn, IsStanding, IsPlaced}
 use Rattle.run_queue.specs.Stands.{HasObjects}
 use Rattle.run_queue.specs.Turns.{MarksAt, Notes}
-use Rattle.run_queue.proofs.Touched.{aside_on, broken_on, halted_as, none_on, told_on}
+use Rattle.run_queue.proofs.Touched.{broken_on, halted_as, left_behind, told_on}
 use Rattle.run_queue.proofs.Growing.{book_grows, legal_grows}
+use Rattle.run_queue.proofs.There.{WasSo, there_grows}
 use Rattle.run_queue.proofs.Notes.{set_other, set_same}
 use Rattle.run_queue.proofs.Unsettled.{behind, if_some_on, logged_at, was_none}
 
 -- The event of an entry settles its task, which waited, and doesn't end it; no line is recorded of it; the task's name has a row, its
--- output was there when the run began, and it stands in each image now.
+-- output was there when the run began, so as the event tells, and it stands in each image now.
 pub record SettlesOne (o : Opening) (s : Seen) (e : Logged) : Type 0 where
   pub within : task_of e.event < length (fates_told (length s.plan.tasks) s.tale)
   pub before : fate_at (fates_told (length s.plan.tasks) s.tale) (task_of e.event) ≡ fate.Waiting
@@ -51,6 +52,7 @@ pub record SettlesOne (o : Opening) (s : Seen) (e : Logged) : Type 0 where
   pub book : (b : Book) → book_by o.gives s.plan b e.event ≡ b
   pub stored : (sg : Signed) → slice_get (signatures s.rows s.plan.tasks) (task_of e.event) ≡ Some sg → row_at s.rows (name_of sg.sig) ≢ None
   pub met : (a : Avail) × WasThere o s (task_of e.event) a × (a ≢ Missing)
+  pub so : WasSo o s.plan s.options s.tale e.event
   pub stands : (image : Store) → IsImage s.story image → (task : PlanTask) → slice_get s.plan.tasks (task_of e.event) ≡ Some task → IsStanding o s.plan (s.tale ++ e ∷ []) (task_of e.event) task image
 
 module _ (o : Opening) (s : Seen) (entry : Logged) (one : SettlesOne o s entry) where
@@ -153,6 +155,7 @@ settled_run o s but seat event failed fault written settles run own faultless ma
       none_last = λ none. run.none_last (faultless none);
       valid = λ none. run.valid (faultless none);
       durable = λ none. run.durable (faultless none);
+      swept = λ none. run.swept (faultless none);
       objects = λ none image is u task at_task not_yet. subst (λ (b : Book). HasObjects b o.story.held image task) (sym books) (run.objects (faultless none) image is u task at_task (λ ended. not_yet (ended_on o s e settles u ended)));
       later = run.later;
       marked = λ k x here. elim (front_at o s e settles k x here) [
@@ -161,6 +164,7 @@ settled_run o s but seat event failed fault written settles run own faultless ma
       ];
       reusable = subst (λ (b : Book). HasNoCollision b s.rows s.plan.tasks → MayReuse o.gives o.reading o.story.held b s.plan.tasks) (sym books) run.reusable;
       legal = legal_grows o s.plan s.options s.tale e run.legal may;
+      were_there = there_grows o s.plan s.options s.tale e run.were_there settles.so;
       real = λ k x here. elim (front_at o s e settles k x here) [
         | inl f ↦ run.real k x f
         | inr l ↦ subst (λ (y : Logged). IsReal o.gives s.plan.tasks y.event) (sym l.1) real
@@ -181,7 +185,7 @@ settled_run o s but seat event failed fault written settles run own faultless ma
       ];
       halted = run.halted;
       told = told_on s.begun s.tale e s.fault fault run.halted (MayBeHalted o s) (MayBeHalted o later) but faultless (halted_as o s later (broken_on s.tale e) (λ u was x here. was x here)) (λ u b. inl (own u b)) run.told;
-      images = λ t image le since. elim (run.images t image le since) [ inl before ↦ inl before | inr l ↦ inr (record { count = l.count; valid = l.valid; honest = l.honest; others = l.others; paths = λ q aside. l.paths q (aside_on s.plan s.begun s.tale e q aside); objects = λ line has none. l.objects line has (none_on o.gives s.plan o.book s.begun s.tale e line none); folders = l.folders }) ];
+      images = λ t image le since. elim (run.images t image le since) [ inl before ↦ inl before | inr left ↦ inr (left_behind o s.plan s.begun s.tale e (run.lines ++ run.last) image left) ];
       stands = λ image is. stands_on o s e settles image is (run.stands image is);
       settled = λ k x here lt image since. elim (front_at o s e settles k x here) [
         | inl f ↦ subst (λ (l : List Logged). AllStand o s.plan l image) (sym (take_front k s.tale e (slice_get_within s.tale k x f))) (run.settled k x f lt image since)

@@ -1,7 +1,6 @@
 -- Why a fault that a run keeps isn't that an output differs from one run to another.
-use Rattle.std.proofs.Common.{◌≡◌, ◌∙◌, sym, ap, subst, ℕ, ◌<◌, ◌⊎◌, inl, inr, false, List, [], ◌++◌, ◌∷◌, length, Some, None, Result, Ok, Err, append-nil}
-use Rattle.std.specs.Prelude.{IfErr, Option}
-use Rattle.tree_model.specs.declared.hash.Hash.{Hash}
+use Rattle.std.proofs.Common.{◌≡◌, ◌∙◌, sym, ap, subst, ℕ, ◌<◌, ◌⊎◌, inl, inr, false, List, [], ◌++◌, ◌∷◌, length, Some, None, append-nil}
+use Rattle.std.specs.Prelude.{Option}
 use Rattle.tree_model.specs.Manifest.{manifest_lines}
 use Rattle.meta_model.specs.CleanBuild.{Entries}
 use Rattle.tale_model.specs.declared.fate.Fate.TheVariants as fate
@@ -15,7 +14,7 @@ use Rattle.store_model.specs.Rows.{row_at}
 use Rattle.store_model.specs.Signatures.{Signed}
 use Rattle.store_model.specs.Spelling.{name_of, signature_bytes}
 use Rattle.store_model.specs.Valid.{IsValidLine}
-use Rattle.build_store.specs.Faults.{IsClash, IsOutside, IsRefusal}
+use Rattle.build_store.specs.Faults.{IsRefusal}
 use Rattle.store_model.specs.Lines.{HasLine}
 use Rattle.build_store.specs.Publication.{IsAgreed, publication}
 use Rattle.build_store.specs.declared.fault.StoreFault.{StoreFault}
@@ -33,22 +32,6 @@ use Rattle.run_queue.proofs.Turning.{IsReady, ready}
 pub steady_none : (f : Option RunFault) → f ≡ None → IsSteady f
 steady_none None e = tt
 steady_none (Some f) e = absurd (let n : Some f ≡ None = e in cc)
-
-pub outside_steady : (f : StoreFault) → IsOutside f → IsSteadyAnswer f
-outside_steady fault_of.Disk is = tt
-outside_steady (fault_of.Collision name held given) is = tt
-outside_steady (fault_of.Unsteady pn task held given) is = is
-outside_steady fault_of.Memory is = tt
-
-clash_one : (rows : List EquivRow) (at : Hash) (bytes : List ℕ) (f : StoreFault) → IsClash rows at bytes f → IsSteadyAnswer f
-clash_one rows at bytes fault_of.Disk is = tt
-clash_one rows at bytes (fault_of.Collision name held given) is = tt
-clash_one rows at bytes (fault_of.Unsteady pn task held given) is = is
-clash_one rows at bytes fault_of.Memory is = tt
-
-pub clash_steady : {T : Type 0} (r : Result T StoreFault) (rows : List EquivRow) (at : Hash) (bytes : List ℕ) → IfErr r (IsClash rows at bytes) → IfErr r IsSteadyAnswer
-clash_steady (Ok x) rows at bytes is = tt
-clash_steady (Err f) rows at bytes is = clash_one rows at bytes f is
 
 -- a publication of what agrees with the task's record
 pub refusal_steady : (rows : List EquivRow) (s : Signed) (tree : Entries) (f : StoreFault) → IsAgreed rows s tree → IsRefusal rows s tree f → IsSteadyAnswer f

@@ -14,13 +14,15 @@ use Rattle.tale_model.specs.declared.fate.Fate.{Fate}
 use Rattle.tale_model.specs.declared.fate.Fate.TheVariants as fate
 use Rattle.meta_model.specs.declared.plan.Plan.{Plan}
 use Rattle.meta_model.specs.CleanBuild.{Gives}
+use Rattle.outside_traits.specs.Store.{Store}
 use Rattle.store_model.specs.Origins.{Book, Line, rows_of}
 use Rattle.tale_model.specs.Fates.{fate_at, fate_by, fates_by, fates_told, task_of}
 use Rattle.run_queue.specs.declared.fault.RunFault.{RunFault}
 use Rattle.run_queue.specs.Keeps.{MayBeHalted, WasThere, nobody}
 use Rattle.run_model.specs.Opening.{Opening}
 use Rattle.run_model.specs.Own.{IsAside, IsObjectOfNone, IsUnihashOver}
-use Rattle.run_queue.specs.Seen.{Seen}
+use Rattle.run_queue.specs.Seen.{IsBegunIn, Seen}
+use Rattle.run_queue.specs.Stands.{IsLeft, IsPublishing}
 use Rattle.run_model.specs.Books.{book_after}
 use Rattle.run_model.specs.Stands.{HasBroken, HasFinished, HasStarted, IsPlaced}
 use Rattle.run_queue.proofs.Recorded.{front_again}
@@ -74,7 +76,7 @@ front_get [] k x y e = absurd (cc)
 front_get (z ∷ xs) zero x y e = e
 front_get (z ∷ xs) (suc k) x y e = front_get xs k x y e
 
-pub started_on : (tale : List Logged) (e : Logged) (t : ℕ) → HasStarted tale t → HasStarted (tale ++ e ∷ []) t
+started_on : (tale : List Logged) (e : Logged) (t : ℕ) → HasStarted tale t → HasStarted (tale ++ e ∷ []) t
 started_on tale e t s = record { place = s.place; entry = s.entry; is_entry = front_get tale s.place s.entry e s.is_entry; seat = s.seat; starts = s.starts }
 
 placed_on : (tale : List Logged) (e : Logged) (t : ℕ) → IsPlaced tale t → IsPlaced (tale ++ e ∷ []) t
@@ -170,23 +172,16 @@ told_halted begun more t tale fault later halted may then' but others none spare
     none_some None e is = false≢true is
     none_some (Some f) e is = let n : Some f ≡ None = e in cc
 
--- ---- paths aside
+-- ---- what a crash left
 
 -- a path that is aside of more is aside of fewer
-pub aside_less : (plan : Plan) (touched more published others : ℕ → Type 0) (q : List ℕ) → ((t : ℕ) → touched t → more t) → ((t : ℕ) → published t → others t) → IsAside plan more others q → IsAside plan touched published q
-aside_less plan touched more published others q a b is = record {
+aside_less : (held : Store) (plan : Plan) (touched more published others : ℕ → Type 0) (q : List ℕ) → ((t : ℕ) → touched t → more t) → ((t : ℕ) → published t → others t) → IsAside held plan more others q → IsAside held plan touched published q
+aside_less held plan touched more published others q a b is = record {
   temporary = is.temporary;
   folder = λ t task at was. is.folder t task at (a t was);
+  above = λ t task at was. is.above t task at (a t was);
   output = λ t was. is.output t (b t was);
 }
-
--- the tasks that these were begun of, and that the tale starts
-abbrev pub Publishing : List (Option Avail) → List Logged → ℕ → Type 0
-Publishing begun tale t = ((a : Avail) × (slice_get begun t ≡ Some (Some a))) × HasStarted tale t
-
--- what is aside behind one more entry was so before
-pub aside_on : (plan : Plan) (begun : List (Option Avail)) (tale : List Logged) (e : Logged) (q : List ℕ) → IsAside plan (λ t. (a : Avail) × (slice_get begun t ≡ Some (Some a))) (Publishing begun (tale ++ e ∷ [])) q → IsAside plan (λ t. (a : Avail) × (slice_get begun t ≡ Some (Some a))) (Publishing begun tale) q
-aside_on plan begun tale e q is = aside_less plan (λ t. (a : Avail) × (slice_get begun t ≡ Some (Some a))) (λ t. (a : Avail) × (slice_get begun t ≡ Some (Some a))) (Publishing begun tale) (Publishing begun (tale ++ e ∷ [])) q (λ t b. b) (λ t b. (b.0, started_on tale e t b.1)) is
 
 -- a line whose object none of more tasks put over more fronts is one whose object none of fewer put
 pub none_less : (gives : Gives) (plan : Plan) (book : Book) (tale longer : List Logged) (published more : ℕ → Type 0) (line : Line) → ((t : ℕ) → published t → more t) → ((k : ℕ) → (j : ℕ) × (take j longer ≡ take k tale)) → IsObjectOfNone gives plan book longer more line → IsObjectOfNone gives plan book tale published line
@@ -194,10 +189,26 @@ none_less gives plan book tale longer published more line also fronts none t tas
     let f = fronts k in
     none t task at (also t was) pn name f.0 (subst (λ (l : List Logged). IsUnihashOver gives plan (rows_of (book_after gives plan book l)) t line.unihash) (sym f.1) over)
 
--- over one tale
-pub none_besides : (gives : Gives) (plan : Plan) (book : Book) (tale : List Logged) (begun more : List (Option Avail)) (line : Line) → ((t : ℕ) → (a : Avail) × (slice_get begun t ≡ Some (Some a)) → (a : Avail) × (slice_get more t ≡ Some (Some a))) → IsObjectOfNone gives plan book tale (Publishing more tale) line → IsObjectOfNone gives plan book tale (Publishing begun tale) line
-none_besides gives plan book tale begun more line also = none_less gives plan book tale tale (Publishing begun tale) (Publishing more tale) line (λ t b. (also t b.0, b.1)) (λ k. (k, refl))
+-- what a crash left is so by more that is begun, and by a longer tale
+left_more : (o : Opening) (plan : Plan) (begun more : List (Option Avail)) (tale longer : List Logged) (lines : Book) (image : Store) → ((t : ℕ) → IsBegunIn begun t → IsBegunIn more t) → ((t : ℕ) → HasStarted tale t → HasStarted longer t) → ((k : ℕ) → (j : ℕ) × (take j longer ≡ take k tale))
+    → IsLeft o plan begun tale lines image → IsLeft o plan more longer lines image
+left_more o plan begun more tale longer lines image also starts fronts left = record {
+  count = left.count;
+  valid = left.valid;
+  honest = left.honest;
+  others = λ t task at none. left.others t task at (λ b. none (also t b));
+  paths = λ q aside. left.paths q (aside_less o.story.held plan (IsBegunIn begun) (IsBegunIn more) (IsPublishing begun tale) (IsPublishing more longer) q also publishes aside);
+  objects = λ line has none. left.objects line has (none_less o.gives plan o.book tale longer (IsPublishing begun tale) (IsPublishing more longer) line publishes fronts none);
+  folders = left.folders;
+}
+  where
+    publishes : (t : ℕ) → IsPublishing begun tale t → IsPublishing more longer t
+    publishes t b = (also t b.0, starts t b.1)
+
+-- by more that is begun
+pub left_besides : (o : Opening) (plan : Plan) (begun more : List (Option Avail)) (tale : List Logged) (lines : Book) (image : Store) → ((t : ℕ) → IsBegunIn begun t → IsBegunIn more t) → IsLeft o plan begun tale lines image → IsLeft o plan more tale lines image
+left_besides o plan begun more tale lines image also = left_more o plan begun more tale tale lines image also (λ t starts. starts) (λ k. (k, refl))
 
 -- behind one more entry
-pub none_on : (gives : Gives) (plan : Plan) (book : Book) (begun : List (Option Avail)) (tale : List Logged) (e : Logged) (line : Line) → IsObjectOfNone gives plan book (tale ++ e ∷ []) (Publishing begun (tale ++ e ∷ [])) line → IsObjectOfNone gives plan book tale (Publishing begun tale) line
-none_on gives plan book begun tale e line = none_less gives plan book tale (tale ++ e ∷ []) (Publishing begun tale) (Publishing begun (tale ++ e ∷ [])) line (λ t b. (b.0, started_on tale e t b.1)) (λ k. front_again k tale (e ∷ []))
+pub left_behind : (o : Opening) (plan : Plan) (begun : List (Option Avail)) (tale : List Logged) (e : Logged) (lines : Book) (image : Store) → IsLeft o plan begun tale lines image → IsLeft o plan begun (tale ++ e ∷ []) lines image
+left_behind o plan begun tale e lines image = left_more o plan begun begun tale (tale ++ e ∷ []) lines image (λ t b. b) (started_on tale e) (λ k. front_again k tale (e ∷ []))

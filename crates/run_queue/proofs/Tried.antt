@@ -1,22 +1,19 @@
 -- What a try of a claim did, told of the state before nothing was marked.
-use Rattle.std.proofs.Common.{◌≡◌, ◌∙◌, sym, ap, subst, refl, ℕ, arith, Bool, List, length, take, inl, inr, Some, None, Ok, Err}
+use Rattle.std.proofs.Common.{◌≡◌, ◌∙◌, sym, subst, refl, ℕ, arith, List, length, take, Some, None, Ok, Err}
 use Rattle.std.specs.Prelude.{Option, Result}
 use Rattle.std.specs.List.{slice_get}
 use Rattle.std.proofs.lemmas.List.{take_all}
-use Rattle.outside_traits.specs.Fault.{Counts}
 use Rattle.outside_traits.specs.Story.{Story}
 use Rattle.tree_model.specs.declared.text.Mem.{Mem}
 use Rattle.meta_model.specs.declared.event.Event.TheVariants as events
 use Rattle.meta_model.specs.declared.event.Logged.{Logged}
 use Rattle.meta_model.specs.declared.plan.Options.{Options}
 use Rattle.meta_model.specs.declared.plan.Plan.{Plan}
-use Rattle.run_model.specs.Report.{tale_text}
 use Rattle.tale_model.specs.Choice.{IsFinished}
 use Rattle.run_core.specs.Choice.{CannotGoOn, MayAnswer}
 use Rattle.run_core.specs.declared.next.Next.{Next}
 use Rattle.run_core.specs.declared.next.Next.TheVariants as next
-use Rattle.tale_model.specs.Fates.{HoldsFailure, IsFree, fates_told}
-use Rattle.run_core.specs.Fates.{SomeRuns}
+use Rattle.tale_model.specs.Fates.{IsFree, fates_told}
 use Rattle.tale_model.specs.History.{Course, EachAfter}
 use Rattle.run_core.specs.History.{IsOrderly}
 use Rattle.tale_model.specs.Need.{IsNeed}
@@ -25,10 +22,9 @@ use Rattle.run_model.specs.Opening.{Opening}
 use Rattle.run_model.specs.Courses.{IsCourse, IsThere}
 use Rattle.run_queue.specs.declared.state.Claim.{Claim}
 use Rattle.run_queue.specs.declared.state.Claim.TheVariants as claim
-use Rattle.run_queue.specs.Keeps.{IsFront, IsRun, IsUpToDate, Prints}
+use Rattle.run_queue.specs.Keeps.{IsRun, IsUpToDate}
 use Rattle.run_queue.specs.Seen.{Known, RunView, Seen, seen}
-use Rattle.run_queue.specs.Turns.{Claims, ClaimsClean, IsAnew, Looks, Marks, Settles, TurnsClean, TurnsTo, fates_of}
-use Rattle.run_model.specs.Outcome.{IsAtEnd}
+use Rattle.run_queue.specs.Turns.{ClaimsClean, Looks, TurnsClean, TurnsTo, fates_of}
 use Rattle.run_queue.proofs.Agreement.{agreement}
 use Rattle.run_queue.proofs.Claiming.{agree_waiting}
 
@@ -40,17 +36,14 @@ pub record SameTold {D W : Type 0} (old new : RunView D W) : Type 0 where
   pub sink_failed : new.sink_failed ≡ old.sink_failed
   pub tale : new.tale ≡ old.tale
 
-pub told_itself : {D W : Type 0} (v : RunView D W) → SameTold v v
-told_itself v = record { plan = refl; options = refl; sink = refl; sink_failed = refl; tale = refl }
-
 pub told_by_look : {D W : Type 0} (old new : RunView D W) → Looks old new → SameTold old new
 told_by_look old new l = record { plan = l.plan; options = l.options; sink = l.sink; sink_failed = l.sink_failed; tale = l.tale }
 
-pub told_anew : {D W : Type 0} (old new : RunView D W) → IsAnew old new → SameTold old new
-told_anew old new l = record { plan = l.plan; options = l.options; sink = l.sink; sink_failed = l.sink_failed; tale = l.tale }
-
-pub told_then : {D W : Type 0} (a b c : RunView D W) → SameTold a b → SameTold b c → SameTold a c
-told_then a b c x y = record { plan = y.plan ∙ x.plan; options = y.options ∙ x.options; sink = y.sink ∙ x.sink; sink_failed = y.sink_failed ∙ x.sink_failed; tale = y.tale ∙ x.tale }
+-- nor does a try that answers nothing
+pub told_by_try : {D W : Type 0} (seat : ℕ) (first old new : RunView D W) (answer : Option Claim) → SameTold first old → TurnsTo seat old new (Ok answer) → ((c : Claim) → answer ≡ Some c → ⊥) → SameTold first new × (new.fault ≡ None)
+told_by_try seat first old new None same t none =
+    (record { plan = t.plan ∙ same.plan; options = t.options ∙ same.options; sink = t.sink ∙ same.sink; sink_failed = t.sink_failed ∙ same.sink_failed; tale = t.tale ∙ same.tale }, t.fault)
+told_by_try seat first old new (Some c) same t none = absurd (none c refl)
 
 module _ {D W : Type 0} (old mid : RunView D W) (same : SameTold old mid) where
   fates_same : fates_of mid ≡ fates_of old
@@ -58,43 +51,6 @@ module _ {D W : Type 0} (old mid : RunView D W) (same : SameTold old mid) where
 
   pub free_on : (seat : ℕ) → IsFree (fates_of old) seat → IsFree (fates_of mid) seat
   free_on seat free = subst (λ l. IsFree l seat) (sym fates_same) free
-
-  pub claims_from : (new : RunView D W) (seat : ℕ) (r : Result Claim Mem) → Claims seat mid new r → Claims seat old new r
-  claims_from new seat (Ok (claim.Run job)) b = record {
-    task = b.task;
-    is_task = subst (λ (p : Plan). slice_get p.tasks job.task ≡ Some b.task) same.plan b.is_task;
-    script = b.script;
-    marks = subst (λ (l : List Logged). Marks seat (events.Started job.task seat) l new.tale) same.tale b.marks;
-  }
-  claims_from new seat (Ok (claim.Settled t)) b = subst (λ (l : List Logged). Settles seat t l new.tale) same.tale b
-  claims_from new seat (Ok claim.Wait) b = (b.0 ∙ same.tale, subst (λ l. SomeRuns l) fates_same b.1, b.2)
-  claims_from new seat (Ok claim.Finished) b = (
-    b.0 ∙ same.tale,
-    subst (λ (l : List Logged). IsAtEnd old.plan old.options l) same.tale (subst (λ (x : Options). IsAtEnd old.plan x mid.tale) same.options (subst (λ (p : Plan). IsAtEnd p mid.options mid.tale) same.plan b.1)),
-  )
-  claims_from new seat (Ok claim.Stopped) b = (
-    b.0 ∙ same.tale,
-    elim b.1 [
-      | inl failed ↦ inl (subst (λ l. HoldsFailure l) fates_same failed.0, ap (λ (x : Options). x.keep_going) (sym same.options) ∙ failed.1)
-      | inr kept ↦ inr kept
-    ],
-  )
-  claims_from new seat (Err e) b = b ∙ same.tale
-
-  pub text_from : (written : W → List ℕ) (new : RunView D W) (base : List ℕ) → (Prints base (written mid.sink) (tale_text mid.plan.tasks mid.tale) mid.sink_failed → Prints base (written new.sink) (tale_text mid.plan.tasks new.tale) new.sink_failed)
-      → Prints base (written old.sink) (tale_text old.plan.tasks old.tale) old.sink_failed → Prints base (written new.sink) (tale_text old.plan.tasks new.tale) new.sink_failed
-  text_from written new base goes prints =
-      subst (λ (p : Plan). Prints base (written new.sink) (tale_text p.tasks new.tale) new.sink_failed) same.plan
-      (goes (subst (λ (b : Bool). Prints base (written mid.sink) (tale_text mid.plan.tasks mid.tale) b) (sym same.sink_failed)
-      (subst (λ (l : List ℕ). Prints base l (tale_text mid.plan.tasks mid.tale) old.sink_failed) (sym (ap written same.sink))
-      (subst (λ (l : List ℕ). Prints base (written old.sink) l old.sink_failed) (sym (λ i. tale_text (same.plan i).tasks (same.tale i))) prints))))
-
-  pub sink_from : (faults : W → ℕ) (new : RunView D W) (before : ℕ) → (Counts before (faults mid.sink) mid.sink_failed → Counts before (faults new.sink) new.sink_failed)
-      → Counts before (faults old.sink) old.sink_failed → Counts before (faults new.sink) new.sink_failed
-  sink_from faults new before goes counts = goes (subst (λ (b : Bool). Counts before (faults mid.sink) b) (sym same.sink_failed) (subst (λ (n : ℕ). Counts before n old.sink_failed) (sym (ap faults same.sink)) counts))
-
-  pub front_from : (written : W → List ℕ) (new : RunView D W) (front : List ℕ) → (IsFront front (written mid.sink) → IsFront front (written new.sink)) → IsFront front (written old.sink) → IsFront front (written new.sink)
-  front_from written new front goes is = goes (subst (IsFront front) (sym (ap written same.sink)) is)
 
   pub clean_from : (story : D → Story) (written : W → List ℕ) (o : Opening) (r : Result Claim Mem) → ClaimsClean o (seen story written mid) r → ClaimsClean o (seen story written old) r
   clean_from story written o (Ok (claim.Run job)) c = record {
@@ -125,11 +81,6 @@ module _ {D W : Type 0} (old mid : RunView D W) (same : SameTold old mid) where
       at_end = subst (λ (l : List Logged). Ends old.plan old.options l) same.tale (subst (λ (x : Options). Ends old.plan x mid.tale) same.options (subst (λ (p : Plan). Ends p mid.options mid.tale) same.plan c))
   clean_from story written o (Ok claim.Stopped) c = tt
   clean_from story written o (Err e) c = tt
-
-pub turns_from : {D W : Type 0} (old mid new : RunView D W) → SameTold old mid → (seat : ℕ) (r : Result (Option Claim) Mem) → TurnsTo seat mid new r → TurnsTo seat old new r
-turns_from old mid new same seat (Ok (Some c)) t = claims_from old mid same new seat (Ok c) t
-turns_from old mid new same seat (Ok None) t = record { plan = t.plan ∙ same.plan; options = t.options ∙ same.options; sink = t.sink ∙ same.sink; sink_failed = t.sink_failed ∙ same.sink_failed; fault = t.fault; tale = t.tale ∙ same.tale }
-turns_from old mid new same seat (Err e) t = t ∙ same.tale
 
 pub turns_clean_from : {D W : Type 0} (old mid : RunView D W) → SameTold old mid → (story : D → Story) (written : W → List ℕ) (o : Opening) (r : Result (Option Claim) Mem) → TurnsClean o (seen story written mid) r → TurnsClean o (seen story written old) r
 turns_clean_from old mid same story written o (Ok (Some c)) t = clean_from old mid same story written o (Ok c) t

@@ -36,6 +36,7 @@ use Rattle.run_core.specs.History.{IsOrderly}
 use Rattle.tale_model.specs.Need.{IsIn, deps_in}
 use Rattle.store_model.specs.declared.signature.EquivRow.{EquivRow}
 use Rattle.store_model.specs.Origins.{rows_of}
+use Rattle.store_model.specs.Opened.{HasNoLitter}
 use Rattle.store_model.specs.Recording.{NeedsHaveRows}
 use Rattle.store_model.specs.Reuse.{MayReuse}
 use Rattle.store_model.specs.Rows.{row_at}
@@ -68,6 +69,7 @@ use Rattle.run_queue.proofs.Putting.{Begins, book_now, durable_now, may_now, rea
 use Rattle.run_queue.proofs.Recorded.{IsPut, put_line}
 use Rattle.run_queue.proofs.Touched.{broken_last}
 use Rattle.run_queue.proofs.Unsettled.{logged_at, noted_but, noted_run}
+use Rattle.run_queue.proofs.There.{tells_none}
 
 -- ---- what is there before a publication
 
@@ -213,6 +215,7 @@ module _ {D W : Type 0} (story : D → Story) (written : W → List ℕ) (o : Op
       (puts : (x : Signed) → IsSignedAt old.store.rows old.plan.tasks t x → Puts (Unit {0}) (story old.store.disk) (story store.disk) (publication old.store.rows x tree))
       (put : (x : Signed) → IsSignedAt old.store.rows old.plan.tasks t x → HasPut (Unit {0}) (story store.disk) old.store.rows store.rows x tree)
       (readable : (x : Signed) → IsSignedAt old.store.rows old.plan.tasks t x → IsReadable (line_for old.store.rows x tree) ⊎ (store.disk ≡ old.store.disk))
+      (sweeps : HasNoLitter (story old.store.disk).held → HasNoLitter (story store.disk).held)
       (tells : Type 0) (tell : tells) (before : Replan) (was_known : old.known ≡ Some (known_in before)) (was : IsCurrent no_meaning (record { plan = old.plan; rows = old.store.rows }) before)
       (made : Option Replan) (fault : Option RunFault) (current : IfSome made (IsCurrent (kept_or_meant (earlier_in before) tells (story store.disk).held store.rows old.options.setscene old.plan.tasks begun) (record { plan = old.plan; rows = store.rows })))
       (notes : Notes seat (events.Ended t) (record old { store = after; begun = begun; fault = fault; known = option_map known_in made }) new) (marks : MarksAt (story after.disk) seat (events.Ended t) old.tale new.tale) where
@@ -251,13 +254,14 @@ module _ {D W : Type 0} (story : D → Story) (written : W → List ℕ) (o : Op
         let aside = then_same (p.others tt) passed in
         let published : (image : Store) → story_of.IsImage (story after.disk) image → IsPublished (publication (rows_of (book_now o (seen story written old))) r.sg tree) image = λ image is. h.published tt image (same_now (story store.disk) (story after.disk) image passed is) in
         let lines = more_readable r p (readable r.sg r.signed) in
+        let swept = subst HasNoLitter (sym passed.held) (sweeps (run.swept faultless)) in
         let course = may_come (min (moment (story after.disk)) (2 ^ 64 - 1)) in
         let there = made_on made current (λ m is. ended_there o (seen story written old) run faultless orderly r.may t r.sg r.at r.is_sg tree r.put seat runs (story after.disk) sound pass aside begun begins
-        r.built r.is_built r.clean is_tree r.needs published later_sound lines
+        r.built r.is_built r.clean is_tree r.needs published later_sound swept lines
         after.rows after.kept rows_are course tells tell before m was_known was (current_on m is)) in
         subst (IsRun o) same
         (ended_run o (seen story written old) run faultless orderly r.may t r.sg r.at r.is_sg tree r.put seat runs (story after.disk) sound pass aside begun begins
-        r.built r.is_built r.clean is_tree r.needs published later_sound lines
+        r.built r.is_built r.clean is_tree r.needs published later_sound swept lines
         after.rows after.kept (option_map known_in made) new.sink_failed new.fault (written new.sink) rows_are there course)
       where
         Longer : List Logged
@@ -323,6 +327,7 @@ broken_seen story written o mid new t seat cut n m stays runs run =
     run
     (λ course same is. subst (λ (p : Plan). fate_at (fates_told (length p.tasks) mid.tale) t ≡ fate.Running seat) (sym same) runs)
     tt
+    (tells_none o mid.plan mid.options mid.tale (events.Broke t cut) refl)
 
 -- and so does the task at which the run is halted
 pub halted_seen : {D W : Type 0} (story : D → Story) (written : W → List ℕ) (o : Opening) (mid new : RunView D W) (t seat : ℕ) (cut : Cut) → cut ≢ cuts.Bench → Notes seat (events.Broke t cut) mid new → MarksAt (story mid.store.disk) seat (events.Broke t cut) mid.tale new.tale → (IsSome mid.fault → new.fault ≡ mid.fault)
@@ -334,6 +339,7 @@ halted_seen story written o mid new t seat cut other n m stays runs some halts =
     (λ u same. (subst IsSome (sym (stays some)) some, same ∙ sym halts.1, inl (subst (HasBroken (mid.tale ++ logged_at (seen story written mid) seat (events.Broke t cut) ∷ [])) (sym same) (broken_last mid.tale (logged_at (seen story written mid) seat (events.Broke t cut)) t cut refl other))))
     (λ course same is. subst (λ (p : Plan). fate_at (fates_told (length p.tasks) mid.tale) t ≡ fate.Running seat) (sym same) runs)
     tt
+    (tells_none o mid.plan mid.options mid.tale (events.Broke t cut) refl)
 
 -- a job that failed leaves what a run keeps
 pub failed_seen : {D W : Type 0} (story : D → Story) (written : W → List ℕ) (o : Opening) (old new : RunView D W) (job : Job) (g : Given) (cause : Why) (seat : ℕ) → outcome_of g ≡ Err cause → closed_as job.task g ≡ events.Failed job.task cause
@@ -348,6 +354,7 @@ failed_seen story written o old new job g cause seat fails closed j is_given n m
     subst (λ (e : Event). MayCome course old.tale (record { event = e; seat = seat; moment = at.moment })) closed
     (end_may_come o (seen story written old) job g seat at.moment j is_given runs course same (course_of_front o old.options old.tale at course longer)))
     (inl (says o (seen story written old) job g j is_given ∙ ap said fails))
+    (tells_none o old.plan old.options old.tale (events.Failed job.task cause) refl)
 
 -- the tree that a job gave is its task's clean output
 pub output_of : {D W : Type 0} (story : D → Story) (written : W → List ℕ) (o : Opening) (old : RunView D W) (job : Job) (tree : Entries) (manifest : List ManifestLine) → IsSound old.plan → IsCleanJob o (seen story written old) job → IsGivenBy o.gives job (given.Tree tree manifest) → IsCleanOutput o.gives old.plan.tasks job.task tree

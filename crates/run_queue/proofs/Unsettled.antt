@@ -37,8 +37,9 @@ use Rattle.run_model.specs.Stands.{AllStand, HasEnded, HasOwnRow, IsSettledIn}
 use Rattle.run_queue.specs.Stands.{HasObjects}
 use Rattle.run_queue.specs.Turns.{Marks, MarksAt, Notes}
 use Rattle.run_model.specs.Report.{event_line, tale_text}
-use Rattle.run_queue.proofs.Touched.{aside_on, broken_on, halted_as, none_on, told_on}
+use Rattle.run_queue.proofs.Touched.{broken_on, halted_as, left_behind, told_on}
 use Rattle.run_queue.proofs.Growing.{book_grows, legal_grows}
+use Rattle.run_queue.proofs.There.{WasSo, there_grows}
 use Rattle.run_queue.proofs.Notes.{set_other, set_same}
 
 -- The event of an entry settles no task, and takes none that was settled: its task was not settled, and isn't now; and no line is recorded
@@ -153,8 +154,9 @@ pub unsettled_run : (o : Opening) (s : Seen) (but : ℕ → Type 0) (seat : ℕ)
     → (fault ≡ None → s.fault ≡ None)
     → ((course : Course) → course.plan ≡ s.plan → IsCourse o s.options (s.tale ++ logged_at s seat event ∷ []) course → MayCome course s.tale (logged_at s seat event))
     → IsReal o.gives s.plan.tasks event
+    → WasSo o s.plan s.options s.tale event
     → IsRun o (behind s seat event failed fault written)
-unsettled_run o s but seat event failed fault written settles run own faultless may real =
+unsettled_run o s but seat event failed fault written settles run own faultless may real there =
     let at : ℕ = min (moment s.story) (2 ^ 64 - 1) in
     let e : Logged = logged_at s seat event in
     let later : Seen = behind s seat event failed fault written in
@@ -172,6 +174,7 @@ unsettled_run o s but seat event failed fault written settles run own faultless 
       none_last = λ none. run.none_last (faultless none);
       valid = λ none. run.valid (faultless none);
       durable = λ none. run.durable (faultless none);
+      swept = λ none. run.swept (faultless none);
       objects = λ none image is u task at_task not_yet. subst (λ (b : Book). HasObjects b o.story.held image task) (sym books) (run.objects (faultless none) image is u task at_task (λ ended. not_yet (ended_on o s.plan s.tale e settles u ended)));
       later = run.later;
       marked = λ k x here. elim (front_at o s.plan s.tale e settles k x here) [
@@ -180,6 +183,7 @@ unsettled_run o s but seat event failed fault written settles run own faultless 
       ];
       reusable = subst (λ (b : Book). HasNoCollision b s.rows s.plan.tasks → MayReuse o.gives o.reading o.story.held b s.plan.tasks) (sym books) run.reusable;
       legal = legal_grows o s.plan s.options s.tale e run.legal may;
+      were_there = there_grows o s.plan s.options s.tale e run.were_there there;
       real = λ k x here. elim (front_at o s.plan s.tale e settles k x here) [
         | inl f ↦ run.real k x f
         | inr l ↦ subst (λ (y : Logged). IsReal o.gives s.plan.tasks y.event) (sym l.1) real
@@ -194,7 +198,7 @@ unsettled_run o s but seat event failed fault written settles run own faultless 
           (m.0, m.1, m.2);
       halted = run.halted;
       told = told_on s.begun s.tale e s.fault fault run.halted (MayBeHalted o s) (MayBeHalted o later) but faultless (halted_as o s later (broken_on s.tale e) (λ u was x here. was x here)) (λ u b. inr (own u b)) run.told;
-      images = λ t image le since. elim (run.images t image le since) [ inl before ↦ inl before | inr l ↦ inr (record { count = l.count; valid = l.valid; honest = l.honest; others = l.others; paths = λ q aside. l.paths q (aside_on s.plan s.begun s.tale e q aside); objects = λ line has none. l.objects line has (none_on o.gives s.plan o.book s.begun s.tale e line none); folders = l.folders }) ];
+      images = λ t image le since. elim (run.images t image le since) [ inl before ↦ inl before | inr left ↦ inr (left_behind o s.plan s.begun s.tale e (run.lines ++ run.last) image left) ];
       stands = λ image is. stands_on o s.plan s.tale e settles image (run.stands image is);
       settled = λ k x here lt image since. elim (front_at o s.plan s.tale e settles k x here) [
         | inl f ↦ subst (λ (l : List Logged). AllStand o s.plan l image) (sym (take_front k s.tale e (slice_get_within s.tale k x f))) (run.settled k x f lt image since)
@@ -219,8 +223,9 @@ pub noted_but : {D W : Type 0} (story : D → Story) (written : W → List ℕ) 
     → ((u : ℕ) → but u → IsSome new.fault × (u ≡ run.halted) × MayBeHalted o (behind (seen story written old) seat event new.sink_failed new.fault (written new.sink)) u)
     → ((course : Course) → course.plan ≡ old.plan → IsCourse o old.options (old.tale ++ logged_at (seen story written old) seat event ∷ []) course → MayCome course old.tale (logged_at (seen story written old) seat event))
     → IsReal o.gives old.plan.tasks event
+    → WasSo o old.plan old.options old.tale event
     → IsRun o (seen story written new)
-noted_but story written o old new but seat event n m stays settles run own may real =
+noted_but story written o old new but seat event n m stays settles run own may real there =
     let made : Seen = behind (seen story written old) seat event new.sink_failed new.fault (written new.sink) in
     let same : made ≡ seen story written new = λ i. record {
       plan = sym n.plan i;
@@ -235,12 +240,13 @@ noted_but story written o old new but seat event n m stays settles run own may r
       story = story (sym n.store i).disk;
       written = written new.sink;
     } in
-    subst (IsRun o) same (unsettled_run o (seen story written old) but seat event new.sink_failed new.fault (written new.sink) settles run own (was_none old.fault new.fault stays) may real)
+    subst (IsRun o) same (unsettled_run o (seen story written old) but seat event new.sink_failed new.fault (written new.sink) settles run own (was_none old.fault new.fault stays) may real there)
 
 -- where all that was begun is told of
 pub noted_run : {D W : Type 0} (story : D → Story) (written : W → List ℕ) (o : Opening) (old new : RunView D W) (seat : ℕ) (event : Event) → Notes seat event old new → MarksAt (story old.store.disk) seat event old.tale new.tale → (IsSome old.fault → new.fault ≡ old.fault)
     → SettlesNone o old.plan old.tale (logged_at (seen story written old) seat event) → IsRun o (seen story written old)
     → ((course : Course) → course.plan ≡ old.plan → IsCourse o old.options (old.tale ++ logged_at (seen story written old) seat event ∷ []) course → MayCome course old.tale (logged_at (seen story written old) seat event))
     → IsReal o.gives old.plan.tasks event
+    → WasSo o old.plan old.options old.tale event
     → IsRun o (seen story written new)
-noted_run story written o old new seat event n m stays settles run may real = noted_but story written o old new nobody seat event n m stays settles run (λ u never. absurd never) may real
+noted_run story written o old new seat event n m stays settles run may real there = noted_but story written o old new nobody seat event n m stays settles run (λ u never. absurd never) may real there

@@ -18,6 +18,7 @@ use Rattle.run_core.specs.History.{IsOrderly}
 use Rattle.tale_model.specs.Need.{IsIn, IsNeed}
 use Rattle.plan_model.specs.Sound.{IsSound}
 use Rattle.store_model.specs.declared.signature.EquivRow.{EquivRow}
+use Rattle.store_model.specs.Opened.{HasNoLitter}
 use Rattle.store_model.specs.Readable.{IsReadable}
 use Rattle.store_model.specs.Origins.{Book, Line, rows_of}
 use Rattle.store_model.specs.Lines.{HasLine}
@@ -46,7 +47,7 @@ use Rattle.run_model.specs.Books.{book_after, rows_after}
 use Rattle.run_model.specs.Courses.{IsLegalTale}
 use Rattle.run_queue.specs.Courses.{IsReal}
 use Rattle.run_queue.specs.Seen.{IsBegun, Known, RunView, Seen}
-use Rattle.run_model.specs.Stands.{AllStand, HasBroken, HasEnded, IsPlaced, IsSettledIn}
+use Rattle.run_model.specs.Stands.{AllStand, HasBroken, HasEnded, IsPlaced, IsSettledIn, WereThere}
 use Rattle.run_queue.specs.Stands.{KeepObjects, IsLeft, StandSince}
 
 -- ---- in every state
@@ -144,6 +145,8 @@ pub record IsRunBut (o : Opening) (s : Seen) (but : ℕ → Type 0) : Type 0 whe
   -- while no fault is kept, what is held, and what a crash leaves now, is valid with that book
   pub valid : s.fault ≡ None → IsValid o.gives o.reading s.story.held (o.book ++ lines)
   pub durable : s.fault ≡ None → EachNow s.story (λ image. IsValid o.gives o.reading image (o.book ++ lines))
+  -- and nothing is held under `tmp/`
+  pub swept : s.fault ≡ None → HasNoLitter s.story.held
   -- and the objects of tasks that haven't ended are as they were when the run began
   pub objects : s.fault ≡ None → EachNow s.story (KeepObjects o s.plan s.tale)
   -- the run began, and each event came, at a moment that is not to come
@@ -151,8 +154,10 @@ pub record IsRunBut (o : Opening) (s : Seen) (but : ℕ → Type 0) : Type 0 whe
   pub marked : (k : ℕ) (entry : Logged) → slice_get s.tale k ≡ Some entry → entry.moment ≤ moment s.story
   -- where no line of it has the name of a task and another signature, the plan may reuse the book as it is now
   pub reusable : HasNoCollision (book_after o.gives s.plan o.book s.tale) s.rows s.plan.tasks → MayReuse o.gives o.reading o.story.held (book_after o.gives s.plan o.book s.tale) s.plan.tasks
-  -- the tale is legal, and each failure in it is one that the clean build says
+  -- the tale is legal; what it finds, restores and starts was there so when the run began, or missing; and each failure in it is one that the clean
+  -- build says
   pub legal : IsLegalTale o s.plan s.options s.tale
+  pub were_there : WereThere o s.plan s.options s.tale
   pub real : (k : ℕ) (entry : Logged) → slice_get s.tale k ≡ Some entry → IsReal o.gives s.plan.tasks entry.event
   -- the name of each settled task has a row
   pub stored : (t : ℕ) (sg : Signed) → IsSettledIn s.plan s.tale t → slice_get (signatures s.rows s.plan.tasks) t ≡ Some sg → row_at s.rows (name_of sg.sig) ≢ None
@@ -166,7 +171,7 @@ pub record IsRunBut (o : Opening) (s : Seen) (but : ℕ → Type 0) : Type 0 whe
   pub told : (t : ℕ) → IsBegun s t → IsPlaced s.tale t ⊎ ((IsSome s.fault × (t ≡ halted) × MayBeHalted o s t) ⊎ but t)
   -- whatever a crash left was left before the run began, or it is valid, has no stamp that lies, and has the tasks that weren't begun as
   -- they were
-  pub images : (t : ℕ) (image : Store) → t ≤ moment o.story → IsImageSince s.story t image → IsImageSince o.story t image ⊎ IsLeft o s (lines ++ last) image
+  pub images : (t : ℕ) (image : Store) → t ≤ moment o.story → IsImageSince s.story t image → IsImageSince o.story t image ⊎ IsLeft o s.plan s.begun s.tale (lines ++ last) image
   -- settled tasks stand, now and since the moment of their events
   pub stands : EachNow s.story (AllStand o s.plan s.tale)
   pub settled : StandSince o s

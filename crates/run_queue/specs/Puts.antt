@@ -1,9 +1,8 @@
 -- What publishing the output of a task of the plan does, or restoring it.
-use Rattle.std.specs.Prelude.{◌≡◌, ℕ, Bool, List, MatchBool, Option, Some, None, Ok, length}
+use Rattle.std.specs.Prelude.{◌≡◌, ℕ, Bool, List, MatchBool, Some, None, Ok}
 use Rattle.std.specs.List.{slice_get}
 use Rattle.outside_traits.specs.Passes.{EachNow, Passes}
 use Rattle.outside_traits.specs.Story.{Story}
-use Rattle.meta_model.specs.declared.event.Avail.{Avail}
 use Rattle.meta_model.specs.declared.plan.PlanTask.{PlanTask}
 use Rattle.meta_model.specs.CleanBuild.{Built, Entries, Gives, clean_build}
 use Rattle.store_model.specs.declared.signature.EquivRow.{EquivRow}
@@ -35,13 +34,6 @@ HasPutObject tells old new rows s found = tells → MatchBool found (EachNow new
 -- the task of a number has this signature over these rows
 abbrev pub IsSignedAt : List EquivRow → List PlanTask → ℕ → Signed → Type 0
 IsSignedAt rows tasks t s = slice_get (signatures rows tasks) t ≡ Some s
-
--- the list with this task begun besides
-pub record IsBegunBesides (old new : List (Option Avail)) (t : ℕ) : Type 0 where
-  pub long : length new ≡ length old
-  pub there : Avail
-  pub here : slice_get new t ≡ Some (Some there)
-  pub others : (u : ℕ) → (u ≡ t → ⊥) → slice_get new u ≡ slice_get old u
 
 -- The tree is the task's clean output, and that is what the clean build says.
 pub record IsCleanOutput (gives : Gives) (tasks : List PlanTask) (t : ℕ) (tree : Entries) : Type 0 where

@@ -71,6 +71,9 @@ seen story written s = record {
   written = written s.sink;
 }
 
--- the task's publishing or restoring was begun
+-- the task's publishing or restoring was begun, as such a list tells
+abbrev pub IsBegunIn : List (Option Avail) → ℕ → Type 0
+IsBegunIn begun t = (a : Avail) × (slice_get begun t ≡ Some (Some a))
+
 abbrev pub IsBegun : Seen → ℕ → Type 0
-IsBegun s t = (a : Avail) × (slice_get s.begun t ≡ Some (Some a))
+IsBegun s t = IsBegunIn s.begun t

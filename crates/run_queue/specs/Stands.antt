@@ -1,9 +1,10 @@
 -- What stands of a run, and what a crash leaves of it.
-use Rattle.std.specs.Prelude.{◌≡◌, ◌<◌, ◌-◌, ◌^◌, ◌+◌, ℕ, List, ◌++◌, take, Some}
+use Rattle.std.specs.Prelude.{◌≡◌, ◌<◌, ◌-◌, ◌^◌, ◌+◌, ℕ, List, ◌++◌, codes, take, Option, Some, None}
 use Rattle.std.specs.List.{slice_get}
-use Rattle.tree_model.specs.Path.{IsAtOrBelow}
+use Rattle.tree_model.specs.Path.{IsAtOrBelow, inside}
 use Rattle.outside_traits.specs.Store.{Store}
 use Rattle.outside_traits.specs.Story.{IsImageSince}
+use Rattle.meta_model.specs.declared.event.Avail.{Avail}
 use Rattle.meta_model.specs.declared.event.Logged.{Logged}
 use Rattle.meta_model.specs.declared.plan.Plan.{Plan}
 use Rattle.meta_model.specs.declared.plan.PlanTask.{PlanTask}
@@ -11,11 +12,12 @@ use Rattle.store_model.specs.Available.{object_folder, stamp_path, work_folder}
 use Rattle.store_model.specs.Origins.{Book, Line}
 use Rattle.store_model.specs.Valid.{IsValid}
 use Rattle.store_model.specs.Lines.{HasLine}
-use Rattle.run_model.specs.Opening.{HasFolders, Opening}
+use Rattle.store_model.specs.Paths.{slashes}
+use Rattle.run_model.specs.Opening.{Opening}
 use Rattle.run_model.specs.Books.{book_after}
 use Rattle.run_model.specs.Own.{IsAside, IsObjectOfNone}
 use Rattle.run_model.specs.Stands.{IsHonest, HasStarted, HasEnded, AllStand}
-use Rattle.run_queue.specs.Seen.{IsBegun, Seen}
+use Rattle.run_queue.specs.Seen.{IsBegunIn, Seen}
 
 -- a task's stamp, all that is at or under its work folder, and the objects of the lines that were recorded of it, are as when the run
 -- began
@@ -24,21 +26,27 @@ pub record IsAsBegun (book : Book) (held image : Store) (of : PlanTask) : Type 0
   pub work : (q : List ℕ) → IsAtOrBelow (work_folder of) q → image q ≡ held q
   pub objects : (line : Line) → HasLine book line → line.sig.pn ≡ of.id.pn → line.sig.task ≡ of.id.task → (q : List ℕ) → IsAtOrBelow (object_folder line.unihash) q → image q ≡ held q
 
--- the task's publishing was begun
-abbrev pub IsPublishing : Seen → ℕ → Type 0
-IsPublishing s t = IsBegun s t × HasStarted s.tale t
+-- the task's publishing was begun: it is begun, and the tale starts it
+abbrev pub IsPublishing : List (Option Avail) → List Logged → ℕ → Type 0
+IsPublishing begun tale t = IsBegunIn begun t × HasStarted tale t
 
--- What holds of each store that a crash left since the run began: it is valid with the book and the first of the lines that were
--- recorded; no stamp of a task of the plan lies; of a task that wasn't begun nothing changed, nor at a path that is no own one of tasks that
--- were begun, nor in the object of a line that none put; and folders stand where they did.
-pub record IsLeft (o : Opening) (s : Seen) (lines : Book) (image : Store) : Type 0 where
+-- Nothing stands in the way of folders where nothing did: where nothing was held at `work`, right below it, or at `obj`, nothing is.
+pub record KeepsFolders (held image : Store) : Type 0 where
+  pub work : held (codes "work") ≡ None → image (codes "work") ≡ None
+  pub objects : held (codes "obj") ≡ None → image (codes "obj") ≡ None
+  pub parts : (part : List ℕ) → slashes part ≡ 0 → held (inside (codes "work") part) ≡ None → image (inside (codes "work") part) ≡ None
+
+-- What holds of each store that a crash left since the run began, by what was begun, and by the tale: it is valid with the book and the first
+-- of the lines that were recorded; no stamp of a task of the plan lies; of a task that wasn't begun nothing changed, nor at a path that is no
+-- own one of tasks that were begun, nor in the object of a line that none put; and nothing stands in the way of folders where nothing did.
+pub record IsLeft (o : Opening) (plan : Plan) (begun : List (Option Avail)) (tale : List Logged) (lines : Book) (image : Store) : Type 0 where
   pub count : ℕ
   pub valid : IsValid o.gives o.reading image (o.book ++ take count lines)
-  pub honest : (t : ℕ) (task : PlanTask) → slice_get s.plan.tasks t ≡ Some task → IsHonest o.story.held image task
-  pub others : (t : ℕ) (task : PlanTask) → slice_get s.plan.tasks t ≡ Some task → (IsBegun s t → ⊥) → IsAsBegun o.book o.story.held image task
-  pub paths : (q : List ℕ) → IsAside s.plan (IsBegun s) (IsPublishing s) q → image q ≡ o.story.held q
-  pub objects : (line : Line) → HasLine o.book line → IsObjectOfNone o.gives s.plan o.book s.tale (IsPublishing s) line → (q : List ℕ) → IsAtOrBelow (object_folder line.unihash) q → image q ≡ o.story.held q
-  pub folders : HasFolders image
+  pub honest : (t : ℕ) (task : PlanTask) → slice_get plan.tasks t ≡ Some task → IsHonest o.story.held image task
+  pub others : (t : ℕ) (task : PlanTask) → slice_get plan.tasks t ≡ Some task → (IsBegunIn begun t → ⊥) → IsAsBegun o.book o.story.held image task
+  pub paths : (q : List ℕ) → IsAside o.story.held plan (IsBegunIn begun) (IsPublishing begun tale) q → image q ≡ o.story.held q
+  pub objects : (line : Line) → HasLine o.book line → IsObjectOfNone o.gives plan o.book tale (IsPublishing begun tale) line → (q : List ℕ) → IsAtOrBelow (object_folder line.unihash) q → image q ≡ o.story.held q
+  pub folders : KeepsFolders o.story.held image
 
 -- the objects of the lines of a book that are of the task are as when the run began
 abbrev pub HasObjects : Book → Store → Store → PlanTask → Type 0

@@ -1,9 +1,10 @@
 -- What one turn does to a run's tale.
-use Rattle.std.specs.Prelude.{◌≡◌, ◌⊎◌, ◌-◌, ◌^◌, min, ℕ, false, List, [], ◌∷◌, ◌++◌, length, set, Option, Some, None, IsSome, Result, Ok, Err, map}
+use Rattle.std.specs.Prelude.{◌≡◌, ◌⊎◌, ◌+◌, ◌*◌, ◌-◌, ◌^◌, min, ℕ, false, List, [], ◌∷◌, ◌++◌, length, set, Option, Some, None, IfSome, IsSome, Result, Ok, Err, map}
 use Rattle.std.specs.List.{slice_get}
 use Rattle.tree_model.specs.declared.text.Mem.{Mem}
 use Rattle.outside_traits.specs.Story.{Story, moment}
-use Rattle.meta_model.specs.declared.event.Avail.TheVariants.{Missing}
+use Rattle.meta_model.specs.declared.event.Avail.{Avail}
+use Rattle.meta_model.specs.declared.event.Avail.TheVariants.{Missing, Object}
 use Rattle.meta_model.specs.declared.event.Cut.TheVariants as cut
 use Rattle.meta_model.specs.declared.event.Event.{Event}
 use Rattle.meta_model.specs.declared.event.Event.TheVariants as events
@@ -15,6 +16,7 @@ use Rattle.tale_model.specs.declared.fate.Fate.TheVariants.{Running}
 use Rattle.tale_model.specs.Choice.{IsFinished}
 use Rattle.tale_model.specs.Fates.{HoldsFailure, fate_at, fates_told}
 use Rattle.tale_model.specs.History.{Course}
+use Rattle.tale_model.specs.Need.{IsIn}
 use Rattle.run_model.specs.Layouts.{layout_over}
 use Rattle.run_model.specs.CleanOutputs.{AreClean}
 use Rattle.run_model.specs.Courses.{IsCourse}
@@ -69,6 +71,39 @@ Claims seat old new (Ok claim.Wait) = (new.tale ≡ old.tale) × SomeRuns (fates
 Claims seat old new (Ok claim.Finished) = (new.tale ≡ old.tale) × IsAtEnd old.plan old.options old.tale
 Claims seat old new (Ok claim.Stopped) = (new.tale ≡ old.tale) × ((HoldsFailure (fates_of old) × (old.options.keep_going ≡ false)) ⊎ IsSome new.fault)
 Claims seat old new (Err e) = new.tale ≡ old.tale
+
+-- What is known says that there is an object of a task; none turned out to be there, which is kept, and nothing is known any more.
+pub record GivesUp {D W : Type 0} (old new : RunView D W) : Type 0 where
+  pub task : ℕ
+  pub known : Known
+  pub is_known : old.known ≡ Some known
+  pub needed : IsIn known.need task
+  pub object : slice_get known.avail task ≡ Some Object
+  pub begun : new.begun ≡ set old.begun task (Some Missing)
+  pub unknown : new.known ≡ None
+
+-- 0 for a task of which it is kept that its output is missing
+abbrev pub try_once : Option Avail → ℕ
+try_once (Some Missing) = 0
+try_once _ = 1
+
+-- of how many tasks it isn't
+abbrev pub tries_of : List (Option Avail) → ℕ
+tries_of [] = 0
+tries_of (b ∷ begun) = try_once b + tries_of begun
+
+-- 1 where something is known
+abbrev pub known_once : Option Known → ℕ
+known_once None = 0
+known_once (Some k) = 1
+
+-- How often a claim may still find that there is no object, at most.
+abbrev pub tries_left : {D W : Type 0} → RunView D W → ℕ
+tries_left s = 2 * tries_of s.begun + known_once s.known
+
+-- What is known says that each needed task is missing of which that is kept.
+abbrev pub Remembers : {D W : Type 0} → RunView D W → Type 0
+Remembers s = IfSome s.known (λ k. (t : ℕ) → IsIn k.need t → slice_get s.begun t ≡ Some (Some Missing) → slice_get k.avail t ≡ Some Missing)
 
 -- The layout of a job is the clean build's: over the clean outputs of the tasks that the task needs, and within the limits.
 pub record IsCleanJob (o : Opening) (s : Seen) (job : Job) : Type 0 where
@@ -177,7 +212,7 @@ pub record MayDo {D W : Type 0} (s : RunView D W) (answer : Next) : Type 0 where
 -- plan's tasks any more; or a fault is kept. So is want of memory, since the task's folder may have been touched.
 abbrev pub RestoresTo : {D W : Type 0} → ℕ → ℕ → RunView D W → RunView D W → Restoring → Type 0
 RestoresTo seat t old new restoring.Done = Marks seat (events.Restored t) old.tale new.tale
-RestoresTo seat t old new restoring.Gone = IsAnew old new × (new.known ≡ None) × (new.begun ≡ set old.begun t (Some Missing))
+RestoresTo seat t old new restoring.Gone = IsAnew old new × GivesUp old new
 RestoresTo seat t old new restoring.Fault = (new.tale ≡ old.tale) × IsSome new.fault
 
 -- nothing but what is known of the plan's tasks, the disk, and the fault may have changed

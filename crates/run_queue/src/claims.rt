@@ -1,5 +1,5 @@
 // What a seat is to do next.
-ghost use Rattle.std.specs.Prelude.{◌≡◌, ◌<◌, ◌≤◌, IfSome, IsSome, MatchBool, None, Ok, Some};
+ghost use Rattle.std.specs.Prelude.{◌≡◌, ◌<◌, ◌≤◌, IfOk, IfSome, IsSome, MatchBool, None, Ok, Some};
 ghost use Rattle.std.specs.List.{slice_get};
 ghost use Rattle.meta_model.specs.declared.event.Avail.TheVariants as avails;
 ghost use Rattle.tale_model.specs.Fates.{IsFree};
@@ -7,7 +7,7 @@ ghost use Rattle.run_core.specs.declared.next.Next.TheVariants as next;
 ghost use Rattle.run_model.specs.Opening.{Opening};
 ghost use Rattle.run_queue.specs.Keeps.{IsRun, IsSteady, KeepsCount, KeepsFront, PrintsOn};
 ghost use Rattle.run_queue.specs.Seen.{seen};
-ghost use Rattle.run_queue.specs.Turns.{Claims, ClaimsClean, MayDo, RestsAfterFault, SameRun, TurnsClean, TurnsTo, fates_of};
+ghost use Rattle.run_queue.specs.Turns.{Claims, ClaimsClean, GivesUp, MayDo, RestsAfterFault, SameRun, TurnsClean, TurnsTo, fates_of, tries_left};
 
 use crate::restoring::Restoring;
 use crate::state::{Claim, RunState};
@@ -69,6 +69,7 @@ impl<D: Disk, W: Sink> RunState<D, W> {
             → IsRun o (seen D.story W.written self.new) }
         ensures clean { D.tells → (o : Opening) → IsRun o (seen D.story W.written self.old)
             → TurnsClean o (seen D.story W.written self.old) result }
+        ensures gives_up { IfOk result (λ done. done ≡ None → GivesUp self.old self.new) }
     {
         if self.is_in_work(task) {
             self.find(number, task)?;
@@ -99,6 +100,7 @@ impl<D: Disk, W: Sink> RunState<D, W> {
             → IsRun o (seen D.story W.written self.new) }
         ensures clean { D.tells → (o : Opening) → IsRun o (seen D.story W.written self.old)
             → TurnsClean o (seen D.story W.written self.old) result }
+        ensures gives_up { IfOk result (λ done. done ≡ None → GivesUp self.old self.new) }
     {
         self.kept();
         match self.next() {
@@ -127,8 +129,10 @@ impl<D: Disk, W: Sink> RunState<D, W> {
             → IsRun o (seen D.story W.written self.new) }
         ensures clean { D.tells → (o : Opening) → IsRun o (seen D.story W.written self.old)
             → TurnsClean o (seen D.story W.written self.old) result }
+        ensures falls { IfOk result (λ done. done ≡ None → tries_left self.new < tries_left self.old) }
     {
         if self.look(alloc)? {
+            self.kept();
             return self.act(alloc, number);
         }
         Ok(Some(Claim::Stopped))
@@ -161,13 +165,11 @@ impl<D: Disk, W: Sink> RunState<D, W> {
         if self.has_fault() {
             return Ok(Claim::Stopped);
         }
-        // Each try that answers nothing keeps of one more task that it has no object, and a plan has at most 65,536 tasks. That the end
-        // isn't reached isn't proved.
-        for _ in 0..65537 {
+        // Each try that answers nothing keeps of one more task that it has no object, but for the first one, of which that may have been kept.
+        loop {
             if let Some(claim) = self.turn(alloc, number)? {
                 return Ok(claim);
             }
         }
-        Err(Mem)
     }
 }

@@ -10,6 +10,7 @@ ghost use Rattle.store_model.specs.Signatures.{Signed};
 ghost use Rattle.sig_gen.specs.Signing.{signature_by};
 ghost use Rattle.setscene_plan.specs.Replans.{IsCurrent, IsSettled, unihashes_in};
 ghost use Rattle.build_store.specs.Publication.{AreShort, IsAgreed, line_for, publication};
+ghost use Rattle.store_model.specs.Opened.{HasNoLitter};
 ghost use Rattle.store_model.specs.Readable.{IsReadable};
 ghost use Rattle.build_store.specs.View.{SameBooks};
 ghost use Rattle.task_worker.specs.Jobs.{IsGiven};
@@ -75,6 +76,8 @@ fn publish_in<D: Disk>(
     requires unharmed { D.faults store.old.disk ≡ 0 }
     ensures put { OnOk result ((s : Signed) → IsSignedAt store.old.rows plan.now.tasks task s
         → HasPut D.tells (D.story store.new.disk) store.old.rows store.new.rows s tree.now) }
+    ensures swept { D.tells → OnOk result (HasNoLitter (D.story store.old.disk).held
+        → HasNoLitter (D.story store.new.disk).held) }
     ensures known { OnOk result (IsSome replan.now) }
     ensures refused_rows { OnErr result (store.new.rows ≡ store.old.rows) }
     ensures unlooked { replan.now ≡ None → store.new ≡ store.old }

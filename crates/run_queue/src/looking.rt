@@ -1,9 +1,9 @@
 // What is known of the plan's tasks.
-ghost use Rattle.std.specs.Prelude.{◌≡◌, IfOk, IsSome, MatchBool, None, OnErr};
+ghost use Rattle.std.specs.Prelude.{◌≡◌, IfOk, IsSome, MatchBool, None, OnErr, OnOk};
 ghost use Rattle.run_model.specs.Opening.{Opening};
 ghost use Rattle.run_queue.specs.Seen.{seen};
 ghost use Rattle.run_queue.specs.Keeps.{IsRun, IsSteady};
-ghost use Rattle.run_queue.specs.Turns.{Looks};
+ghost use Rattle.run_queue.specs.Turns.{Looks, Remembers};
 
 use crate::fault::keep;
 use crate::probe::known_of;
@@ -24,6 +24,7 @@ impl<D: Disk, W: Sink> RunState<D, W> {
         ensures wanting { OnErr result (self.new.fault ≡ None) }
         ensures stays { IsSome self.old.known → self.new ≡ self.old }
         ensures steady { IsSteady self.old.fault → IsSteady self.new.fault }
+        ensures remembers { OnOk result (self.old.known ≡ None → Remembers self.new) }
 
         // Where the disk tells.
         ensures run { D.tells → (o : Opening) → IsRun o (seen D.story W.written self.old)

@@ -3,6 +3,7 @@ ghost use Rattle.std.specs.Prelude.{◌≡◌, ◌<◌, ◌≤◌, IfErr, IfOk, 
 ghost use Rattle.std.specs.List.{slice_get};
 ghost use Rattle.meta_model.specs.declared.event.Avail.TheVariants as avails;
 ghost use Rattle.plan_model.specs.Sound.{IsSound};
+ghost use Rattle.store_model.specs.Opened.{HasNoLitter};
 ghost use Rattle.store_model.specs.Signatures.{Signed};
 ghost use Rattle.setscene_plan.specs.Replans.{IsCurrent};
 ghost use Rattle.build_store.specs.View.{SameBooks};
@@ -51,6 +52,8 @@ fn restore_in<D: Disk>(
     requires unharmed { D.faults store.old.disk ≡ 0 }
     ensures restored { IfOk result (λ found. (s : Signed) → IsSignedAt store.old.rows plan.now.tasks task s
         → HasPutObject D.tells (D.story store.old.disk) (D.story store.new.disk) store.old.rows s found) }
+    ensures swept { D.tells → OnOk result (HasNoLitter (D.story store.old.disk).held
+        → HasNoLitter (D.story store.new.disk).held) }
     ensures cause { IfErr result (IsStoreCause (D.faults store.new.disk) plan.now store.new.rows) }
     ensures steady { IfErr result IsSteadyAnswer }
     ensures unharmed { OnOk result (D.faults store.new.disk ≡ 0) }

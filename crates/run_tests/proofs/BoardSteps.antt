@@ -3,26 +3,21 @@ use Rattle.std.proofs.Common.{◌≡◌, ◌≢◌, ◌∙◌, sym, ap, subst, r
 use Rattle.std.proofs.Math.ListN.{length-set}
 use Rattle.std.proofs.lemmas.Bool.{cases_eq}
 use Rattle.std.proofs.lemmas.List.{length-replicate}
-use Rattle.std.proofs.lemmas.Option.{slice_get_within}
 use Rattle.meta_model.specs.declared.event.Avail.{Avail}
 use Rattle.meta_model.specs.declared.event.Event.TheVariants as events
 use Rattle.meta_model.specs.declared.event.Why.{Why}
-use Rattle.meta_model.specs.declared.plan.Options.{Options}
 use Rattle.tale_model.specs.declared.fate.Fate.{Fate}
 use Rattle.tale_model.specs.declared.fate.Fate.TheVariants.{Waiting, Running, Failed}
 use Rattle.run_core.specs.declared.next.Next.TheVariants as next
 use Rattle.run_core.specs.declared.front.Front.{Front}
 use Rattle.run_core.specs.Candidates.{ChangesOnly, Covers}
-use Rattle.run_core.specs.Choice.{MayAnswer}
 use Rattle.run_core.specs.Fates.{CanMark}
 use Rattle.tale_model.specs.Fates.{fate_at, is_running, is_settled, NoneRuns}
-use Rattle.tale_model.specs.Need.{IsIn}
 use Rattle.run_core.proofs.Marking.{fate_kept, fate_set}
 use Rattle.setscene_plan.specs.declared.replan.Replan.{Replan}
 use Rattle.setscene_plan.specs.Replans.{IsCurrent, avail_in, need_in, told_in}
 use Rattle.setscene_plan.specs.View.{View}
 use Rattle.run_tests.specs.Index.{no_objects}
-use Rattle.run_tests.specs.declared.playing.Play.{Play}
 use Rattle.run_tests.specs.Playing.{CanBegin, IsSound, Stands, TellsChanges}
 
 -- ---- boards
@@ -97,12 +92,3 @@ stood view replan front fates board sound current long covers rests is = record 
   covers = subst (λ (fs : List Fate). Covers view.plan.tasks (need_in replan) (avail_in replan) fs front) (sym is) covers;
   rests = subst NoneRuns (sym is) rests;
 }
-
-within_need : (view : View) (play : Play) (t : ℕ) → Stands view play → IsIn (need_in play.replan) t → t < length play.board
-within_need view play t stands needed = omega (arith, slice_get_within (need_in play.replan) t true needed, stands.current.needs.least.long, stands.long)
-
-pub may_settle : (view : View) (play : Play) (options : Options) (t : ℕ) → Stands view play → MayAnswer options view.plan.tasks (need_in play.replan) (avail_in play.replan) play.board (next.Settle t) → CanBegin play.board t
-may_settle view play options t stands may = record { within = within_need view play t stands may.0.needed; waits = may.0.waits }
-
-pub may_begin : (view : View) (play : Play) (options : Options) (t : ℕ) → Stands view play → MayAnswer options view.plan.tasks (need_in play.replan) (avail_in play.replan) play.board (next.Start t) → CanBegin play.board t
-may_begin view play options t stands may = record { within = within_need view play t stands may.0.needed; waits = may.0.waits }

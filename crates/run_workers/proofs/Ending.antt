@@ -1,9 +1,8 @@
 -- Why workers came to an end, told of longer tales and of more benches.
 use Rattle.std.proofs.Common.{◌≡◌, ◌∙◌, sym, ap, subst, refl, arith, ℕ, zero, suc, Bool, true, false, List, [], ◌∷◌, ◌++◌, length, append_assoc, append-nil, Some, None, Ok, Err, inl, inr}
-use Rattle.std.specs.Prelude.{◌⊎◌, IsSome, MatchBool, Option, Result, ◌||◌}
-use Rattle.std.specs.List.{slice_get}
+use Rattle.std.specs.Prelude.{IsSome, MatchBool, Option, Result, ◌||◌}
 use Rattle.std.proofs.lemmas.Bool.{false≢true}
-use Rattle.outside_traits.specs.Fault.{Counts, Rose}
+use Rattle.outside_traits.specs.Fault.{Rose}
 use Rattle.outside_traits.specs.Story.{Story}
 use Rattle.tree_model.specs.declared.text.Mem.{Mem}
 use Rattle.meta_model.specs.CleanBuild.{Gives}

@@ -21,8 +21,7 @@ use Rattle.run_model.specs.Opening.{Opening}
 use Rattle.run_queue.specs.Seen.{RunView, Seen}
 use Rattle.run_queue.specs.Turns.{Claims, ClaimsClean, Ends, IsCleanJob, Marks, closed_as}
 use Rattle.run_workers.specs.declared.shared.Told.{Told}
-use Rattle.run_model.specs.Runs.{IsScriptOf}
-use Rattle.run_workers.specs.Seats.{AddsBy, EndAdds, ended_as, IsCleanClaim, IsScripted}
+use Rattle.run_workers.specs.Seats.{AddsBy, EndAdds, ended_as, IsCleanClaim}
 use Rattle.run_workers.specs.Told.{tell}
 
 pub clean_job : (o : Opening) (a b : Seen) (job : Job) → b.plan ≡ a.plan → IsCleanJob o a job → IsCleanJob o b job
@@ -44,13 +43,6 @@ hands o a b (claim.Settled t) same h = tt
 hands o a b claim.Wait same h = tt
 hands o a b claim.Finished same h = tt
 hands o a b claim.Stopped same h = tt
-
-pub scripted : {D W : Type 0} (n : ℕ) (old new : RunView D W) (plan : Plan) (c : Claim) → old.plan ≡ plan → Claims n old new (Ok c) → IsScripted plan c
-scripted n old new plan (claim.Run job) same h = subst (λ (p : Plan). IsScriptOf p job.task job.script) same (record { task = h.task; is_task = h.is_task; is = h.script })
-scripted n old new plan (claim.Settled t) same h = tt
-scripted n old new plan claim.Wait same h = tt
-scripted n old new plan claim.Finished same h = tt
-scripted n old new plan claim.Stopped same h = tt
 
 -- what a turn marked: one entry or none
 pub record Marked (n : ℕ) (old new : List Logged) : Type 0 where

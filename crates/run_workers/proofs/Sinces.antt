@@ -43,16 +43,6 @@ module _ {D W : Type 0} (dt wt alike : Type 0) (story : D → Story) (written : 
       let p = subst (λ (x : Seen). Prints base x.written (tale_text x.plan.tasks x.tale) x.sink_failed) (sym is) h in
       subst (λ b. IsFront b (written now.sink)) (sym (append-nil base)) (front_base now.sink_failed base (written now.sink) (tale_text now.plan.tasks now.tale) p)
 
-  pub kept_first : (now : RunView D W) (whole : Bool) → seen story written now ≡ first → faults now.sink ≡ count → now.tale ≡ [] → (whole ≡ true → now.fault ≡ None) → (whole ≡ false → IsSome now.fault)
-      → Kept dt wt alike story written faults first count gives (record { state = now; printed = 0; whole = whole })
-  kept_first now whole is same none faultless faulty = record {
-    since = since_first now is same;
-    within = omega arith;
-    whole = λ w. (faultless w, sym (ap length none));
-    faulty = faulty;
-    lines = lines_first now is;
-  }
-
   -- a turn that keeps what held as the run began
   pub since_turn : (b c : RunView D W) → Since dt wt alike story written faults first count gives b → SameRun b c
       → (dt → alike → (o : Opening) → o.gives ≡ gives → IsRun o first → IsRun o (seen story written b) → IsRun o (seen story written c))

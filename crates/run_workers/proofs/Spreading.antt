@@ -9,7 +9,7 @@ use Rattle.run_queue.specs.Seen.{Seen}
 use Rattle.turn_lock.specs.declared.rule.Record.{Record}
 use Rattle.turn_lock.specs.declared.rule.View.{View}
 use Rattle.turn_lock.specs.Totals.{once}
-use Rattle.turn_lock.specs.Views.{joined, numbered, records_of, split_from, split_off, times_held}
+use Rattle.turn_lock.specs.Views.{joined, numbered, records_of, split_off, times_held}
 use Rattle.run_workers.specs.declared.shared.Told.{Told}
 use Rattle.run_workers.specs.Seats.{HoldsNone, IsSameSeat, NoneHold}
 use Rattle.run_workers.specs.Worked.{AllWorked, HasBegun, IsJoined, IsWorked}
@@ -123,15 +123,6 @@ pub one_more : (n : ℕ) → n + 1 ≡ 1 + n
 one_more n = omega arith
 
 module _ {N : Type 0} where
-  -- a seat that splits one off
-  pub begun_split : (m : ℕ) (v w : View N Told) → HasBegun (suc m) v → w ≡ split_from v → HasBegun m w
-  begun_split m v w b is = let spares = b.spares in record {
-    number = ap (λ (x : View N Told). x.number) is ∙ b.number;
-    spares = ap (λ (x : View N Told). x.spare) is ∙ omega (arith, spares);
-    mine = ap (λ (x : View N Told). x.own) is ∙ b.mine;
-    others = ap (λ (x : View N Told). x.others) is ∙ b.others;
-  }
-
   -- the seat that takes another one in, once that was split off and did its work
   pub record TakenIn (m : ℕ) (v w x u : View N Told) : Type 0 where
     pub number : w.number ≡ m

@@ -143,9 +143,6 @@ breaks_one halts failed mine e none breaks = at (is_break e.event) refl
     at true is = record { front = mine; back = e ∷ []; cut = refl; before = none; last = inr (e, refl, (breaks is).0, (breaks is).1) }
     at false is = breaks_none halts failed (mine ++ e ∷ []) (none_broke_then mine (e ∷ []) none (is, tt))
 
-start_breaks_none : (t seat : ℕ) → is_break (events.Started t seat) ≡ false
-start_breaks_none t seat = refl
-
 -- ---- what a claim adds where it hands out no job
 
 abbrev pub Quiet : ℕ → List Told → Type 0

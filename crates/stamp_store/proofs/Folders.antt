@@ -1,5 +1,5 @@
 -- Where stamps stand, and where they are written and put aside, are clean paths.
-use Rattle.std.proofs.Common.{◌<◌, ℕ, List, ◌∷◌, arith, refl, lit<, lit≤, length-append}
+use Rattle.std.proofs.Common.{ℕ, List, ◌∷◌, arith, refl, lit<, lit≤, length-append}
 use Rattle.std.specs.Prelude.{codes}
 use Rattle.std.proofs.lemmas.List.Elements.{All-cons}
 use Rattle.tree_model.specs.Path.{IsClean, IsPart, parts_of}

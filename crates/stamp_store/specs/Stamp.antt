@@ -1,10 +1,11 @@
 -- Where the stamp of a task's folder stands, and what it says. (Own rules.)
-use Rattle.std.specs.Prelude.{◌≡◌, ◌≤◌, ℕ, Bool, false, List, [], ◌∷◌, ◌++◌, length, codes, Option, None, Some}
+use Rattle.std.specs.Prelude.{◌≡◌, ◌≢◌, ◌⊎◌, ◌≤◌, ℕ, Bool, false, List, [], ◌∷◌, ◌++◌, length, codes, Option, None, Some}
 use Rattle.tree_model.specs.declared.entry.Entry.{Entry}
 use Rattle.tree_model.specs.declared.entry.Entry.TheVariants.{File}
 use Rattle.tree_model.specs.declared.hash.Hash.{Hash}
 use Rattle.tree_model.specs.Hash.{IsHash, hash_text}
 use Rattle.tree_model.specs.Path.{IsClean}
+use Rattle.outside_traits.specs.Store.{Store}
 
 -- The folder of a task: a clean path of at most 511 bytes. (Each of two parts has at most 255.)
 pub record IsFolder (folder : List ℕ) : Type 0 where
@@ -22,6 +23,11 @@ staged_path folder = codes "tmp/stamp/" ++ folder
 -- where it goes as it is taken away
 abbrev pub old_path : List ℕ → List ℕ
 old_path folder = codes "tmp/old/" ++ folder
+
+-- A stamp goes: its path holds what it held or nothing, and what it is renamed to may hold anything. All else stays.
+pub record TakesAway (folder : List ℕ) (old new : Store) : Type 0 where
+  pub others : (q : List ℕ) → q ≢ stamp_path folder → q ≢ old_path folder → new q ≡ old q
+  pub source : (new (stamp_path folder) ≡ old (stamp_path folder)) ⊎ (new (stamp_path folder) ≡ None)
 
 -- what stands in the stamp that names a record: the digits of the hash, and a newline
 abbrev pub stamp_bytes : Hash → List ℕ

@@ -6,7 +6,7 @@ ghost use Rattle.outside_traits.specs.Answers.{IsSettled};
 ghost use Rattle.outside_traits.specs.Fault.{Counts, disk_failed};
 ghost use Rattle.outside_traits.specs.Passes.{EachNow, Passes, Same};
 ghost use Rattle.outside_traits.specs.Store.{ChangesAt, IsFree, Moves, put};
-ghost use Rattle.stamp_store.specs.Stamp.{IsCurrent, IsFolder, old_path, stamp_bytes, stamp_of, stamp_path, staged_path};
+ghost use Rattle.stamp_store.specs.Stamp.{IsCurrent, IsFolder, TakesAway, old_path, stamp_bytes, stamp_of, stamp_path, staged_path};
 
 use outside_traits::{Disk, DiskFault};
 use std::alloc::Global;
@@ -15,28 +15,32 @@ use tree_model::{Bytes, Entry, Hash, Mem, Text};
 
 /// Takes the stamp of a folder away, where one is held. After Ok no image has a stamp there.
 ///
-/// It syncs, renames the stamp to `tmp/old/` and the folder, and syncs. Whatever it answers, in each image since its
-/// entry the stamp's path holds what it held in an image at the entry, or nothing. (Own rule.)
+/// It syncs, renames the stamp to `tmp/old/` and the folder, syncs, and removes it there, which no sync follows. Whatever
+/// it answers, in each image since its entry the stamp's path holds what it held in an image at the entry, or nothing.
+/// (Own rule.)
 pub fn invalidate<D: Disk>(alloc: Global, disk: &mut D, folder: &str) -> Result<(), DiskFault>
     requires reach { 3600 ≤ D.reach }
     requires folder { IsFolder folder.now }
     requires free { D.tells → IsFree (D.story disk.old).held (old_path folder.now) }
     ensures gone { D.tells → OnOk result (EachNow (D.story disk.new) (λ image. image (stamp_path folder.now) ≡ None)) }
-    ensures synced { D.tells → OnOk result (EachNow (D.story disk.new) (λ image. image ≡ (D.story disk.new).held)) }
+    ensures synced { D.tells → OnOk result (EachNow (D.story disk.new)
+        (ChangesAt (old_path folder.now) (D.story disk.new).held)) }
+    ensures swept { D.tells → OnOk result ((D.story disk.old).held (old_path folder.now) ≡ None
+        → (D.story disk.new).held (old_path folder.now) ≡ None) }
 
     // Whatever it answers.
-    ensures images { D.tells → Passes (D.story disk.old) (D.story disk.new)
-        (Moves (stamp_path folder.now) (old_path folder.now) ((D.story disk.old).held (stamp_path folder.now))) }
+    ensures images { D.tells → Passes (D.story disk.old) (D.story disk.new) (TakesAway folder.now) }
     ensures cause { Counts (D.faults disk.old) (D.faults disk.new) (disk_failed result) }
 {
-    let path = joined(alloc, "stamp/", folder)?;
-    let aside = joined(alloc, "tmp/old/", folder)?;
-    let held = disk.read(alloc, path.as_str())?.is_some();
-    if held {
-        disk.sync()?;
-        disk.rename(path.as_str(), aside.as_str())?;
+    let path = join_texts(alloc, "stamp/", folder)?;
+    let aside = join_texts(alloc, "tmp/old/", folder)?;
+    if disk.read(alloc, path.as_str())?.is_none() {
+        return disk.sync();
     }
-    disk.sync()
+    disk.sync()?;
+    disk.rename(path.as_str(), aside.as_str())?;
+    disk.sync()?;
+    disk.remove(aside.as_str())
 }
 
 /// Writes the stamp that names a record to `tmp/stamp/` and the folder. It is to be synced before it is renamed.
@@ -57,7 +61,7 @@ pub fn stage<D: Disk>(
     ensures images { D.tells → Passes (D.story disk.old) (D.story disk.new) (ChangesAt (staged_path folder.now)) }
     ensures cause { Counts (D.faults disk.old) (D.faults disk.new) (disk_failed result) }
 {
-    let path = joined(alloc, "tmp/stamp/", folder)?;
+    let path = join_texts(alloc, "tmp/stamp/", folder)?;
     let entry = stamp_entry(alloc, name)?;
     disk.write(path.as_str(), &entry)
 }
@@ -74,14 +78,15 @@ pub fn stamp<D: Disk>(alloc: Global, disk: &mut D, folder: &str) -> Result<(), D
     ensures stamped { D.tells → OnOk result (EachNow (D.story disk.new)
         (λ image. image (stamp_path folder.now) ≡ (D.story disk.old).held (staged_path folder.now))) }
     ensures synced { D.tells → OnOk result (EachNow (D.story disk.new) (λ image. image ≡ (D.story disk.new).held)) }
+    ensures swept { D.tells → OnOk result ((D.story disk.new).held (staged_path folder.now) ≡ None) }
 
     // Whatever it answers.
     ensures images { D.tells → Passes (D.story disk.old) (D.story disk.new)
         (Moves (staged_path folder.now) (stamp_path folder.now) ((D.story disk.old).held (staged_path folder.now))) }
     ensures cause { Counts (D.faults disk.old) (D.faults disk.new) (disk_failed result) }
 {
-    let from = joined(alloc, "tmp/stamp/", folder)?;
-    let to = joined(alloc, "stamp/", folder)?;
+    let from = join_texts(alloc, "tmp/stamp/", folder)?;
+    let to = join_texts(alloc, "stamp/", folder)?;
     disk.rename(from.as_str(), to.as_str())?;
     disk.sync()
 }
@@ -99,7 +104,7 @@ pub fn current<D: Disk>(
     ensures images { D.tells → Passes (D.story disk.old) (D.story disk.new) Same }
     ensures cause { Counts (D.faults disk.old) (D.faults disk.new) (disk_failed result) }
 {
-    let path = joined(alloc, "stamp/", folder)?;
+    let path = join_texts(alloc, "stamp/", folder)?;
     match disk.read(alloc, path.as_str())? {
         Some(entry) => Ok(hash_of(&entry)),
         None => Ok(None),
@@ -107,7 +112,7 @@ pub fn current<D: Disk>(
 }
 
 /// Two texts side by side.
-fn joined(alloc: Global, front: &str, back: &str) -> Result<Text, Mem>
+fn join_texts(alloc: Global, front: &str, back: &str) -> Result<Text, Mem>
     ensures { IfOk result (λ whole. whole ≡ front.now ++ back.now) }
 {
     let mut whole = Text::from_str(alloc, front)?;

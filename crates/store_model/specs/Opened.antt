@@ -1,9 +1,9 @@
 -- What opening a store leaves of a disk.
-use Rattle.std.specs.Prelude.{◌≡◌, ◌⊎◌, ℕ, List, codes, filter_map, map, slice_get, Some, None, IsSome}
+use Rattle.std.specs.Prelude.{◌≡◌, ◌≢◌, ◌⊎◌, ℕ, List, codes, filter_map, map, slice_get, Some, None, IsSome}
 use Rattle.std.specs.List.{AllByRecursion}
 use Rattle.tree_model.specs.declared.hash.Hash.{Hash}
 use Rattle.tree_model.specs.Hash.{IsHash}
-use Rattle.tree_model.specs.Path.{IsAtOrBelow}
+use Rattle.tree_model.specs.Path.{IsAtOrBelow, IsBelow}
 use Rattle.outside_traits.specs.Store.{Store}
 use Rattle.store_model.specs.declared.signature.EquivRow.{EquivRow}
 use Rattle.store_model.specs.Spelling.{name_of, record_bytes}
@@ -11,7 +11,7 @@ use Rattle.store_model.specs.Stored.{SpellsStored}
 use Rattle.store_model.specs.declared.candidate.Candidate.{Candidate}
 use Rattle.store_model.specs.Believed.{Ascend, AreBelieved, IsAmong, IsBelieved}
 use Rattle.store_model.specs.Paths.{record_path, slashes}
-use Rattle.store_model.specs.Publication.{record_file, stamp_at, stamp_file}
+use Rattle.store_model.specs.Publication.{record_file, stamp_at, stamp_file, work_at}
 use Rattle.store_model.specs.Readable.{HasShortPaths, row_of_stored}
 
 -- A file under `rec/` that may be believed: it can't be executed, its bytes are the spelling of a record whose manifest has no path of
@@ -34,18 +34,20 @@ pub record IsBelievedRecord (held : Store) (c : Candidate) : Type 0 where
   pub found : AreFound held candidates
   pub believed : IsBelieved candidates c
 
--- a stamp: a file `stamp/A/B` that says a digest and can't be executed
+-- a stamp: a file `stamp/A/B` that says a digest and can't be executed, where `work/A/B` can be a folder: nothing is held above it
 pub record IsStamp (held : Store) (path : List ℕ) : Type 0 where
   pub name : Hash
   pub is_hash : IsHash name
   pub two : slashes path ≡ 1
   pub file : held (stamp_at path) ≡ Some (stamp_file name)
+  pub way : (q : List ℕ) → IsBelow q (work_at path) → held q ≡ None
 
--- The path is neither `rec`, `stamp` or `tmp` nor under one of them.
+-- The path is neither `rec`, `stamp` or `tmp` nor under one of them, nor is it `obj`, where a folder stands.
 pub record IsElsewhere (q : List ℕ) : Type 0 where
   pub records : IsAtOrBelow (codes "rec") q → ⊥
   pub stamps : IsAtOrBelow (codes "stamp") q → ⊥
   pub temporary : IsAtOrBelow (codes "tmp") q → ⊥
+  pub objects : q ≢ codes "obj"
 
 -- A path that opening leaves alone: it stands elsewhere, or it has a believed record, or a stamp, or nothing is held there.
 abbrev pub IsLeft : Store → List ℕ → Type 0
@@ -68,3 +70,12 @@ pub record IsOpened (before after : Store) (rows : List EquivRow) : Type 0 where
   pub rows_are : rows ≡ rows_at candidates places
   pub left : (q : List ℕ) → IsLeft before q → after q ≡ before q
   pub only : (q : List ℕ) → IsSome (after q) → IsLeft before q
+
+-- Opening made way: nothing is held at `obj`, nor above the work folder of which something under `stamp/` tells.
+pub record HasWay (held : Store) : Type 0 where
+  pub objects : held (codes "obj") ≡ None
+  pub stamps : (path : List ℕ) → IsSome (held (stamp_at path)) → (q : List ℕ) → IsBelow q (work_at path) → held q ≡ None
+
+-- nothing is held under `tmp/`
+abbrev pub HasNoLitter : Store → Type 0
+HasNoLitter held = (q : List ℕ) → IsBelow (codes "tmp") q → held q ≡ None

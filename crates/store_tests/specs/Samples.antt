@@ -3,7 +3,7 @@ use Rattle.meta_model.specs.declared.plan.PlanTask.{PlanTask}
 use Rattle.meta_model.specs.CleanBuild.{Entries}
 use Rattle.store_model.specs.declared.signature.SigRecord.{SigRecord}
 use Rattle.store_model.specs.Spelled.{IsSpelled}
-use Rattle.build_store.specs.Paths.{HasPlace, IsOnePart}
+use Rattle.store_opening.specs.Paths.{HasPlace, IsOnePart}
 use Rattle.build_store.specs.Publication.{AreShort}
 use Rattle.build_store.specs.View.{IsSignatureOf}
 

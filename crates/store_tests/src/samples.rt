@@ -1,7 +1,7 @@
 // Tasks with their signatures and outputs.
 ghost use Rattle.std.specs.Prelude.{◌≡◌, ◌≤◌, All, IfOk, IsTrue, length};
 ghost use Rattle.store_model.specs.Spelled.{IsSpelled};
-ghost use Rattle.build_store.specs.Paths.{IsOnePart};
+ghost use Rattle.store_opening.specs.Paths.{IsOnePart};
 ghost use Rattle.build_store.specs.View.{IsSignatureOf};
 ghost use Rattle.store_tests.specs.Samples.{HasSigPlace, IsSample};
 

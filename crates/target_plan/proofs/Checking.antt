@@ -1,15 +1,16 @@
--- A plan that passes the check is sound.
-use Rattle.std.proofs.Common.{◌≡◌, ◌∙◌, sym, ap, subst, ℕ, ◌+◌, ◌<◌, ◌≤◌, arith, Bool, IsTrue, List, [], length, get_or, All, Option, Some, Result, Ok, Err, IfOk}
+-- A plan passes the check just where it is sound.
+use Rattle.std.proofs.Common.{◌≡◌, ◌∙◌, sym, ap, subst, ℕ, zero, suc, ◌+◌, ◌<◌, ◌≤◌, arith, Bool, IsTrue, List, length, get_or, All, Option, Some, Result, Ok, Err, IfOk}
 use Rattle.std.specs.Prelude.{◌↔◌, AllPairs}
-use Rattle.std.specs.List.{slice_get}
+use Rattle.std.specs.List.{AllByRecursion, slice_get}
+use Rattle.std.proofs.lemmas.List.Elements.{All-from_recursion}
 use Rattle.std.proofs.lemmas.Option.{slice_get-get_or, slice_get_within}
 use borrow.Author.Count.{below_more}
 use Rattle.meta_model.specs.declared.plan.Plan.{Plan}
 use Rattle.meta_model.specs.declared.plan.PlanTask.{PlanTask}
 use Rattle.store_model.specs.Premises.{Differ}
 use Rattle.plan_model.specs.Sound.{IsSound, IsSoundTask}
-use Rattle.plan_model.specs.Spellings.{HasSpellings}
-use Rattle.plan_model.proofs.Reached.{all_at, pairs_from}
+use Rattle.plan_model.specs.Spellings.{HasSpellings, TaskFits}
+use Rattle.plan_model.proofs.Reached.{all_at, all_from, pair_at, pairs_from}
 use Rattle.plan_model.proofs.Spelling.{sound_has_spellings}
 use Rattle.target_plan.specs.Checked.{AreChecked, IsChecked, IsInRange}
 
@@ -53,29 +54,64 @@ checked_task n task h = record {
   outer = h.places.outer;
 }
 
--- tasks of the default configuration are of one
-one_configuration : (tasks : List PlanTask) → All (λ t. t.id.mc ≡ []) tasks → AllPairs (λ a b. a.id.mc ≡ b.id.mc) tasks
-one_configuration tasks all =
-    pairs_from (λ a b. a.id.mc ≡ b.id.mc) tasks (λ i j a b lt e f. all_at (λ t. t.id.mc ≡ []) tasks all i a e ∙ sym (all_at (λ t. t.id.mc ≡ []) tasks all j b f))
+-- and a task that is sound at its number passes
+sound_task : (n : ℕ) (task : PlanTask) → IsSoundTask n task → IsChecked n task
+sound_task n task h = record {
+  names = record { pn = h.pn; name = h.name };
+  deps = record { rising = h.deps; below = h.below };
+  lines = record { ascends = h.ascends; no_order = h.no_order };
+  files = record { plain = h.plain; parts = h.parts; tree = h.tree };
+  places = record { inner = h.inner; outer = h.outer };
+}
 
-module _ (plan : Plan) (seen : List PlanTask) (same : seen ≡ plan.tasks) (range : IsInRange plan) (default : All (λ t. t.id.mc ≡ []) seen) (checked : AreChecked seen) where
-  checked_at : AreChecked plan.tasks
-  checked_at = subst AreChecked same checked
+-- of one configuration
+abbrev SameMc : PlanTask → PlanTask → Type 0
+SameMc a b = a.id.mc ≡ b.id.mc
 
-  pub checked_sound : AllPairs Differ seen → IsSound plan
-  checked_sound differ = record {
+-- all tasks are of one configuration where they are of the first one's
+pub of_first : (tasks : List PlanTask) (first : PlanTask) (mc : List ℕ) → 0 < length tasks → first ≡ get_or tasks 0 first → mc ≡ first.id.mc → All (λ t. t.id.mc ≡ mc) tasks ↔ AllPairs SameMc tasks
+of_first tasks first mc lt is of = (
+  λ all. pairs_from SameMc tasks (λ i j a b lt e f. all_at (λ t. t.id.mc ≡ mc) tasks all i a e ∙ sym (all_at (λ t. t.id.mc ≡ mc) tasks all j b f)),
+  λ pairs. all_from (λ t. t.id.mc ≡ mc) tasks (λ n task e. by pairs n task e ∙ sym of),
+)
+  where
+    at : slice_get tasks 0 ≡ Some first
+    at = slice_get-get_or tasks 0 first lt ∙ ap (λ (t : PlanTask). Some t) (sym is)
+
+    by : AllPairs SameMc tasks → (n : ℕ) (task : PlanTask) → slice_get tasks n ≡ Some task → task.id.mc ≡ first.id.mc
+    by pairs zero task e = ap (λ (t : PlanTask). t.id.mc) (let both : Some task ≡ Some first = sym e ∙ at in let same : task ≡ first = cc in same)
+    by pairs (suc n) task e = sym (pair_at SameMc tasks pairs 0 (suc n) first task (omega arith) at e)
+
+module _ (plan : Plan) (seen : List PlanTask) (same : seen ≡ plan.tasks) where
+  pub checked_sound : IsInRange plan → AllPairs SameMc seen → AreChecked seen → AllPairs Differ seen → IsSound plan
+  checked_sound range one checked differ = record {
     threads = (range.least, range.most);
     few = range.few;
     targets = range.targets;
-    mc = one_configuration plan.tasks (subst (All (λ t. t.id.mc ≡ [])) same default);
+    mc = subst (AllPairs SameMc) same one;
     differ = subst (AllPairs Differ) same differ;
-    tasks = λ n task at. checked_task n task (checked_at n task at);
+    tasks = λ n task at. checked_task n task (subst AreChecked same checked n task at);
   }
 
-  pub checked_spellings : AllPairs Differ seen → HasSpellings plan
-  checked_spellings differ = sound_has_spellings plan (checked_sound differ) (λ n task at. (checked_at n task at).fits)
+  -- a sound plan passes each part of the check
+  module _ (sound : IsSound plan) where
+    pub sound_one : AllPairs SameMc seen
+    sound_one = subst (AllPairs SameMc) (sym same) sound.mc
 
--- what an answered `true` says, it says of more
-pub passed : {X P Q : Type 0} (answer : Result Bool X) → (P → Q) → IfOk answer (λ b. IsTrue b ↔ P) → IfOk answer (λ b. IsTrue b → Q)
-passed (Ok b) f h = λ t. f (h.0 t)
-passed (Err e) f h = tt
+    pub sound_checked : AreChecked seen
+    sound_checked = subst AreChecked (sym same) (λ n task at. sound_task n task (sound.tasks n task at))
+
+    pub sound_differ : AllPairs Differ seen
+    sound_differ = subst (AllPairs Differ) (sym same) sound.differ
+
+pub sound_in_range : (plan : Plan) → IsSound plan → IsInRange plan
+sound_in_range plan sound = record { least = sound.threads.0; most = sound.threads.1; few = sound.few; targets = sound.targets }
+
+-- a program can hold the signatures of a sound plan's tasks
+pub known_spellings : (plan : Plan) (seen : List PlanTask) → seen ≡ plan.tasks → AllByRecursion TaskFits seen → IsSound plan → HasSpellings plan
+known_spellings plan seen same fits sound = sound_has_spellings plan sound (λ n task at. all_at TaskFits plan.tasks (subst (All TaskFits) same (All-from_recursion TaskFits seen fits)) n task at)
+
+-- what an answer says, in words that say the same
+pub in_words : {X P Q : Type 0} (answer : Result Bool X) → (P ↔ Q) → IfOk answer (λ b. IsTrue b ↔ P) → IfOk answer (λ b. IsTrue b ↔ Q)
+in_words (Ok b) f h = (λ t. f.0 (h.0 t), λ q. h.1 (f.1 q))
+in_words (Err e) f h = tt

@@ -18,7 +18,6 @@ use Rattle.plan_model.specs.Inputs.{Files}
 use Rattle.plan_model.specs.PlanRefusal.{PlanRefusal}
 use Rattle.plan_model.specs.Plans.{plan_of, forced}
 use Rattle.plan_model.specs.Sound.{AreClean, AreWanted, HasGoodNames, IsMadeFrom, IsSound}
-use Rattle.meta_model.specs.CleanBuild.{Gives}
 use Rattle.store_model.specs.Premises.{IsBlind}
 use Rattle.plan_model.specs.Blind.{IsWhole, key_reading}
 use Rattle.plan_model.proofs.Blinded.{whole_is_blind, forced_is_blind, forced_is_whole}

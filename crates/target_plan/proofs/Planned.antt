@@ -13,9 +13,11 @@ use Rattle.answer_model.specs.Runs.{IsRun}
 use Rattle.target_graph.specs.Runs.{IsNoRun}
 use Rattle.plan_model.specs.Inputs.{Files}
 use Rattle.plan_model.specs.PlanRefusal.{PlanRefusal}
+use Rattle.plan_model.specs.Sound.{IsSound}
 use Rattle.task_plan.specs.declared.fault.PlanFault.{PlanFault}
 use Rattle.task_plan.specs.Faults.{IsPlanFault, plan_refusal}
 use Rattle.answer_model.specs.Plans.{plan_under, HasPlan, no_run, no_plan}
+use Rattle.target_plan.specs.Checked.{IsTurnedBack, unsound_plan}
 use Rattle.target_plan.specs.Plans.{IsNoPlan}
 use Rattle.answer_model.specs.PlanStatus.{plan_status}
 use Rattle.target_plan.specs.Steps.{IsNoPlanOf}
@@ -51,12 +53,14 @@ pub same_plan : (P : Plan → Type 0) (found : Plan) (answer : Result Plan Statu
 same_plan P found (Ok plan) same p = subst P (sym same) p
 same_plan P found (Err status) same p = tt
 
--- a check refuses for want of memory alone
-pub only_memory : (P : Status → Type 0) (answer : Result Plan Status) → IfErr answer (λ status. status ≡ OutOfMemory) → P OutOfMemory → IfErr answer P
-only_memory P (Ok plan) memory p = tt
-only_memory P (Err status) memory p = subst P (sym memory) p
+-- what is said of want of memory, and of a plan that isn't sound, is said of a plan that is turned back
+pub of_turned_back : (P : Status → Type 0) (found : Plan) (answer : Result Plan Status) → IfErr answer (IsTurnedBack found) → P OutOfMemory → ((IsSound found → ⊥) → P unsound_plan) → IfErr answer P
+of_turned_back P found (Ok plan) back memory unsound = tt
+of_turned_back P found (Err status) (inl is) memory unsound = subst P (sym is) memory
+of_turned_back P found (Err status) (inr back) memory unsound = subst P (sym back.1) (unsound back.0)
 
--- so no layers failed
-pub none_failed : (answer : Result Plan Status) → IfErr answer (λ status. status ≡ OutOfMemory) → false ≡ mode_failed answer
-none_failed (Ok plan) memory = refl
-none_failed (Err status) memory = ap is_failed_read (sym memory)
+-- no layers failed where it is
+pub none_failed : (found : Plan) (answer : Result Plan Status) → IfErr answer (IsTurnedBack found) → false ≡ mode_failed answer
+none_failed found (Ok plan) back = refl
+none_failed found (Err status) (inl is) = ap is_failed_read (sym is)
+none_failed found (Err status) (inr back) = ap is_failed_read (sym back.1)

@@ -1,9 +1,11 @@
 -- What is checked of a plan before it is handed out.
-use Rattle.std.specs.Prelude.{◌≡◌, ◌≤◌, ◌<◌, ℕ, true, false, List, length, All, Some}
+use Rattle.std.specs.Prelude.{◌≡◌, ◌≤◌, ◌<◌, ◌⊎◌, ℕ, true, false, List, length, All, Some, codes}
 use Rattle.std.specs.List.{slice_get}
 use Rattle.std.specs.List.Sorted.{IsStrictlyIncreasing}
 use Rattle.tree_model.specs.declared.entry.Entry.{Entry}
 use Rattle.tree_model.specs.Tree.{IsTree}
+use Rattle.meta_model.specs.declared.event.Status.{Status}
+use Rattle.meta_model.specs.declared.event.Status.TheVariants.{Limit, OutOfMemory}
 use Rattle.meta_model.specs.declared.facts.TaskId.{TaskId}
 use Rattle.meta_model.specs.declared.plan.Plan.{Plan}
 use Rattle.meta_model.specs.declared.plan.PlanTask.{PlanTask}
@@ -13,8 +15,7 @@ use Rattle.store_model.specs.Signatures.{is_order, line_cmp}
 use Rattle.store_model.specs.Spelled.{Ascends}
 use Rattle.store_model.specs.Valid.{IsPlain}
 use Rattle.plan_model.specs.Names.{is_task_name}
-use Rattle.plan_model.specs.Sound.{IsFolder, IsOnePart}
-use Rattle.plan_model.specs.Spellings.{TaskFits}
+use Rattle.plan_model.specs.Sound.{IsFolder, IsOnePart, IsSound}
 
 -- a PN and a name such as recipes and tasks may have
 pub record HasGoodNames (id : TaskId) : Type 0 where
@@ -42,14 +43,13 @@ pub record AreFolders (places : List (List ℕ × List ℕ)) : Type 0 where
   pub inner : All (λ p. IsFolder p.0) places
   pub outer : All (λ p. IsFolder p.1) places
 
--- What is checked of a task at its number. It is what is asked of a task of a sound plan, and that a program can hold it.
+-- What is checked of a task at its number: what is asked of a task of a sound plan.
 pub record IsChecked (n : ℕ) (task : PlanTask) : Type 0 where
   pub names : HasGoodNames task.id
   pub deps : AreEarlier n task.deps
   pub lines : AreSoundLines task.key.lines
   pub files : AreSoundFiles task.files
   pub places : AreFolders task.places
-  pub fits : TaskFits task
 
 -- each task is such
 abbrev pub AreChecked : List PlanTask → Type 0
@@ -61,3 +61,11 @@ pub record IsInRange (plan : Plan) : Type 0 where
   pub most : plan.threads ≤ 16
   pub few : length plan.tasks ≤ 65536
   pub targets : All (λ n. n < length plan.tasks) plan.targets
+
+-- the status of a plan that isn't sound
+abbrev pub unsound_plan : Status
+unsound_plan = Limit (codes "UnsoundPlan")
+
+-- why a plan isn't handed out: memory ran out, or it isn't sound
+abbrev pub IsTurnedBack : Plan → Status → Type 0
+IsTurnedBack plan status = (status ≡ OutOfMemory) ⊎ ((IsSound plan → ⊥) × (status ≡ unsound_plan))

@@ -70,11 +70,20 @@ fn known_lines(lines: &[KeyLine])
 }
 
 /// A program can hold the lines of a task's key, and one more, and its files.
-pub(crate) fn known_task(task: &PlanTask)
+fn known_task(task: &PlanTask)
     ensures { TaskFits task.now }
 {
     let lines = task.key.lines.as_slice();
     let _more = lines.len() + 1;
     known_lines(lines);
     let _files = task.files.entries().len();
+}
+
+/// A program can hold each task.
+pub(crate) fn known_tasks(tasks: &[PlanTask])
+    ensures { AllByRecursion TaskFits tasks.now }
+{
+    for task in tasks {
+        known_task(task);
+    }
 }

@@ -5,8 +5,9 @@
 //!
 //! Promised of `find_plan`, for layers that tell what they hold: the answer is the plan that the words have, and each refusal is that
 //! of the words. Whatever the layers tell, an answered plan is sound, and a program can hold the signatures of its tasks
-//! (`plan_model`): that is checked before it is answered. `plan_laws` says that words have one plan, that it is sound and each of
-//! its tasks wanted, and that words which have one aren't refused.
+//! (`plan_model`): that is checked before it is answered. The check turns back just the plans that aren't sound, as the limit
+//! `UnsoundPlan`, so none of layers that tell. `plan_laws` says that words have one plan, that it is sound and each of its tasks
+//! wanted, and that words which have one aren't refused.
 //! `ReadFault` comes only where the layers' count of faults rose, and want of memory alone is free. No file is changed.
 //!
 //! The check stands in `soundness` (the plan as a whole), `differing` (no two tasks of one PN and name), `sound_task`, `sound_lines`

@@ -77,9 +77,9 @@ fn planned<L: Layers>(
 /// - `Metadata` and `Limit`: as `answer_model` says (`IsPlanRefused`): what refuses the run, then what refuses the plan.
 /// - `ReadFault`: only where the layers' count of faults rose in the call.
 /// - `OutOfMemory`: memory ran out.
+/// - The limit `UnsoundPlan`: the plan isn't sound. Layers that tell what they hold have no such plan, so of them it never comes.
 ///
-/// No call changes a file. An answered plan is sound, and a program can hold its tasks' signatures, whatever the layers tell; layers
-/// that tell what they hold have no other, so what else may come is answered as want of memory is.
+/// No call changes a file. An answered plan is sound, and a program can hold its tasks' signatures, whatever the layers tell.
 pub fn find_plan<L: Layers>(
     alloc: Global,
     layers: &mut L,

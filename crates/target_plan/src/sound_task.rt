@@ -5,7 +5,6 @@ ghost use Rattle.plan_model.specs.Names.{is_task_name as is_name};
 ghost use Rattle.plan_model.specs.Sound.{IsFolder};
 ghost use Rattle.target_plan.specs.Checked.{AreEarlier, AreFolders, HasGoodNames, IsChecked};
 
-use crate::fitting::known_task;
 use crate::sound_files::are_sound_files;
 use crate::sound_lines::are_sound_lines;
 use meta_model::{PlanTask, TaskId, is_shell_name};
@@ -84,7 +83,6 @@ fn are_folders(places: &[(Text, Text)]) -> bool
 pub(crate) fn is_sound_task(number: u32, task: &PlanTask) -> bool
     ensures { IsTrue result ↔ IsChecked number task.now }
 {
-    known_task(task);
     has_good_names(&task.id)
         && are_earlier(task.deps.as_slice(), number)
         && are_sound_lines(task.key.lines.as_slice())

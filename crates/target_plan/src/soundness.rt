@@ -1,12 +1,14 @@
 // Whether a plan is sound. Layers that tell what they hold have no other plans; of others nothing is known.
-ghost use Rattle.std.specs.Prelude.{◌≡◌, ◌≤◌, ◌↔◌, [], IfErr, IfOk, IsTrue, All, length};
+ghost use Rattle.std.specs.Prelude.{◌≡◌, ◌≤◌, ◌↔◌, IfErr, IfOk, IsTrue, All, AllPairs, length};
 ghost use Rattle.plan_model.specs.Sound.{IsSound};
 ghost use Rattle.plan_model.specs.Spellings.{HasSpellings};
-ghost use Rattle.target_plan.specs.Checked.{AreChecked, IsInRange};
+ghost use Rattle.target_plan.specs.Checked.{AreChecked, IsInRange, IsTurnedBack};
 
 use crate::differing::all_differ;
+use crate::fitting::known_tasks;
 use crate::sound_task::{are_below, is_sound_task};
 use meta_model::{Plan, PlanTask, Status};
+use project_reading::limit;
 use std::alloc::Global;
 use tree_model::Mem;
 
@@ -27,11 +29,21 @@ fn is_in_range(plan: &Plan) -> bool
         && are_below(plan.targets.as_slice(), count as u32)
 }
 
-/// Whether all tasks are of the default configuration.
-fn are_of_default(tasks: &[PlanTask]) -> bool
-    ensures { IsTrue result ↔ All (λ t. t.id.mc ≡ []) tasks.now }
+/// Whether all tasks are of this configuration.
+fn are_of(tasks: &[PlanTask], mc: &str) -> bool
+    ensures { IsTrue result ↔ All (λ t. t.id.mc ≡ mc.now) tasks.now }
 {
-    tasks.iter().all(|task| task.id.mc.as_str().is_empty())
+    tasks.iter().all(|task| task.id.mc.as_str() == mc)
+}
+
+/// Whether all tasks are of one configuration.
+fn are_of_one(tasks: &[PlanTask]) -> bool
+    ensures { IsTrue result ↔ AllPairs (λ a b. a.id.mc ≡ b.id.mc) tasks.now }
+{
+    match tasks.first() {
+        Some(first) => are_of(tasks, first.id.mc.as_str()),
+        None => true,
+    }
 }
 
 /// Whether each task is sound at its number.
@@ -47,32 +59,34 @@ fn are_sound(tasks: &[PlanTask]) -> bool
     true
 }
 
-/// True only for a sound plan whose tasks' signatures a program can hold. It reads each text of the plan once, beside what tells the
-/// tasks' PNs and names apart.
+/// Whether the plan is sound. It reads each text of the plan once, beside what tells the tasks' PNs and names apart.
 fn is_sound(alloc: Global, plan: &Plan) -> Result<bool, Mem>
-    ensures sound { IfOk result (λ sound. IsTrue sound → IsSound plan.now) }
-    ensures spellings { IfOk result (λ sound. IsTrue sound → HasSpellings plan.now) }
+    ensures { IfOk result (λ sound. IsTrue sound ↔ IsSound plan.now) }
 {
     if !is_in_range(plan) {
         return Ok(false);
     }
     let tasks = plan.tasks.as_slice();
-    if are_of_default(tasks) && are_sound(tasks) {
+    if are_of_one(tasks) && are_sound(tasks) {
         all_differ(alloc, tasks)
     } else {
         Ok(false)
     }
 }
 
-/// The plan, where it is sound. Layers that tell what they hold have no other, so any other is answered as want of memory is.
+/// The plan, where it is sound. A plan that isn't is answered as the limit `UnsoundPlan`.
 pub(crate) fn checked(alloc: Global, made: Plan) -> Result<Plan, Status>
     ensures same { IfOk result (λ plan. plan ≡ made) }
     ensures sound { IfOk result IsSound }
     ensures spellings { IfOk result HasSpellings }
-    ensures err { IfErr result (λ status. status ≡ Status.OutOfMemory) }
+    ensures err { IfErr result (IsTurnedBack made) }
 {
     match is_sound(alloc, &made) {
-        Ok(true) => Ok(made),
-        Ok(false) | Err(_) => Err(Status::OutOfMemory),
+        Ok(true) => {
+            known_tasks(made.tasks.as_slice());
+            Ok(made)
+        }
+        Ok(false) => Err(limit(alloc, "UnsoundPlan")),
+        Err(_) => Err(Status::OutOfMemory),
     }
 }

@@ -5,3 +5,4 @@ pub mod Laid
 pub mod Limits
 pub mod Put
 pub mod Building
+pub mod Joined

@@ -4,3 +4,4 @@ pub mod Jobs
 pub mod Left
 pub mod OneTask
 pub mod Runnable
+pub mod Parts

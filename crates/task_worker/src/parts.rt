@@ -61,7 +61,7 @@ fn part_of<'a>(tasks: &'a [PlanTask], output: &'a (u32, Tree)) -> Option<Part<'a
 }
 
 /// Whether a task is of the recipe, or where `own` is false whether it is of another.
-fn wanted(part: &Part, pn: &str, own: bool) -> bool
+fn is_wanted(part: &Part, pn: &str, own: bool) -> bool
     ensures { result ≡ is_wanted own pn.now (part_needed part.now) }
 {
     let is_own = part.task.id.pn.as_str() == pn;
@@ -80,7 +80,7 @@ fn put_part<'a>(
         ++ if_wanted own pn.now (needed_at tasks.now output.now)) }
 {
     if let Some(part) = part_of(tasks, output) {
-        if wanted(&part, pn, own) {
+        if is_wanted(&part, pn, own) {
             made.push(part)?;
         }
     }
@@ -88,7 +88,7 @@ fn put_part<'a>(
 }
 
 /// The tasks of a recipe, or where `own` is false those of others, among the outputs.
-fn gathered<'a>(
+fn gather<'a>(
     alloc: Global,
     tasks: &'a [PlanTask],
     outputs: &'a [(u32, Tree)],
@@ -115,7 +115,7 @@ pub(crate) fn own_parts<'a>(
     ensures { IfOk result (λ made. parts_needed made.items
         ≡ filter (is_of pn.now) (by_depth (needed_among tasks.now outputs.now))) }
 {
-    let mut made = gathered(alloc, tasks, outputs, pn, true)?;
+    let mut made = gather(alloc, tasks, outputs, pn, true)?;
     made.sort_by(|a, b| compare_depths(a, b))?;
     Ok(made)
 }
@@ -130,7 +130,7 @@ pub(crate) fn other_parts<'a>(
     ensures { IfOk result (λ made. parts_needed made.items
         ≡ filter (λ n. not (is_of pn.now n)) (by_name (needed_among tasks.now outputs.now))) }
 {
-    let mut made = gathered(alloc, tasks, outputs, pn, false)?;
+    let mut made = gather(alloc, tasks, outputs, pn, false)?;
     made.sort_by(|a, b| compare_names(a, b))?;
     Ok(made)
 }

@@ -8,6 +8,7 @@ ghost use Rattle.task_worker.specs.Jobs.{IsLaid, RanJob};
 ghost use Rattle.task_worker.specs.Left.{IsLeft, left_outcome};
 
 use crate::given::Job;
+use meta_model::MAX_OUTPUT_PATH;
 use outside_traits::{Bench, BenchFault, Taken};
 use std::alloc::Global;
 use tree_model::{Size, Tree};
@@ -18,9 +19,6 @@ const MAX_OUTPUT: Size = Size {
     largest: 16_777_216,
     bytes: 33_554_432,
 };
-
-/// The most bytes of a path of an output.
-const MAX_PATH: usize = 3072;
 
 /// What a script leaves.
 #[derive(Debug, Drop)]
@@ -73,13 +71,13 @@ fn run_once<B: Bench>(alloc: Global, bench: &mut B, job: &Job) -> Result<u32, Be
 }
 
 /// Whether each path of an output has at most 3,072 bytes.
-fn are_short(tree: &Tree) -> bool
+pub(crate) fn are_short(tree: &Tree) -> bool
     ensures short { IsTrue result ↔ All (λ e. length e.0 ≤ 3072) tree.now }
     ensures tree { IsTree tree.now }
 {
     tree.entries()
         .iter()
-        .all(|entry| entry.0.as_str().len() <= MAX_PATH)
+        .all(|entry| entry.0.as_str().len() <= MAX_OUTPUT_PATH)
 }
 
 /// Whether a tree is within the limits of an output.
@@ -91,7 +89,7 @@ pub(crate) fn is_fit(tree: &Tree) -> bool
 }
 
 /// Whether what was taken is within the limits of an output.
-fn judged(taken: Taken) -> Left
+fn judge(taken: Taken) -> Left
     ensures fit { IsLeft result }
     ensures judged { (output : Entries) → IsTaken output output_limit taken
         → limited (Ok output) ≡ left_outcome result }
@@ -122,5 +120,5 @@ pub(crate) fn ran<B: Bench>(alloc: Global, bench: &mut B, job: &Job) -> Result<L
         return Ok(Left::Fails { status });
     }
     let taken = bench.take(alloc, MAX_OUTPUT)?;
-    Ok(judged(taken))
+    Ok(judge(taken))
 }

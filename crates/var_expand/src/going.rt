@@ -14,8 +14,8 @@ use std::alloc::Global;
 use std::collections::BTreeMap;
 use tree_model::{Mem, Text};
 
-/// The most bytes of an expanded text.
-pub(crate) const LONGEST: usize = 1_048_576;
+/// The most bytes of an expanded text (own rule).
+pub const LONGEST: usize = 1_048_576;
 
 /// The expanded value of a name, and how deep its references go: its height is greater than those of all names that its expansion
 /// meets.

@@ -23,6 +23,7 @@ mod standing;
 
 pub use expansion::{expand, value};
 pub use fault::ExpandFault;
+pub use going::LONGEST;
 pub use lookup::Lookup;
 pub use meta_model::{drop_words, words};
 pub use names::references;

@@ -16,8 +16,8 @@ use Rattle.build_resume.proofs.Printing.{grew, said_halts, said_job, said_settle
 use Rattle.run_workers.specs.declared.worker.Halt.TheVariants as halts
 use Rattle.build_resume.proofs.drive.turn.Goals as goal
 
-pub do_claimed-halt-requires-clause-runs : goal.do_claimed-halt-requires-clause-runs
-do_claimed-halt-requires-clause-runs g c =
+pub do_alone-halt-requires-clause-runs : goal.do_alone-halt-requires-clause-runs
+do_alone-halt-requires-clause-runs g c =
     let claims : Claims 0 c.args.state.now c.claim.new.self (Ok c.in-Ok-Run.field-0) = c.in-Ok-Run.ensures.claims in
     let begins : Begins 0 c.args.state.now.plan.tasks c.args.state.now.tale c.claim.new.self.tale c.in-Ok-Run.job = subst (λ x. Claims 0 c.args.state.now c.claim.new.self (Ok x)) c.in-Ok-Run.field-0-is claims in
     runs_here c.args.state.now c.claim.new.self c.claim.new.self c.in-Ok-Run.job.task c.in-Ok-Run.ensures.same.plan refl c.requires.none begins.marks c.kept-in-Ok-Run.ensures.orderly
@@ -26,7 +26,7 @@ pub returns-in-Ok-Run-clause-none : goal.returns-in-Ok-Run-clause-none
 returns-in-Ok-Run-clause-none g c =
     let claims : Claims 0 c.args.state.now c.claim.new.self (Ok c.in-Ok-Run.field-0) = c.in-Ok-Run.ensures.claims in
     let begins : Begins 0 c.args.state.now.plan.tasks c.args.state.now.tale c.claim.new.self.tale c.in-Ok-Run.job = subst (λ x. Claims 0 c.args.state.now c.claim.new.self (Ok x)) c.in-Ok-Run.field-0-is claims in
-    closed_none c.args.state.now c.claim.new.self c.do_claimed-halt.new.state c.in-Ok-Run.job.task c.in-Ok-Run.ensures.same.plan c.do_claimed-halt.ensures.same.plan c.requires.none begins.marks c.kept-in-Ok-Run.ensures.orderly c.do_claimed-halt.result c.do_claimed-halt.ensures.closes
+    closed_none c.args.state.now c.claim.new.self c.do_alone-halt.new.state c.in-Ok-Run.job.task c.in-Ok-Run.ensures.same.plan c.do_alone-halt.ensures.same.plan c.requires.none begins.marks c.kept-in-Ok-Run.ensures.orderly c.do_alone-halt.result c.do_alone-halt.ensures.closes
 
 pub returns-in-Ok-Run-clause-goes_on : goal.returns-in-Ok-Run-clause-goes_on
 returns-in-Ok-Run-clause-goes_on g c =
@@ -34,10 +34,10 @@ returns-in-Ok-Run-clause-goes_on g c =
     let begins : Begins 0 c.args.state.now.plan.tasks c.args.state.now.tale c.claim.new.self.tale c.in-Ok-Run.job = subst (λ x. Claims 0 c.args.state.now c.claim.new.self (Ok x)) c.in-Ok-Run.field-0-is claims in
     let stops : IsSome c.args.state.now.fault → ◌≡◌ {A = Result Claim Mem} (Ok c.in-Ok-Run.field-0) (Ok claim.Stopped) = c.in-Ok-Run.ensures.stops in
     let first = none_before c.args.state.now.fault c.in-Ok-Run.job (λ kept. ap (λ x. Ok x) (sym c.in-Ok-Run.field-0-is) ∙ stops kept) in
-    goes_or_halts c.args.state.now c.do_claimed-halt.new.state c.do_claimed-halt.result
-    (λ none. closed_less c.args.state.now c.claim.new.self c.do_claimed-halt.new.state c.in-Ok-Run.job.task c.in-Ok-Run.ensures.same.plan c.do_claimed-halt.ensures.same.plan c.requires.none begins.marks c.kept-in-Ok-Run.ensures.orderly c.do_claimed-halt.result c.do_claimed-halt.ensures.closes
-    first c.do_claimed-halt.ensures.fault (c.do_claimed-halt.ensures.goes_on none))
-    c.do_claimed-halt.ensures.halted
+    goes_or_halts c.args.state.now c.do_alone-halt.new.state c.do_alone-halt.result
+    (λ none. closed_less c.args.state.now c.claim.new.self c.do_alone-halt.new.state c.in-Ok-Run.job.task c.in-Ok-Run.ensures.same.plan c.do_alone-halt.ensures.same.plan c.requires.none begins.marks c.kept-in-Ok-Run.ensures.orderly c.do_alone-halt.result c.do_alone-halt.ensures.closes
+    first c.do_alone-halt.ensures.fault (c.do_alone-halt.ensures.goes_on none))
+    c.do_alone-halt.ensures.halted
 
 pub returns-in-Ok-Run-clause-run : goal.returns-in-Ok-Run-clause-run
 returns-in-Ok-Run-clause-run g c tells told o gives run =
@@ -47,10 +47,10 @@ returns-in-Ok-Run-clause-run g c tells told o gives run =
     let cleans : ClaimsClean o (seen g.D.Disk.story g.W.Sink.written c.args.state.now) (Ok c.in-Ok-Run.field-0) = c.in-Ok-Run.ensures.clean tells o run in
     let job : IsCleanJob o (seen g.D.Disk.story g.W.Sink.written c.args.state.now) c.in-Ok-Run.job = subst (λ x. ClaimsClean o (seen g.D.Disk.story g.W.Sink.written c.args.state.now) (Ok x)) c.in-Ok-Run.field-0-is cleans in
     let still = clean_still g.D.Disk.story g.W.Sink.written o c.args.state.now c.claim.new.self c.in-Ok-Run.job c.in-Ok-Run.ensures.same.plan job in (
-      c.do_claimed-halt.ensures.run tells told o gives mid still,
-      drove_job (g.B.Bench.gives c.args.bench.now) c.args.state.now.plan c.do_claimed-halt.result c.in-Ok-Run.job.task (c.in-Ok-Run.job.script, c.in-Ok-Run.job.layout) c.args.state.now.tale c.claim.new.self.tale c.do_claimed-halt.new.state.tale (g.B.Bench.place c.args.bench.now).runs (g.B.Bench.place c.do_claimed-halt.new.bench).runs
+      c.do_alone-halt.ensures.run tells told o gives mid still,
+      drove_job (g.B.Bench.gives c.args.bench.now) c.args.state.now.plan c.do_alone-halt.result c.in-Ok-Run.job.task (c.in-Ok-Run.job.script, c.in-Ok-Run.job.layout) c.args.state.now.tale c.claim.new.self.tale c.do_alone-halt.new.state.tale (g.B.Bench.place c.args.bench.now).runs (g.B.Bench.place c.do_alone-halt.new.bench).runs
           (clean_run o (seen g.D.Disk.story g.W.Sink.written c.args.state.now) c.args.state.now.plan (g.B.Bench.gives c.args.bench.now) c.in-Ok-Run.job gives refl job)
-          begins.marks c.do_claimed-halt.ensures.closes (c.do_claimed-halt.ensures.ran told),
+          begins.marks c.do_alone-halt.ensures.closes (c.do_alone-halt.ensures.ran told),
     )
 
 pub returns-in-Ok-Settled-clause-goes_on : goal.returns-in-Ok-Settled-clause-goes_on
@@ -78,18 +78,18 @@ pub returns-in-Ok-Run-clause-printed : goal.returns-in-Ok-Run-clause-printed
 returns-in-Ok-Run-clause-printed g c heard told from base before said =
     let old = c.args.state.now in
     let mid = c.claim.new.self in
-    let new = c.do_claimed-halt.new.state in
+    let new = c.do_alone-halt.new.state in
     let written = g.W.Sink.written in
     let claims : Claims 0 c.args.state.now c.claim.new.self (Ok c.in-Ok-Run.field-0) = c.in-Ok-Run.ensures.claims in
     let begins : Begins 0 c.args.state.now.plan.tasks c.args.state.now.tale c.claim.new.self.tale c.in-Ok-Run.job = subst (λ x. Claims 0 c.args.state.now c.claim.new.self (Ok x)) c.in-Ok-Run.field-0-is claims in
     let stops : IsSome c.args.state.now.fault → ◌≡◌ {A = Result Claim Mem} (Ok c.in-Ok-Run.field-0) (Ok claim.Stopped) = c.in-Ok-Run.ensures.stops in
     let first = none_before c.args.state.now.fault c.in-Ok-Run.job (λ kept. ap (λ x. Ok x) (sym c.in-Ok-Run.field-0-is) ∙ stops kept) in
-    let closing = subst (λ (p : Plan). Prints base (written mid.sink) (tale_text p.tasks mid.tale) mid.sink_failed → Prints base (written new.sink) (tale_text p.tasks new.tale) new.sink_failed) c.in-Ok-Run.ensures.same.plan (c.do_claimed-halt.ensures.text heard base) in
-    said_job old.plan old.fault mid.fault new.fault from old.tale mid.tale new.tale before (g.B.Bench.place c.args.bench.now).runs (g.B.Bench.place c.do_claimed-halt.new.bench).runs base (written old.sink) (written mid.sink) (written new.sink) said
-    (grew (written old.sink) (written mid.sink) (c.in-Ok-Run.ensures.stays heard)) (grew (written mid.sink) (written new.sink) (c.do_claimed-halt.ensures.stays heard))
-    first c.in-Ok-Run.job.task (c.in-Ok-Run.job.script, c.in-Ok-Run.job.layout) (record { task = begins.task; is_task = begins.is_task; is = begins.script }) begins.marks c.do_claimed-halt.result c.do_claimed-halt.ensures.closes
-    (c.do_claimed-halt.ensures.ran told)
-    (λ kept. let u = c.do_claimed-halt.ensures.unheard kept in (u.0, u.1 told))
+    let closing = subst (λ (p : Plan). Prints base (written mid.sink) (tale_text p.tasks mid.tale) mid.sink_failed → Prints base (written new.sink) (tale_text p.tasks new.tale) new.sink_failed) c.in-Ok-Run.ensures.same.plan (c.do_alone-halt.ensures.text heard base) in
+    said_job old.plan old.fault mid.fault new.fault from old.tale mid.tale new.tale before (g.B.Bench.place c.args.bench.now).runs (g.B.Bench.place c.do_alone-halt.new.bench).runs base (written old.sink) (written mid.sink) (written new.sink) said
+    (grew (written old.sink) (written mid.sink) (c.in-Ok-Run.ensures.stays heard)) (grew (written mid.sink) (written new.sink) (c.do_alone-halt.ensures.stays heard))
+    first c.in-Ok-Run.job.task (c.in-Ok-Run.job.script, c.in-Ok-Run.job.layout) (record { task = begins.task; is_task = begins.is_task; is = begins.script }) begins.marks c.do_alone-halt.result c.do_alone-halt.ensures.closes
+    (c.do_alone-halt.ensures.ran told)
+    (λ kept. let u = c.do_alone-halt.ensures.unheard kept in (u.0, u.1 told))
     (λ none. said_whole base (written old.sink) (written mid.sink) old.plan old.tale mid.tale old.sink_failed mid.sink_failed (c.in-Ok-Run.ensures.text heard base) (c.kept.ensures.heard first) (c.kept-in-Ok-Run.ensures.heard none))
     (λ none last. said_whole base (written mid.sink) (written new.sink) old.plan mid.tale new.tale mid.sink_failed new.sink_failed closing (c.kept-in-Ok-Run.ensures.heard none) (c.kept-in-Ok-Run-2.ensures.heard last))
 
@@ -98,7 +98,7 @@ returns-in-Ok-Run-clause-steady g c tells told o gives run held =
     let cleans : ClaimsClean o (seen g.D.Disk.story g.W.Sink.written c.args.state.now) (Ok c.in-Ok-Run.field-0) = c.in-Ok-Run.ensures.clean tells o run in
     let job : IsCleanJob o (seen g.D.Disk.story g.W.Sink.written c.args.state.now) c.in-Ok-Run.job = subst (λ x. ClaimsClean o (seen g.D.Disk.story g.W.Sink.written c.args.state.now) (Ok x)) c.in-Ok-Run.field-0-is cleans in
     let still = clean_still g.D.Disk.story g.W.Sink.written o c.args.state.now c.claim.new.self c.in-Ok-Run.job c.in-Ok-Run.ensures.same.plan job in
-    c.do_claimed-halt.ensures.steady tells told o gives (c.in-Ok-Run.ensures.run tells o run) still (c.in-Ok-Run.ensures.steady held)
+    c.do_alone-halt.ensures.steady tells told o gives (c.in-Ok-Run.ensures.run tells o run) still (c.in-Ok-Run.ensures.steady held)
 
 pub returns-in-Ok-Settled-clause-printed : goal.returns-in-Ok-Settled-clause-printed
 returns-in-Ok-Settled-clause-printed g c heard told from base before said =
@@ -138,7 +138,7 @@ pub returns-in-Ok-Run-clause-grows : goal.returns-in-Ok-Run-clause-grows
 returns-in-Ok-Run-clause-grows g c =
     let claims : Claims 0 c.args.state.now c.claim.new.self (Ok c.in-Ok-Run.field-0) = c.in-Ok-Run.ensures.claims in
     let begins : Begins 0 c.args.state.now.plan.tasks c.args.state.now.tale c.claim.new.self.tale c.in-Ok-Run.job = subst (λ x. Claims 0 c.args.state.now c.claim.new.self (Ok x)) c.in-Ok-Run.field-0-is claims in
-    grows_job c.do_claimed-halt.result c.in-Ok-Run.job.task c.args.state.now.tale c.claim.new.self.tale c.do_claimed-halt.new.state.tale begins.marks c.do_claimed-halt.ensures.closes
+    grows_job c.do_alone-halt.result c.in-Ok-Run.job.task c.args.state.now.tale c.claim.new.self.tale c.do_alone-halt.new.state.tale begins.marks c.do_alone-halt.ensures.closes
 
 pub returns-in-Ok-Settled-clause-grows : goal.returns-in-Ok-Settled-clause-grows
 returns-in-Ok-Settled-clause-grows g c =
@@ -166,7 +166,7 @@ pub returns-in-Ok-Run-clause-broken : goal.returns-in-Ok-Run-clause-broken
 returns-in-Ok-Run-clause-broken g c =
     let claims : Claims 0 c.args.state.now c.claim.new.self (Ok c.in-Ok-Run.field-0) = c.in-Ok-Run.ensures.claims in
     let begins : Begins 0 c.args.state.now.plan.tasks c.args.state.now.tale c.claim.new.self.tale c.in-Ok-Run.job = subst (λ x. Claims 0 c.args.state.now c.claim.new.self (Ok x)) c.in-Ok-Run.field-0-is claims in
-    broken_job c.do_claimed-halt.result c.do_claimed-halt.new.state.fault c.in-Ok-Run.job.task c.args.state.now.tale c.claim.new.self.tale c.do_claimed-halt.new.state.tale begins.marks c.do_claimed-halt.ensures.closes c.do_claimed-halt.ensures.stops
+    broken_job c.do_alone-halt.result c.do_alone-halt.new.state.fault c.in-Ok-Run.job.task c.args.state.now.tale c.claim.new.self.tale c.do_alone-halt.new.state.tale begins.marks c.do_alone-halt.ensures.closes c.do_alone-halt.ensures.stops
 
 pub returns-in-Ok-Settled-clause-broken : goal.returns-in-Ok-Settled-clause-broken
 returns-in-Ok-Settled-clause-broken g c =

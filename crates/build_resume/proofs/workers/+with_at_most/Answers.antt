@@ -1,4 +1,5 @@
 use Rattle.std.proofs.Common.{rules, false, ◌≡◌, ◌≤◌, ◌<◌, ◌∙◌, ◌+◌, ◌++◌, ◌∷◌, [], ℕ, List, All, length, sym, ap, subst, refl, append-nil, length-append, arith}
+use Rattle.std.proofs.lemmas.List.{nil_from_length}
 use Rattle.outside_traits.specs.Bench.{Gives}
 use Rattle.run_model.specs.Report.{tale_text}
 use Rattle.meta_model.specs.declared.event.Logged.{Logged}
@@ -13,7 +14,7 @@ use Rattle.build_resume.proofs.Reports.{prints_first}
 use Rattle.build_resume.proofs.Working.{broke_by, calm_behind, has_seats, no_seats, ran_behind, said_by_workers, said_pushed, seats_wider, workers_pushed}
 use Rattle.run_queue.specs.Seen.{seen}
 use Rattle.run_workers.specs.Ended.{WasFaulty}
-use Rattle.build_resume.proofs.Working.{none_by_length, ended_none, ended_pushed, ended_whole, left_none, left_workers}
+use Rattle.build_resume.proofs.Working.{ended_none, ended_pushed, ended_whole, left_none, left_workers}
 use Rattle.build_resume.proofs.workers.+with_at_most.Goals as goal
 
 -- ---- there is no bench
@@ -44,7 +45,7 @@ pub returns-then-is_empty-clause-ended : goal.returns-then-is_empty-clause-ended
 returns-then-is_empty-clause-ended g t c =
     let first = seen g.D.Disk.story g.W.Sink.written c.args.state in
     ended_none first (WasFaulty g.D.Disk.faults g.W.Sink.faults first (g.W.Sink.faults c.args.state.sink)) g.B.Bench.faults false c.args.state.tale c.args.workers c.args.benches.items c.args.benches.items
-    (none_by_length c.args.benches.items (let none : length c.args.benches.items ≡ 0 = search rules in none))
+    (nil_from_length c.args.benches.items (let none : length c.args.benches.items ≡ 0 = search rules in none))
 
 pub returns-then-is_empty-clause-left : goal.returns-then-is_empty-clause-left
 returns-then-is_empty-clause-left g t c = left_none c.args.state.tale c.requires.none

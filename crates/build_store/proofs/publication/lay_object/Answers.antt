@@ -1,7 +1,7 @@
 use Rattle.outside_traits.proofs.Runs.{passes_so}
 use Rattle.build_store.specs.Phases.{Shares}
 use Rattle.std.proofs.Common.{arith}
-use Rattle.build_store.proofs.Clean.{object_paths_clean, object_paths_short}
+use Rattle.build_store.proofs.Written.{object_paths_clean, object_paths_short}
 use Rattle.build_store.proofs.Phasing.{shares_by}
 use Rattle.build_store.specs.Phases.{SharesRound}
 use Rattle.build_store.proofs.Rounding.{shares_round}

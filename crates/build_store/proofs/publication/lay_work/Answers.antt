@@ -1,7 +1,7 @@
 use Rattle.std.proofs.Common.{◌≡◌, ◌∙◌, sym, subst, List, ℕ, All}
 use Rattle.tree_model.specs.Path.{IsClean, inside}
 use Rattle.store_model.specs.Publication.{work_at}
-use Rattle.build_store.proofs.Clean.{work_paths_clean}
+use Rattle.build_store.proofs.Written.{work_paths_clean}
 use Rattle.build_store.proofs.publication.lay_work.Goals as goal
 
 pub put_tree-requires-clause-clean : goal.put_tree-requires-clause-clean

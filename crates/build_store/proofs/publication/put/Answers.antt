@@ -1,5 +1,6 @@
 use Rattle.std.proofs.Common.{◌≡◌, ◌∙◌, refl, sym, ap, subst, Some}
 use Rattle.std.specs.Option.{is_some}
+use Rattle.std.proofs.lemmas.Result.{on_ok_weaker}
 use Rattle.outside_traits.specs.Store.{Store}
 use Rattle.outside_traits.specs.Story.{Story}
 use Rattle.outside_traits.proofs.Runs.{passes_again, passes_so}
@@ -7,11 +8,12 @@ use Rattle.stamp_store.specs.Stamp.{staged_path}
 use Rattle.build_store.specs.Publication.{IsPublished, SameObjects}
 use Rattle.store_model.specs.Publication.{stamp_at, stamp_file}
 use Rattle.build_store.specs.Phases.{put_of}
-use Rattle.build_store.proofs.Areas.{differ, heads_differ}
+use Rattle.store_opening.proofs.Areas.{differ, heads_differ}
 use Rattle.build_store.proofs.Free.{free_old, free_stamp}
 use Rattle.build_store.proofs.Phasing.{laid_aside, laid_lays, laid_stamped}
 use Rattle.build_store.proofs.Quieting.{IsReady, Quiets, aside_run, lays_run, stages_run, settles_run, last_run, on_ok_two, published_by, ready_stages, object_stages, object_aside, stored_last, objects_aside, objects_stages, objects_stamped, objects_join, staged_differ}
 use Rattle.build_store.proofs.Rounding.{leaves_by_aside, leaves_by_settles, leaves_by_stages, leaves_by_stamp, leaves_then}
+use Rattle.build_store.proofs.Sweeping.{swept}
 use Rattle.build_store.proofs.publication.put.Goals as goal
 
 pub invalidate-requires-clause-free : goal.invalidate-requires-clause-free
@@ -20,12 +22,12 @@ invalidate-requires-clause-free g c told =
 
 pub stage_all-requires-clause-laid_out : goal.stage_all-requires-clause-laid_out
 stage_all-requires-clause-laid_out g c told =
-    let aside = laid_aside c.args.folder.now _ (g.D.Disk.story c.args.disk.now).held (g.D.Disk.story c.invalidate.new.disk).held c.requires.parts (c.invalidate.ensures.images told).held (c.requires.laid_out told) in
+    let aside = laid_aside c.args.folder.now (g.D.Disk.story c.args.disk.now).held (g.D.Disk.story c.invalidate.new.disk).held c.requires.parts (c.invalidate.ensures.images told).held (c.requires.laid_out told) in
     laid_lays c.args.folder.now c.args.object.now (g.D.Disk.story c.invalidate.new.disk).held (g.D.Disk.story c.lay.new.disk).held (c.lay.ensures.others told).held aside
 
 pub settle_record-requires-clause-laid_out : goal.settle_record-requires-clause-laid_out
 settle_record-requires-clause-laid_out g c told =
-    let aside = laid_aside c.args.folder.now _ (g.D.Disk.story c.args.disk.now).held (g.D.Disk.story c.invalidate.new.disk).held c.requires.parts (c.invalidate.ensures.images told).held (c.requires.laid_out told) in
+    let aside = laid_aside c.args.folder.now (g.D.Disk.story c.args.disk.now).held (g.D.Disk.story c.invalidate.new.disk).held c.requires.parts (c.invalidate.ensures.images told).held (c.requires.laid_out told) in
     let laid = laid_lays c.args.folder.now c.args.object.now (g.D.Disk.story c.invalidate.new.disk).held (g.D.Disk.story c.lay.new.disk).held (c.lay.ensures.others told).held aside in
     (c.stage_all.ensures.others told).held.laid_out laid
 
@@ -37,35 +39,35 @@ stamp-requires-clause-staged g c told =
 
 pub stamp-requires-clause-free : goal.stamp-requires-clause-free
 stamp-requires-clause-free g c told =
-    let aside = laid_aside c.args.folder.now _ (g.D.Disk.story c.args.disk.now).held (g.D.Disk.story c.invalidate.new.disk).held c.requires.parts (c.invalidate.ensures.images told).held (c.requires.laid_out told) in
+    let aside = laid_aside c.args.folder.now (g.D.Disk.story c.args.disk.now).held (g.D.Disk.story c.invalidate.new.disk).held c.requires.parts (c.invalidate.ensures.images told).held (c.requires.laid_out told) in
     let laid = laid_lays c.args.folder.now c.args.object.now (g.D.Disk.story c.invalidate.new.disk).held (g.D.Disk.story c.lay.new.disk).held (c.lay.ensures.others told).held aside in
     let there = (c.settle_record.ensures.others told).held.stages.laid_out ((c.stage_all.ensures.others told).held.laid_out laid) in
     free_stamp (g.D.Disk.story c.settle_record.new.disk).held c.args.folder.now c.requires.parts there
 
 pub returns-in_err-invalidate-clause-laid_out : goal.returns-in_err-invalidate-clause-laid_out
 returns-in_err-invalidate-clause-laid_out g c told =
-    laid_aside c.args.folder.now _ (g.D.Disk.story c.args.disk.now).held (g.D.Disk.story c.invalidate.new.disk).held c.requires.parts (c.invalidate.ensures.images told).held (c.requires.laid_out told)
+    laid_aside c.args.folder.now (g.D.Disk.story c.args.disk.now).held (g.D.Disk.story c.invalidate.new.disk).held c.requires.parts (c.invalidate.ensures.images told).held (c.requires.laid_out told)
 
 pub returns-in_err-lay-clause-laid_out : goal.returns-in_err-lay-clause-laid_out
 returns-in_err-lay-clause-laid_out g c told =
-    let aside = laid_aside c.args.folder.now _ (g.D.Disk.story c.args.disk.now).held (g.D.Disk.story c.invalidate.new.disk).held c.requires.parts (c.invalidate.ensures.images told).held (c.requires.laid_out told) in
+    let aside = laid_aside c.args.folder.now (g.D.Disk.story c.args.disk.now).held (g.D.Disk.story c.invalidate.new.disk).held c.requires.parts (c.invalidate.ensures.images told).held (c.requires.laid_out told) in
     laid_lays c.args.folder.now c.args.object.now (g.D.Disk.story c.invalidate.new.disk).held (g.D.Disk.story c.lay.new.disk).held (c.lay.ensures.others told).held aside
 
 pub returns-in_err-stage_all-clause-laid_out : goal.returns-in_err-stage_all-clause-laid_out
 returns-in_err-stage_all-clause-laid_out g c told =
-    let aside = laid_aside c.args.folder.now _ (g.D.Disk.story c.args.disk.now).held (g.D.Disk.story c.invalidate.new.disk).held c.requires.parts (c.invalidate.ensures.images told).held (c.requires.laid_out told) in
+    let aside = laid_aside c.args.folder.now (g.D.Disk.story c.args.disk.now).held (g.D.Disk.story c.invalidate.new.disk).held c.requires.parts (c.invalidate.ensures.images told).held (c.requires.laid_out told) in
     let laid = laid_lays c.args.folder.now c.args.object.now (g.D.Disk.story c.invalidate.new.disk).held (g.D.Disk.story c.lay.new.disk).held (c.lay.ensures.others told).held aside in
     (c.stage_all.ensures.others told).held.laid_out laid
 
 pub returns-in_err-settle_record-clause-laid_out : goal.returns-in_err-settle_record-clause-laid_out
 returns-in_err-settle_record-clause-laid_out g c told =
-    let aside = laid_aside c.args.folder.now _ (g.D.Disk.story c.args.disk.now).held (g.D.Disk.story c.invalidate.new.disk).held c.requires.parts (c.invalidate.ensures.images told).held (c.requires.laid_out told) in
+    let aside = laid_aside c.args.folder.now (g.D.Disk.story c.args.disk.now).held (g.D.Disk.story c.invalidate.new.disk).held c.requires.parts (c.invalidate.ensures.images told).held (c.requires.laid_out told) in
     let laid = laid_lays c.args.folder.now c.args.object.now (g.D.Disk.story c.invalidate.new.disk).held (g.D.Disk.story c.lay.new.disk).held (c.lay.ensures.others told).held aside in
     (c.settle_record.ensures.others told).held.stages.laid_out ((c.stage_all.ensures.others told).held.laid_out laid)
 
 pub returns-clause-laid_out : goal.returns-clause-laid_out
 returns-clause-laid_out g c told =
-    let aside = laid_aside c.args.folder.now _ (g.D.Disk.story c.args.disk.now).held (g.D.Disk.story c.invalidate.new.disk).held c.requires.parts (c.invalidate.ensures.images told).held (c.requires.laid_out told) in
+    let aside = laid_aside c.args.folder.now (g.D.Disk.story c.args.disk.now).held (g.D.Disk.story c.invalidate.new.disk).held c.requires.parts (c.invalidate.ensures.images told).held (c.requires.laid_out told) in
     let laid = laid_lays c.args.folder.now c.args.object.now (g.D.Disk.story c.invalidate.new.disk).held (g.D.Disk.story c.lay.new.disk).held (c.lay.ensures.others told).held aside in
     let there = (c.settle_record.ensures.others told).held.stages.laid_out ((c.stage_all.ensures.others told).held.laid_out laid) in
     laid_stamped c.args.folder.now _ (g.D.Disk.story c.settle_record.new.disk).held (g.D.Disk.story c.stamp.new.disk).held c.requires.parts (c.stamp.ensures.images told).held there
@@ -109,7 +111,7 @@ returns-clause-others g c told f is =
     let ready : IsReady c.args.folder.now c.args.name.now c.args.tree.now c.args.object.now c.args.file.now f (g.D.Disk.story c.settle_record.new.disk).held = record {
       work = ready_stages c.args.folder.now c.args.name.now c.args.tree.now c.args.object.now c.args.file.now f (g.D.Disk.story c.stage_all.new.disk).held (g.D.Disk.story c.settle_record.new.disk).held settled_file laid_work;
       shared = object_stages c.args.folder.now c.args.name.now c.args.tree.now c.args.object.now c.args.file.now f (g.D.Disk.story c.stage_all.new.disk).held (g.D.Disk.story c.settle_record.new.disk).held settled_file laid_object;
-      stored = stored_last c.args.folder.now c.args.name.now c.args.tree.now c.args.object.now c.args.file.now f _ (g.D.Disk.story c.args.disk.now).held (g.D.Disk.story c.invalidate.new.disk).held (g.D.Disk.story c.lay.new.disk).held (g.D.Disk.story c.stage_all.new.disk).held (g.D.Disk.story c.settle_record.new.disk).held is
+      stored = stored_last c.args.folder.now c.args.name.now c.args.tree.now c.args.object.now c.args.file.now f (g.D.Disk.story c.args.disk.now).held (g.D.Disk.story c.invalidate.new.disk).held (g.D.Disk.story c.lay.new.disk).held (g.D.Disk.story c.stage_all.new.disk).held (g.D.Disk.story c.settle_record.new.disk).held is
           (c.invalidate.ensures.images told).held (c.lay.ensures.others told).held staged_file settled_file (c.in_ok-settle_record.ensures.stored told);
     } in
     let staged : (g.D.Disk.story c.settle_record.new.disk).held (staged_path c.args.folder.now) ≡ Some (stamp_file c.args.name.now) =
@@ -118,29 +120,29 @@ returns-clause-others g c told f is =
 
 pub returns-in_err-lay-clause-unwritten : goal.returns-in_err-lay-clause-unwritten
 returns-in_err-lay-clause-unwritten g c told was =
-    let one = passes_so SameObjects (c.invalidate.ensures.images told) (λ i j move. objects_aside c.args.folder.now _ i j move) in
-    let kept = object_aside c.args.folder.now c.args.name.now c.args.tree.now c.args.object.now c.args.file.now _ (g.D.Disk.story c.args.disk.now).held (g.D.Disk.story c.invalidate.new.disk).held (c.invalidate.ensures.images told).held was in
+    let one = passes_so SameObjects (c.invalidate.ensures.images told) (λ i j move. objects_aside c.args.folder.now i j move) in
+    let kept = object_aside c.args.folder.now c.args.tree.now c.args.object.now (g.D.Disk.story c.args.disk.now).held (g.D.Disk.story c.invalidate.new.disk).held (c.invalidate.ensures.images told).held was in
     passes_again objects_join one (c.lay.ensures.unwritten told kept)
 
 pub returns-in_err-stage_all-clause-unwritten : goal.returns-in_err-stage_all-clause-unwritten
 returns-in_err-stage_all-clause-unwritten g c told was =
-    let one = passes_so SameObjects (c.invalidate.ensures.images told) (λ i j move. objects_aside c.args.folder.now _ i j move) in
-    let kept = object_aside c.args.folder.now c.args.name.now c.args.tree.now c.args.object.now c.args.file.now _ (g.D.Disk.story c.args.disk.now).held (g.D.Disk.story c.invalidate.new.disk).held (c.invalidate.ensures.images told).held was in
+    let one = passes_so SameObjects (c.invalidate.ensures.images told) (λ i j move. objects_aside c.args.folder.now i j move) in
+    let kept = object_aside c.args.folder.now c.args.tree.now c.args.object.now (g.D.Disk.story c.args.disk.now).held (g.D.Disk.story c.invalidate.new.disk).held (c.invalidate.ensures.images told).held was in
     let two = passes_again objects_join one (c.lay.ensures.unwritten told kept) in
     passes_again objects_join two (passes_so SameObjects (c.stage_all.ensures.others told) (λ i j s. objects_stages c.args.name.now c.args.file.now i j s))
 
 pub returns-in_err-settle_record-clause-unwritten : goal.returns-in_err-settle_record-clause-unwritten
 returns-in_err-settle_record-clause-unwritten g c told was =
-    let one = passes_so SameObjects (c.invalidate.ensures.images told) (λ i j move. objects_aside c.args.folder.now _ i j move) in
-    let kept = object_aside c.args.folder.now c.args.name.now c.args.tree.now c.args.object.now c.args.file.now _ (g.D.Disk.story c.args.disk.now).held (g.D.Disk.story c.invalidate.new.disk).held (c.invalidate.ensures.images told).held was in
+    let one = passes_so SameObjects (c.invalidate.ensures.images told) (λ i j move. objects_aside c.args.folder.now i j move) in
+    let kept = object_aside c.args.folder.now c.args.tree.now c.args.object.now (g.D.Disk.story c.args.disk.now).held (g.D.Disk.story c.invalidate.new.disk).held (c.invalidate.ensures.images told).held was in
     let two = passes_again objects_join one (c.lay.ensures.unwritten told kept) in
     let three = passes_again objects_join two (passes_so SameObjects (c.stage_all.ensures.others told) (λ i j s. objects_stages c.args.name.now c.args.file.now i j s)) in
     passes_again objects_join three (passes_so SameObjects (c.settle_record.ensures.others told) (λ i j s. objects_stages c.args.name.now c.args.file.now i j s.stages))
 
 pub returns-clause-unwritten : goal.returns-clause-unwritten
 returns-clause-unwritten g c told was =
-    let one = passes_so SameObjects (c.invalidate.ensures.images told) (λ i j move. objects_aside c.args.folder.now _ i j move) in
-    let kept = object_aside c.args.folder.now c.args.name.now c.args.tree.now c.args.object.now c.args.file.now _ (g.D.Disk.story c.args.disk.now).held (g.D.Disk.story c.invalidate.new.disk).held (c.invalidate.ensures.images told).held was in
+    let one = passes_so SameObjects (c.invalidate.ensures.images told) (λ i j move. objects_aside c.args.folder.now i j move) in
+    let kept = object_aside c.args.folder.now c.args.tree.now c.args.object.now (g.D.Disk.story c.args.disk.now).held (g.D.Disk.story c.invalidate.new.disk).held (c.invalidate.ensures.images told).held was in
     let two = passes_again objects_join one (c.lay.ensures.unwritten told kept) in
     let three = passes_again objects_join two (passes_so SameObjects (c.stage_all.ensures.others told) (λ i j s. objects_stages c.args.name.now c.args.file.now i j s)) in
     let four = passes_again objects_join three (passes_so SameObjects (c.settle_record.ensures.others told) (λ i j s. objects_stages c.args.name.now c.args.file.now i j s.stages)) in
@@ -156,7 +158,7 @@ returns-clause-published g c told =
     let ready : IsReady c.args.folder.now c.args.name.now c.args.tree.now c.args.object.now c.args.file.now f (g.D.Disk.story c.settle_record.new.disk).held = record {
       work = ready_stages c.args.folder.now c.args.name.now c.args.tree.now c.args.object.now c.args.file.now f (g.D.Disk.story c.stage_all.new.disk).held (g.D.Disk.story c.settle_record.new.disk).held settled_file laid_work;
       shared = object_stages c.args.folder.now c.args.name.now c.args.tree.now c.args.object.now c.args.file.now f (g.D.Disk.story c.stage_all.new.disk).held (g.D.Disk.story c.settle_record.new.disk).held settled_file laid_object;
-      stored = stored_last c.args.folder.now c.args.name.now c.args.tree.now c.args.object.now c.args.file.now f _ (g.D.Disk.story c.args.disk.now).held (g.D.Disk.story c.invalidate.new.disk).held (g.D.Disk.story c.lay.new.disk).held (g.D.Disk.story c.stage_all.new.disk).held (g.D.Disk.story c.settle_record.new.disk).held is
+      stored = stored_last c.args.folder.now c.args.name.now c.args.tree.now c.args.object.now c.args.file.now f (g.D.Disk.story c.args.disk.now).held (g.D.Disk.story c.invalidate.new.disk).held (g.D.Disk.story c.lay.new.disk).held (g.D.Disk.story c.stage_all.new.disk).held (g.D.Disk.story c.settle_record.new.disk).held is
           (c.invalidate.ensures.images told).held (c.lay.ensures.others told).held staged_file settled_file (c.in_ok-settle_record.ensures.stored told);
     } in
     let staged : (g.D.Disk.story c.settle_record.new.disk).held (staged_path c.args.folder.now) ≡ Some (stamp_file c.args.name.now) =
@@ -194,3 +196,8 @@ returns-clause-round g c told =
     let three = leaves_then c.args.folder.now c.args.object.now two (leaves_by_stages c.args.folder.now c.args.object.now (c.stage_all.ensures.others told)) in
     let four = leaves_then c.args.folder.now c.args.object.now three (leaves_by_settles c.args.folder.now c.args.object.now (c.settle_record.ensures.others told)) in
     leaves_then c.args.folder.now c.args.object.now four (leaves_by_stamp c.args.folder.now c.args.object.now (c.stamp.ensures.images told))
+
+pub returns-clause-swept : goal.returns-clause-swept
+returns-clause-swept g c told =
+    on_ok_weaker c.stamp.result (λ gone. swept c.args.folder.now c.args.name.now c.args.object.now c.args.file.now _ (g.D.Disk.story c.args.disk.now).held (g.D.Disk.story c.invalidate.new.disk).held (g.D.Disk.story c.lay.new.disk).held (g.D.Disk.story c.stage_all.new.disk).held (g.D.Disk.story c.settle_record.new.disk).held (g.D.Disk.story c.stamp.new.disk).held
+    (c.invalidate.ensures.images told).held (c.in_ok-invalidate.ensures.swept told) (c.lay.ensures.others told).held (c.in_ok-stage_all.ensures.adds told) (c.settle_record.ensures.others told).held (c.in_ok-settle_record.ensures.swept told) (c.stamp.ensures.images told).held gone) (c.stamp.ensures.swept told)

@@ -3,8 +3,8 @@ use Rattle.tree_model.specs.Path.{IsClean}
 use Rattle.outside_traits.specs.Store.{IsFree}
 use Rattle.outside_traits.proofs.Calls.{renames_passes, syncs_passes, then_same}
 use Rattle.store_model.specs.Paths.{record_path}
-use Rattle.build_store.specs.Paths.{staged_record_path}
-use Rattle.build_store.proofs.Clean.{record_clean, record_short}
+use Rattle.store_opening.specs.Paths.{staged_record_path}
+use Rattle.build_store.proofs.Written.{record_clean, record_short}
 use Rattle.build_store.proofs.Free.{free_record}
 use Rattle.build_store.proofs.publication.rename_record.Goals as goal
 

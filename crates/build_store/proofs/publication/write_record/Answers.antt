@@ -2,8 +2,8 @@ use Rattle.std.proofs.Common.{◌≡◌, ◌∙◌, sym, subst, List, ℕ, arith
 use Rattle.tree_model.specs.Path.{IsClean}
 use Rattle.outside_traits.specs.Store.{IsFree}
 use Rattle.outside_traits.proofs.Calls.{writes_passes}
-use Rattle.build_store.specs.Paths.{staged_record_path}
-use Rattle.build_store.proofs.Clean.{staged_clean, staged_short}
+use Rattle.store_opening.specs.Paths.{staged_record_path}
+use Rattle.build_store.proofs.Written.{staged_clean, staged_short}
 use Rattle.build_store.proofs.Free.{free_staged_record}
 use Rattle.build_store.proofs.publication.write_record.Goals as goal
 

@@ -4,12 +4,12 @@ use Rattle.std.specs.List.{AllByRecursion}
 use Rattle.tree_model.specs.declared.hash.Hash.{Hash}
 use Rattle.outside_traits.specs.Passes.{EachNow}
 use Rattle.build_store.specs.Drafts.{row_of_new, rows_behind}
-use Rattle.build_store.specs.Named.{IsName}
+use Rattle.store_opening.specs.Named.{IsName}
 use Rattle.build_store.specs.Publication.{HoldsObject, IsPublished, object_for, publication}
-use Rattle.build_store.specs.Sound.{IsKept}
+use Rattle.store_opening.specs.Sound.{IsKept}
 use Rattle.store_model.specs.Readable.{IsRow}
 use Rattle.build_store.specs.View.{signed_by}
-use Rattle.build_store.proofs.Clean.{name_is_name}
+use Rattle.store_opening.proofs.Clean.{name_is_name}
 use Rattle.build_store.proofs.Drafted.{line_readable}
 use Rattle.build_store.proofs.Finished.{draft_run, draft_published, keeps_behind, sound_behind}
 use Rattle.build_store.proofs.Stays.{kept_after, object_name}

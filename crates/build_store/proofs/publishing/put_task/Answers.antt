@@ -2,7 +2,7 @@ use Rattle.std.proofs.Common.{◌≡◌, ◌∙◌, sym, subst, List, ℕ}
 use Rattle.stamp_store.specs.Stamp.{IsFolder}
 use Rattle.store_model.specs.Available.{task_folder}
 use Rattle.store_model.specs.Paths.{slashes}
-use Rattle.build_store.proofs.Clean.{folder_is, folder_slashes}
+use Rattle.store_opening.proofs.Clean.{folder_is, folder_slashes}
 use Rattle.build_store.proofs.publishing.put_task.Goals as goal
 
 pub put-requires-clause-folder : goal.put-requires-clause-folder

@@ -1,6 +1,7 @@
 use Rattle.build_store.proofs.Restored.{row_name, object_is, back_run, back_published, back_same}
-use Rattle.std.proofs.Common.{None}
+use Rattle.std.proofs.Common.{None, sym, subst}
 use Rattle.store_model.specs.Available.{task_folder}
+use Rattle.store_model.specs.Opened.{HasNoLitter}
 use Rattle.build_store.proofs.Rounding.{leaves_behind, leaves_same}
 use Rattle.build_store.proofs.restoring.restore_by.Goals as goal
 
@@ -35,3 +36,9 @@ returns-in_ok-put_task-in-Ok-Some-clause-round g c told =
 
 pub returns-in-Ok-None-clause-round : goal.returns-in-Ok-None-clause-round
 returns-in-Ok-None-clause-round g c told = leaves_same (task_folder c.args.task.now) None (c.object_of.ensures.others told)
+
+pub returns-in_ok-put_task-in-Ok-Some-clause-swept : goal.returns-in_ok-put_task-in-Ok-Some-clause-swept
+returns-in_ok-put_task-in-Ok-Some-clause-swept g c told none = c.in_ok-put_task-in-Ok-Some.ensures.swept told (subst HasNoLitter (sym (c.object_of.ensures.others told).held) none)
+
+pub returns-in-Ok-None-clause-swept : goal.returns-in-Ok-None-clause-swept
+returns-in-Ok-None-clause-swept g c told none = subst HasNoLitter (sym (c.object_of.ensures.others told).held) none

@@ -3,8 +3,8 @@ use Rattle.std.proofs.lemmas.Result.{IfOk-weaker, IfErr-weaker}
 use Rattle.meta_model.specs.Base as base
 use Rattle.meta_model.specs.Frozen as frozen
 use Rattle.datastore.specs.Faults.{IsDataFault}
-use Rattle.datastore.specs.Telling.{move_of}
-use Rattle.datastore.specs.Maps.{is_anew}
+use Rattle.value_maps.specs.Telling.{move_of}
+use Rattle.value_maps.specs.Maps.{is_anew}
 use Rattle.datastore.proofs.Retold.{left_anew, moves_back}
 use Rattle.datastore.proofs.freeze.moves_among.Goals as goal
 

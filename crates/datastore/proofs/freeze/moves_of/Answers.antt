@@ -3,7 +3,7 @@ use Rattle.std.proofs.lemmas.Result.{err_from_is_err_and}
 use Rattle.std.proofs.lemmas.List.{map-append}
 use Rattle.meta_model.specs.Frozen as frozen
 use Rattle.datastore.specs.Faults.{IsDataFault}
-use Rattle.datastore.specs.Telling.{move_of}
+use Rattle.value_maps.specs.Telling.{move_of}
 use Rattle.datastore.proofs.Looking.{if_err}
 use Rattle.datastore.proofs.Freezing.{move_fault, move_more}
 use Rattle.meta_model.specs.Passing.{behind}

@@ -1,6 +1,6 @@
 use Rattle.std.proofs.Common.{◌≡◌, map, drop}
 use Rattle.meta_model.specs.Frozen as frozen
-use Rattle.datastore.specs.Telling.{move_of}
+use Rattle.value_maps.specs.Telling.{move_of}
 use Rattle.meta_model.specs.Passing.{behind}
 use Rattle.datastore.proofs.freeze.moves_of.Given as goal
 

@@ -2,7 +2,8 @@ use Rattle.std.proofs.Common.{◌∙◌, ap, sym, subst, ◌+◌, map, drop}
 use Rattle.std.proofs.lemmas.Result.{err_from_is_err_and}
 use Rattle.meta_model.specs.Frozen as frozen
 use Rattle.datastore.specs.Faults.{IsDataFault}
-use Rattle.datastore.specs.Telling.{move_of, parted}
+use Rattle.value_maps.specs.Telling.{move_of}
+use Rattle.datastore.specs.Telling.{parted}
 use Rattle.datastore.proofs.Looking.{if_err}
 use Rattle.datastore.proofs.Freezing.{map_drop, move_step, parted_fault}
 use Rattle.datastore.proofs.freeze.push_moves.Goals as goal

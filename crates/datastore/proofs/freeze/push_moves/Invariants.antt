@@ -1,6 +1,7 @@
 use Rattle.std.proofs.Common.{◌≡◌, map, drop}
 use Rattle.meta_model.specs.Frozen as frozen
-use Rattle.datastore.specs.Telling.{move_of, parted}
+use Rattle.value_maps.specs.Telling.{move_of}
+use Rattle.datastore.specs.Telling.{parted}
 use Rattle.datastore.proofs.freeze.push_moves.Given as goal
 
 abbrev pub invariant-loop-pair : goal.invariant-loop-pair

@@ -2,7 +2,7 @@ use Rattle.std.proofs.Common.{◌≡◌, ◌∙◌, Ok}
 use Rattle.std.proofs.lemmas.Result.{on_ok_weaker, IfErr-weaker}
 use Rattle.meta_model.specs.Frozen as frozen
 use Rattle.datastore.specs.Faults.{IsDataFault}
-use Rattle.datastore.specs.Telling.{move_of}
+use Rattle.value_maps.specs.Telling.{move_of}
 use Rattle.meta_model.specs.Passing.{behind}
 use Rattle.datastore.proofs.Freezing.{told_ok, told_lates_fault}
 use Rattle.datastore.proofs.freeze.push_told.Goals as goal

@@ -12,4 +12,4 @@ returns-in-Err-Unstable c = (refl, sym (entries_settle c.args.store.now) ∙ (rw
 
 pub returns-in-Err-Under : goal.returns-in-Err-Under
 returns-in-Err-Under c =
-    c.refused.ensures (active c.args.store.now) (subst (λ m. IfSome (refusal_of c.in-Err-Under.fault) (λ refusal. m ≡ Err refusal)) (entries_settle c.args.store.now) (rw c.in-Err-Under.field-0-is at c.in-Err-Under.ensures.err))
+    c.without_overrides.ensures (active c.args.store.now) (subst (λ m. IfSome (refusal_of c.in-Err-Under.fault) (λ refusal. m ≡ Err refusal)) (entries_settle c.args.store.now) (rw c.in-Err-Under.field-0-is at c.in-Err-Under.ensures.err))

@@ -10,15 +10,15 @@ use Rattle.datastore.proofs.order.put_order.Goals as goal
 pub returns-in-Some : goal.returns-in-Some
 returns-in-Some c =
     let m = c.args.orders.now in
-    let w = c.put.new.set in
+    let w = c.put_name.new.set in
     let n = c.get_mut.follows.lender w in
     let found : get_by_text m c.args.task.now ≡ Some c.in-Some.set.now = sym c.get_mut.ensures.value ∙ rw c.in-Some.is in
-    on_ok_weaker c.put.result
+    on_ok_weaker c.put_name.result
     (λ (e : (b : List ℕ) → is_some (get_by_text w b) ≡ (bytes_eq c.args.other.now b || is_some (get_by_text c.in-Some.set.now b))).
     order_put (get_by_text m) (get_by_text n) c.args.task.now c.args.other.now w
     (btree_map_updates_text c.args.task.now m n (Some w) ((c.get_mut.follows.holds w).3 (rw found refl)))
     (λ b. e b ∙ ap (λ o. bytes_eq c.args.other.now b || is_noted o b) (sym found)))
-    c.put.ensures
+    c.put_name.ensures
 
 pub returns-in_ok-set-in-None : goal.returns-in_ok-set-in-None
 returns-in_ok-set-in-None c =

@@ -1,6 +1,6 @@
 use Rattle.std.proofs.Common.{ℕ, List, ◌∙◌, ap, ◌++◌, ◌∷◌, [], take, filter, is_some, if◌then◌else◌}
 use Rattle.std.specs.BTreeMap.{get_by_text}
-use Rattle.datastore.proofs.Naming.{filter_turn}
+use Rattle.value_maps.proofs.Naming.{filter_turn}
 use Rattle.datastore.proofs.order.tasks_among.Goals as goal
 
 pub loop-name-preserved : goal.loop-name-preserved

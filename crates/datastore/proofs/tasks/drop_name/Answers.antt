@@ -1,5 +1,5 @@
 use Rattle.std.specs.BTreeMap.{get_by_text}
-use Rattle.datastore.proofs.Sets.{some_drop}
+use Rattle.value_maps.proofs.Sets.{some_drop}
 use Rattle.datastore.proofs.tasks.drop_name.Goals as goal
 
 pub returns : goal.returns

@@ -1,7 +1,7 @@
 use Rattle.std.proofs.Common.{◌∙◌, ap, ◌||◌, is_some, string_bytes}
 use Rattle.std.specs.BTreeMap.{get_by_text}
 use Rattle.std.proofs.lemmas.Map.Text.{btree_map_updates_text}
-use Rattle.datastore.proofs.Sets.{some_put}
+use Rattle.value_maps.proofs.Sets.{some_put}
 use Rattle.recipe_facts.proofs.Fronted.{turned}
 use Rattle.recipe_facts.proofs.names.put.Goals as goal
 

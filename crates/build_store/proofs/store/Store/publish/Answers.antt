@@ -5,3 +5,6 @@ returns-clause-published g c told = rw (← c.self.view_is) (c.publish.ensures.p
 
 pub returns-clause-unwritten : goal.returns-clause-unwritten
 returns-clause-unwritten g c told = rw (← c.self.view_is) (c.publish.ensures.unwritten told)
+
+pub returns-clause-swept : goal.returns-clause-swept
+returns-clause-swept g c told = rw (← c.self.view_is) (c.publish.ensures.swept told)

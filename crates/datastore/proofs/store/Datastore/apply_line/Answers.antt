@@ -1,9 +1,10 @@
 use Rattle.std.proofs.Common.{subst, sym, IfSome}
 use Rattle.meta_model.specs.Active as entries
 use Rattle.datastore.specs.Looked.{IsMeant}
-use Rattle.datastore.specs.Maps.{Keeps}
+use Rattle.value_maps.specs.Maps.{Keeps}
 use Rattle.datastore.specs.Store.{all_entries}
-use Rattle.datastore.proofs.Keeping.{keeps_step, entries_step}
+use Rattle.value_maps.proofs.Keeping.{keeps_step}
+use Rattle.datastore.proofs.Storing.{entries_step}
 use Rattle.datastore.proofs.store.Datastore.apply_line.Goals as goal
 
 pub invariant_of-self-2 : goal.invariant_of-self-2

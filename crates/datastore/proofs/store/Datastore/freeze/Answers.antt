@@ -1,6 +1,6 @@
 use Rattle.std.proofs.Common.{◌∙◌, ap, sym, subst, Ok}
 use Rattle.meta_model.specs.Frozen as frozen
-use Rattle.datastore.specs.Maps.{Keeps}
+use Rattle.value_maps.specs.Maps.{Keeps}
 use Rattle.datastore.specs.Anew.{IsAnew}
 use Rattle.datastore.specs.Store.{all_entries}
 use Rattle.datastore.proofs.Retold.{moved_view, frozen_moved}

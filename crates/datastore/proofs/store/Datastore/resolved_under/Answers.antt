@@ -5,4 +5,4 @@ use Rattle.datastore.proofs.store.Datastore.resolved_under.Goals as goal
 
 pub returns : goal.returns
 returns c =
-    subst (λ l. IfOk c.resolved.result (λ made. made ≡ under.resolved l c.args.active.now c.args.name.now)) c.self.view_is (c.resolved.ensures (all_entries c.self.inside.maps c.self.inside.past.items c.self.inside.entries.items) c.self.invariant.keeps)
+    subst (λ l. IfOk c.resolve.result (λ made. made ≡ under.resolved l c.args.active.now c.args.name.now)) c.self.view_is (c.resolve.ensures (all_entries c.self.inside.maps c.self.inside.past.items c.self.inside.entries.items) c.self.invariant.keeps)

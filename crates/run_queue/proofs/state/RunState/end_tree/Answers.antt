@@ -160,6 +160,7 @@ returns-in-Ok-clause-run g c tells o run output =
     (λ x is. told g.D.Disk.tells (g.D.Disk.story i.store.disk) (g.D.Disk.story store.disk) (publication i.store.rows x c.args.tree.now) tells (c.in-Ok.ensures.puts x is))
     (λ x is. told_put g.D.Disk.tells (g.D.Disk.story store.disk) i.store.rows store.rows x c.args.tree.now tells (c.in-Ok.ensures.put x is))
     c.in-Ok.ensures.readable
+    (c.in-Ok.ensures.swept tells)
     g.D.Disk.tells tells r.0 (ap (option_map known_in) r.1) was c.resettle.new.replan c.resettle.new.fault
     (subst (λ (b : List (Option Avail)). IfSome c.resettle.new.replan (IsCurrent (kept_or_meant (earlier_in r.0) g.D.Disk.tells (g.D.Disk.story store.disk).held store.rows i.options.setscene i.plan.tasks b) (view_of i.plan store.rows))) c.as_slice.ensures.value made)
     c.note.ensures.notes (c.note.ensures.moment tells)

@@ -9,6 +9,7 @@ use Rattle.run_queue.specs.Seen.{RunView, known_in, no_meaning, seen}
 use Rattle.run_queue.proofs.Answered.{known_run, known_there}
 use Rattle.run_queue.proofs.Known.{sound_ordered, state_known, up_to_date}
 use Rattle.run_queue.proofs.Passed.{passed_view}
+use Rattle.run_queue.proofs.Trying.{known_remembers}
 use Rattle.run_queue.proofs.state.RunState.look.Goals as goal
 
 pub known_of-requires-clause-ordered : goal.known_of-requires-clause-ordered
@@ -40,6 +41,13 @@ returns-in-Ok-clause-run g c tells o run =
     let current = subst (λ (b : List (Option Avail)). IsCurrent (meant g.D.Disk.tells (g.D.Disk.story old.disk).held old.rows c.self.inside.options.setscene c.self.inside.plan.tasks b) (record { plan = c.self.inside.plan; rows = old.rows }) c.in-Ok.replan) c.as_slice.ensures.value c.in-Ok.ensures.current in
     let there = known_there o _ run' sound g.D.Disk.tells tells faultless c.in-Ok.replan current in
     passed_view g.D.Disk.story g.W.Sink.written o _ c.known_of.new.store c.self.inside.fault c.in-Ok.ensures.same (c.in-Ok.ensures.images tells) (λ e. e) (known_run o _ (known_in c.in-Ok.replan) run' there)
+
+pub returns-in-Ok-clause-remembers : goal.returns-in-Ok-clause-remembers
+returns-in-Ok-clause-remembers g c unknown =
+    let old = c.self.inside.store in
+    let plan = c.self.inside.plan in
+    let current = subst (λ (b : List (Option Avail)). IsCurrent (meant g.D.Disk.tells (g.D.Disk.story old.disk).held old.rows c.self.inside.options.setscene plan.tasks b) (record { plan = plan; rows = old.rows }) c.in-Ok.replan) c.as_slice.ensures.value c.in-Ok.ensures.current in
+    known_remembers g.D.Disk.tells (g.D.Disk.story old.disk).held old.rows c.self.inside.options.setscene plan c.self.inside.begun.items c.in-Ok.replan (sound_ordered plan c.self.invariant.3.sound) current
 
 pub returns-in-Err-Memory-clause-run : goal.returns-in-Err-Memory-clause-run
 returns-in-Err-Memory-clause-run g c tells o run =

@@ -89,12 +89,14 @@ returns-in-Ok-clause-run g c tells o run =
     (g.met.D.Disk.sound i.store.disk tells) store (g.met.D.Disk.sound store.disk tells) c.in-Ok-true.ensures.books begun begins (set_here i.begun.items c.args.task (Some avails.Object) (omega (arith, lt, long))) puts
     c.note_waiting.new.self c.args.number free
     (λ x is u. subst (λ (f : Bool). HasPutObject g.D.Disk.tells (g.D.Disk.story i.store.disk) (g.D.Disk.story store.disk) i.store.rows x f) c.in-Ok-true.field-0-test (c.in-Ok-true.ensures.restored x is) tells)
+    (c.in-Ok-true.ensures.swept tells)
     n.notes (n.moment tells) n.fault
 
 pub returns-in-Ok-false-clause-restores : goal.returns-in-Ok-false-clause-restores
 returns-in-Ok-false-clause-restores g c =
     let V : Type 0 = RunView g.row.D.Denot g.row.W.Denot in
-    let i = c.self.inside in (
+    let i = c.self.inside in
+    let answer = c.requires.answer in (
       record {
         plan = ap (λ (v : V). v.plan) c.self.view_is;
         options = ap (λ (v : V). v.options) c.self.view_is;
@@ -103,8 +105,15 @@ returns-in-Ok-false-clause-restores g c =
         fault = subst (λ (v : V). v.fault ≡ None) (sym c.self.view_is) c.requires.faultless;
         tale = ap (λ (v : V). v.tale) c.self.view_is;
       },
-      refl,
-      subst (λ (v : V). slice_set (slice_set i.begun.items c.args.task (Some avails.Object)) c.args.task (Some avails.Missing) ≡ slice_set v.begun c.args.task (Some avails.Missing)) c.self.view_is (set_again i.begun.items c.args.task (Some avails.Object) (Some avails.Missing)),
+      record {
+        task = c.args.task;
+        known = answer.known;
+        is_known = answer.is_known;
+        needed = answer.may.0.needed;
+        object = some_known (λ (k : Known). slice_get k.avail c.args.task ≡ Some avails.Object) c.args.self.now.known answer.known answer.is_known c.requires.there;
+        begun = subst (λ (v : V). slice_set (slice_set i.begun.items c.args.task (Some avails.Object)) c.args.task (Some avails.Missing) ≡ slice_set v.begun c.args.task (Some avails.Missing)) c.self.view_is (set_again i.begun.items c.args.task (Some avails.Object) (Some avails.Missing));
+        unknown = refl;
+      },
     )
 
 pub returns-in-Ok-false-clause-run : goal.returns-in-Ok-false-clause-run

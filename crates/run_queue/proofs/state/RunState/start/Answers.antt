@@ -16,7 +16,8 @@ use Rattle.run_queue.specs.Seen.{RunView, Seen, seen}
 use Rattle.run_queue.specs.Turns.{Begins, IsCleanJob, Marks, MayDo, fates_of}
 use Rattle.run_queue.proofs.Agreement.{some_known}
 use Rattle.run_queue.proofs.Passed.{passed_view}
-use Rattle.run_queue.proofs.ReadyJobs.{below_settled, job_is_clean, large_says, may_large, may_start, ready_lt, settles_large, settles_started, started_order, task_at, too_large_order, too_large_over}
+use Rattle.run_queue.proofs.ReadyJobs.{below_settled, job_is_clean, large_says, may_large, may_start, ready_lt, settles_large, settles_started, started_order, task_at, told_missing, too_large_order, too_large_over}
+use Rattle.run_queue.proofs.There.{tells_none}
 use Rattle.run_queue.proofs.Unsettled.{noted_run, noted_text}
 use Rattle.run_queue.proofs.state.RunState.start.Goals as goal
 
@@ -109,6 +110,7 @@ returns-in_ok-note_waiting-in-Ok-Some-clause-run g c tells o run =
     passed
     (may_start o s answer.known c.args.task c.args.number task.0 task.1 run' c.self.invariant.3.orderly answer.is_known now free answer.may _ c.in-Ok-Some.job script.0 clean)
     tt
+    (told_missing o s answer.known c.args.task c.args.number task.0 task.1 run' c.self.invariant.3.orderly answer.is_known now free answer.may)
 
 pub returns-in_ok-note_waiting-in-Ok-None-clause-run : goal.returns-in_ok-note_waiting-in-Ok-None-clause-run
 returns-in_ok-note_waiting-in-Ok-None-clause-run g c tells o run =
@@ -130,6 +132,7 @@ returns-in_ok-note_waiting-in-Ok-None-clause-run g c tells o run =
     passed
     (may_large o s answer.known c.args.task c.args.number task.0 task.1 run' c.self.invariant.3.orderly answer.is_known now free answer.may _ says)
     (inr (says, refl))
+    (tells_none o s.plan s.options s.tale (events.Failed c.args.task why.TooLarge) refl)
 
 pub returns-in-Err-clause-claims : goal.returns-in-Err-clause-claims
 returns-in-Err-clause-claims g c =

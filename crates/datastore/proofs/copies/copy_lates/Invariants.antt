@@ -1,5 +1,0 @@
-use Rattle.std.proofs.Common.{◌≡◌, take}
-use Rattle.datastore.proofs.copies.copy_lates.Given as goal
-
-abbrev pub invariant-loop-late : goal.invariant-loop-late
-invariant-loop-late l = l.made.items ≡ take l.late-index l.lates

@@ -1,8 +1,0 @@
-use Rattle.std.proofs.Common.{◌≡◌, List, filter, take}
-use Rattle.meta_model.specs.declared.entry.EntryLine.{EntryLine}
-use Rattle.meta_model.specs.Base.{is_left}
-use Rattle.datastore.specs.Maps.{Keeps}
-use Rattle.datastore.proofs.maps.Maps.left_among.Given as goal
-
-abbrev pub invariant-loop-name : goal.invariant-loop-name
-invariant-loop-name l = (list : List EntryLine) → Keeps list l.self → l.made ≡ filter (is_left list) (take l.name-index l.keys)

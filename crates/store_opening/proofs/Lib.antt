@@ -1,0 +1,15 @@
+pub mod Areas
+pub mod Clean
+pub mod Doomed
+pub mod Hexed
+pub mod Indexed
+pub mod Marked
+pub mod Opened
+pub mod PnOfPath
+pub mod Reopened
+pub mod Reused
+pub mod SameLines
+pub mod Slashes
+pub mod Sorted
+pub mod StillThere
+pub mod Surveyed

@@ -1,0 +1,339 @@
+-- An opened disk is what its survey says.
+use Rattle.std.proofs.Common.{◌≡◌, ◌≢◌, ◌∙◌, sym, ap, subst, refl, ℕ, zero, suc, ◌⊎◌, inl, inr, Bool, true, false, List, [], ◌∷◌, Option, Some, None, arith, get_or, length, length-append}
+use Rattle.std.specs.Prelude.{codes, Contains, IsSome, slice_get}
+use Rattle.std.specs.Option.{is_some}
+use Rattle.std.specs.List.{AllByRecursion}
+use Rattle.std.proofs.lemmas.Bool.{cases_eq, false≢true}
+use Rattle.std.proofs.lemmas.Option.{get_or_from_slice_get, slice_get-get_or}
+use Rattle.tree_model.specs.Path.{BeginsWith, IsAtOrBelow, IsBelow, inside}
+use Rattle.tree_model.specs.Hash.{hash_text}
+use Rattle.outside_traits.specs.Store.{Store}
+use Rattle.outside_traits.specs.Story.{IsImage, Story}
+use Rattle.outside_traits.specs.Passes.{Passes, Same}
+use Rattle.outside_traits.proofs.Calls.{same_then}
+use Rattle.outside_traits.proofs.Folders.{under_same}
+use Rattle.outside_traits.proofs.Runs.{passes_so}
+use Rattle.outside_traits.proofs.Held.{none_unless}
+use Rattle.outside_traits.proofs.Puts.{bool_cases, path_cases}
+use Rattle.store_model.specs.declared.signature.EquivRow.{EquivRow}
+use Rattle.store_model.specs.declared.candidate.Candidate.{Candidate}
+use Rattle.store_model.specs.Believed.{AreBelieved, IsAmong, IsBelieved, IsBelievedWithin, IsShared}
+use Rattle.store_model.specs.Opened.{AreFound, HasNoLitter, HasWay, IsBelievedRecord, IsElsewhere, IsLeft, IsOpened, IsRecordFile, rows_at}
+use Rattle.store_model.specs.Publication.{stamp_at, work_at}
+use Rattle.store_opening.specs.Opening.{Clears}
+use Rattle.store_opening.specs.Named.{IsName}
+use Rattle.store_opening.specs.Paths.{IsLaidOut}
+use Rattle.store_model.specs.Paths.{record_path, slashes}
+use Rattle.store_model.specs.Readable.{IsHeld, row_of_stored}
+use Rattle.store_opening.specs.Sound.{IsKept}
+use Rattle.store_opening.specs.Survey.{AreMarks, Dooms, DoomsUnbelieved, DoomsUnmarked, IsAt, IsFoundIn, IsOtherArea, IsRecordSurvey, TakesOut}
+use Rattle.store_opening.proofs.Areas.{differ, heads_differ}
+use Rattle.store_opening.proofs.Clean.{name_is_name, name_slashes}
+use Rattle.store_opening.proofs.Hexed.{ways}
+use Rattle.store_opening.proofs.Indexed.{in_range, names_differ}
+use Rattle.store_opening.proofs.Surveyed.{among_of, believed_file, each_of, one_record}
+
+some_one : {A : Type 0} (x y : A) (o : Option A) → o ≡ Some x → o ≡ Some y → x ≡ y
+some_one x y o p q = cc
+
+held_none : (held : Store) (q : List ℕ) → held q ≡ None → IsSome (held q) → ⊥
+held_none held q none some = false≢true (sym (ap is_some none) ∙ some)
+
+-- ---- which candidates go
+
+pub unbelieved_is : (candidates : List Candidate) (places : List ℕ) (marks : List Bool) (old new : List (List ℕ)) → AreMarks (length candidates) places marks → DoomsUnmarked candidates marks (length candidates) old new → DoomsUnbelieved candidates places old new
+unbelieved_is candidates places marks old new are dooms = record { kept = dooms.kept; sound = λ q has. by q (dooms.sound q has); whole = λ k c get. of k c get (bool_cases (get_or marks k false)) }
+  where
+    by : (q : List ℕ) → Contains old q ⊎ ((k : ℕ) × (c : Candidate) × (slice_get candidates k ≡ Some c) × (get_or marks k false ≡ false) × (q ≡ record_path c.name)) → Contains old q ⊎ ((k : ℕ) × (c : Candidate) × (slice_get candidates k ≡ Some c) × (Contains places k → ⊥) × (q ≡ record_path c.name))
+    by q (inl has) = inl has
+    by q (inr w) = inr (w.0, w.1, w.2, λ has. false≢true (sym w.3 ∙ are.marked w.0 has), w.4)
+
+    of : (k : ℕ) (c : Candidate) → slice_get candidates k ≡ Some c → (get_or marks k false ≡ true) ⊎ (get_or marks k false ≡ false) → Contains new (record_path c.name) ⊎ Contains places k
+    of k c get (inl t) = inr (are.listed k t)
+    of k c get (inr f) = inl (dooms.whole k c (in_range candidates k c get) get f)
+
+-- what is believed among some is so among as many
+transfer : (cs ds : List Candidate) → ((c : Candidate) → IsAmong cs c → IsAmong ds c) → (n : ℕ) (c : Candidate) → IsBelievedWithin cs n c → IsBelievedWithin ds n c
+transfer cs ds all zero c b = b
+transfer cs ds all (suc n) c b = record {
+  among = all c b.among;
+  deps = λ i dep at. let w = b.deps i dep at in record { other = w.other; admitted = transfer cs ds all n w.other w.admitted; name_is = w.name_is };
+  unihash = by (λ d. transfer cs ds all n d) b.unihash;
+}
+  where
+    by : ((d : Candidate) → IsBelievedWithin cs n d → IsBelievedWithin ds n d) → (c.stored.unihash ≡ c.name) ⊎ IsShared (IsBelievedWithin cs n) c → (c.stored.unihash ≡ c.name) ⊎ IsShared (IsBelievedWithin ds n) c
+    by more (inl own) = inl own
+    by more (inr s) = inr (record { other = s.other; admitted = more s.other s.admitted; name_is = s.name_is; alike = s.alike })
+
+files_of : (held : Store) (candidates : List Candidate) (c : Candidate) → AreFound held candidates → IsAmong candidates c → IsRecordFile held c
+files_of held candidates c found among = each_of (IsRecordFile held) candidates c found.each (among.0, in_range candidates among.0 c among.1, get_or_from_slice_get candidates among.0 c c among.1)
+
+module _ (held : Store) (candidates : List Candidate) (places : List ℕ) (found : AreFound held candidates) (believed : AreBelieved candidates places) where
+  -- a believed record is at one of the places
+  listed : (k : ℕ) (c d : Candidate) → slice_get candidates k ≡ Some c → IsBelievedRecord held d → record_path c.name ≡ record_path d.name → Contains places k
+  listed k c d at b same =
+      let within = transfer b.candidates candidates (λ x among. found.whole x (files_of held b.candidates x b.found among)) b.believed.0 d b.believed.1 in
+      let w = believed.whole d (b.believed.0, within) in
+      let file_c = files_of held candidates c found (k, at) in
+      let one : c ≡ d = one_record held c d file_c (believed_file held d b) same in
+      place w.0 w.1 w.2 (w.3 ∙ ap (λ x. Some x) (sym one))
+    where
+      place : (i p : ℕ) → slice_get places i ≡ Some p → slice_get candidates p ≡ Some c → Contains places k
+      place i p get there = elim (ways k p) [
+        | inl less ↦ absurd (names_differ candidates k p c c found.ascend less at there refl)
+        | inr (inl same') ↦ (i, in_range places i p get, get_or_from_slice_get places i p k get ∙ sym same')
+        | inr (inr more) ↦ absurd (names_differ candidates p k c c found.ascend more there at refl)
+      ]
+
+  -- one that is at a place is believed
+  left_at : (k : ℕ) (c : Candidate) → slice_get candidates k ≡ Some c → Contains places k → IsBelievedRecord held c
+  left_at k c at has =
+      let w = believed.each has.0 k (slice_get-get_or places has.0 k has.1 ∙ ap (λ n. Some n) has.2) in
+      let one : w.0 ≡ c = some_one w.0 c (slice_get candidates k) w.1 at in
+      record { candidates = candidates; found = found; believed = subst (IsBelieved candidates) one w.2 }
+
+pub record_survey : (held : Store) (candidates : List Candidate) (places : List ℕ) (rejected new : List (List ℕ)) (rows : List EquivRow) → IsFoundIn held candidates rejected → AreBelieved candidates places → DoomsUnbelieved candidates places rejected new → rows ≡ rows_at candidates places → IsRecordSurvey held rows new
+record_survey held candidates places rejected new rows f believed dooms is = record { candidates = candidates; found = f.found; places = places; believed = believed; rows_are = is; not_left = λ q has. by q (dooms.sound q has); whole = λ path some. of path (f.whole path some) }
+  where
+    gone : (k : ℕ) (c : Candidate) (q : List ℕ) → slice_get candidates k ≡ Some c → (Contains places k → ⊥) → q ≡ record_path c.name → IsLeft held q → ⊥
+    gone k c q at never is (inl e) = e.records (inr (hash_text c.name, is))
+    gone k c q at never is (inr (inl b)) = never (listed held candidates places f.found believed k c b.0 at b.1 (sym is ∙ b.2))
+    gone k c q at never is (inr (inr (inl t))) = heads_differ (differ 114 115 refl) (sym is ∙ t.2)
+    gone k c q at never is (inr (inr (inr n))) = held_none held q n (subst IsSome (sym (ap held is ∙ (files_of held candidates c f.found (k, at)).file)) refl)
+
+    by : (q : List ℕ) → Contains rejected q ⊎ ((k : ℕ) × (c : Candidate) × (slice_get candidates k ≡ Some c) × (Contains places k → ⊥) × (q ≡ record_path c.name)) → IsLeft held q → ⊥
+    by q (inl has) = f.not_left q has
+    by q (inr w) = gone w.0 w.1 q w.2 w.3 w.4
+
+    of : (path : List ℕ) → Contains rejected (inside (codes "rec") path) ⊎ ((c : Candidate) × Contains candidates c × (inside (codes "rec") path ≡ record_path c.name)) → Contains new (inside (codes "rec") path) ⊎ IsLeft held (inside (codes "rec") path)
+    of path (inl has) = inl (dooms.kept (inside (codes "rec") path) has)
+    of path (inr w) = let among = among_of candidates w.0 w.1 in which (dooms.whole among.0 w.0 among.1)
+      where
+        which : Contains new (record_path w.0.name) ⊎ Contains places (among_of candidates w.0 w.1).0 → Contains new (inside (codes "rec") path) ⊎ IsLeft held (inside (codes "rec") path)
+        which (inl has) = inl (subst (Contains new) (sym w.2) has)
+        which (inr at) = inr (inr (inl (w.0, left_at held candidates places f.found believed (among_of candidates w.0 w.1).0 w.0 (among_of candidates w.0 w.1).1 at, w.2)))
+
+-- ---- more and more goes
+
+pub dooms_then : (held : Store) (A B : List ℕ → Type 0) (old mid new : List (List ℕ)) → Dooms held A old mid → Dooms held B mid new → Dooms held (λ q. A q ⊎ B q) old new
+dooms_then held A B old mid new first second = record {
+  kept = λ q has. second.kept q (first.kept q has);
+  sound = λ q has. by q (second.sound q has);
+  whole = λ q area some. of q some area;
+}
+  where
+    by : (q : List ℕ) → Contains mid q ⊎ (IsLeft held q → ⊥) → Contains old q ⊎ (IsLeft held q → ⊥)
+    by q (inl has) = first.sound q has
+    by q (inr never) = inr never
+
+    of : (q : List ℕ) → IsSome (held q) → A q ⊎ B q → Contains new q ⊎ IsLeft held q
+    of q some (inl a) = a_of (first.whole q a some)
+      where
+        a_of : Contains mid q ⊎ IsLeft held q → Contains new q ⊎ IsLeft held q
+        a_of (inl has) = inl (second.kept q has)
+        a_of (inr left) = inr left
+    of q some (inr b) = second.whole q b some
+
+-- the six areas besides `rec/`
+pub dooms_areas : (held : Store) (a b c d e f g : List (List ℕ)) → Dooms held (BeginsWith (codes "stamp/")) a b → Dooms held (BeginsWith (codes "tmp/")) b c → Dooms held (IsAt (codes "rec")) c d → Dooms held (IsAt (codes "stamp")) d e → Dooms held (IsAt (codes "tmp")) e f → Dooms held (IsAt (codes "obj")) f g → Dooms held IsOtherArea a g
+dooms_areas held a b c d e f g stamps temporary rec stamp tmp obj =
+    dooms_then held (BeginsWith (codes "stamp/")) (λ q. BeginsWith (codes "tmp/") q ⊎ (IsAt (codes "rec") q ⊎ (IsAt (codes "stamp") q ⊎ (IsAt (codes "tmp") q ⊎ IsAt (codes "obj") q)))) a b g stamps
+    (dooms_then held (BeginsWith (codes "tmp/")) (λ q. IsAt (codes "rec") q ⊎ (IsAt (codes "stamp") q ⊎ (IsAt (codes "tmp") q ⊎ IsAt (codes "obj") q))) b c g temporary
+    (dooms_then held (IsAt (codes "rec")) (λ q. IsAt (codes "stamp") q ⊎ (IsAt (codes "tmp") q ⊎ IsAt (codes "obj") q)) c d g rec
+    (dooms_then held (IsAt (codes "stamp")) (λ q. IsAt (codes "tmp") q ⊎ IsAt (codes "obj") q) d e g stamp
+    (dooms_then held (IsAt (codes "tmp")) (IsAt (codes "obj")) e f g tmp obj))))
+
+-- ---- an opened disk
+
+contains_or : (xs : List (List ℕ)) (q : List ℕ) → Contains xs q ⊎ (Contains xs q → ⊥)
+contains_or [] q = inr (λ has. omega (arith, has.1))
+contains_or (x ∷ xs) q = by (path_cases x q) (contains_or xs q)
+  where
+    by : (x ≡ q) ⊎ (x ≢ q) → Contains xs q ⊎ (Contains xs q → ⊥) → Contains (x ∷ xs) q ⊎ (Contains (x ∷ xs) q → ⊥)
+    by (inl same) rest = inl (0, omega arith, same)
+    by (inr ne) (inl has) = inl (suc has.0, omega (arith, has.1), has.2)
+    by (inr ne) (inr never) = inr no'
+      where
+        no' : Contains (x ∷ xs) q → ⊥
+        no' (zero, lt, is) = ne is
+        no' (suc k, lt, is) = never (k, omega (arith, lt), is)
+
+begins_or : (prefix q : List ℕ) → BeginsWith prefix q ⊎ (BeginsWith prefix q → ⊥)
+begins_or [] q = inl (q, refl)
+begins_or (p ∷ prefix) [] = inr (λ b. let e = b.1 in cc)
+begins_or (p ∷ prefix) (x ∷ q) = by (cases_eq p x) (begins_or prefix q)
+  where
+    by : (p ≡ x) ⊎ (p ≢ x) → BeginsWith prefix q ⊎ (BeginsWith prefix q → ⊥) → BeginsWith (p ∷ prefix) (x ∷ q) ⊎ (BeginsWith (p ∷ prefix) (x ∷ q) → ⊥)
+    by (inl same) (inl b) = inl (b.0, λ i. sym same i ∷ b.1 i)
+    by (inl same) (inr never) = inr (λ b. let e = b.1 in never (b.0, cc))
+    by (inr ne) rest = inr (λ b. let e = b.1 in ne cc)
+
+module _ (held now : Store) (rows : List EquivRow) (first doomed : List (List ℕ)) (survey : IsRecordSurvey held rows first) (others : Dooms held IsOtherArea first doomed) (takes : TakesOut doomed held now) where
+  not_left : (q : List ℕ) → Contains doomed q → IsLeft held q → ⊥
+  not_left q has = by (others.sound q has)
+    where
+      by : Contains first q ⊎ (IsLeft held q → ⊥) → IsLeft held q → ⊥
+      by (inl h) = survey.not_left q h
+      by (inr never) = never
+
+  pub left_stays : (q : List ℕ) → IsLeft held q → now q ≡ held q
+  left_stays q left = takes.others q (λ has. not_left q has left)
+
+  only_left : ((q : List ℕ) → Contains doomed q → now q ≡ None) → (q : List ℕ) → IsSome (now q) → IsLeft held q
+  only_left gone q some = by (contains_or doomed q)
+    where
+      by : Contains doomed q ⊎ (Contains doomed q → ⊥) → IsLeft held q
+      by (inl has) = absurd (held_none now q (gone q has) some)
+      by (inr never) = area (subst IsSome (takes.others q never) some)
+        where
+          in_area : IsSome (held q) → IsOtherArea q → IsLeft held q
+          in_area s a = of (others.whole q a s)
+            where
+              of : Contains doomed q ⊎ IsLeft held q → IsLeft held q
+              of (inl has) = absurd (never has)
+              of (inr left) = left
+
+          in_records : (path : List ℕ) → q ≡ inside (codes "rec") path → IsSome (held q) → IsLeft held q
+          in_records path is s = of (survey.whole path (subst (λ (p : List ℕ). IsSome (held p)) is s))
+            where
+              of : Contains first (inside (codes "rec") path) ⊎ IsLeft held (inside (codes "rec") path) → IsLeft held q
+              of (inl has) = absurd (never (others.kept q (subst (Contains first) (sym is) has)))
+              of (inr left) = subst (IsLeft held) (sym is) left
+
+          area : IsSome (held q) → IsLeft held q
+          area s = elim (begins_or (codes "rec/") q) [
+            | inl r ↦ in_records r.0 r.1 s
+            | inr nr ↦ elim (begins_or (codes "stamp/") q) [
+              | inl st ↦ in_area s (inl st)
+              | inr ns ↦ elim (begins_or (codes "tmp/") q) [
+                | inl t ↦ in_area s (inr (inl t))
+                | inr nt ↦ elim (path_cases q (codes "rec")) [
+                  | inl ar ↦ in_area s (inr (inr (inl ar)))
+                  | inr nar ↦ elim (path_cases q (codes "stamp")) [
+                    | inl as' ↦ in_area s (inr (inr (inr (inl as'))))
+                    | inr nas ↦ elim (path_cases q (codes "tmp")) [
+                      | inl at ↦ in_area s (inr (inr (inr (inr (inl at)))))
+                      | inr nat' ↦ elim (path_cases q (codes "obj")) [
+                        | inl ao ↦ in_area s (inr (inr (inr (inr (inr ao)))))
+                        | inr nao ↦ inl (record { records = none_of (codes "rec") nar nr; stamps = none_of (codes "stamp") nas ns; temporary = none_of (codes "tmp") nat' nt; objects = nao })
+                      ]
+                    ]
+                  ]
+                ]
+              ]
+            ]
+          ]
+            where
+              none_of : (top : List ℕ) → (q ≡ top → ⊥) → (((rest : List ℕ) × (q ≡ inside top rest)) → ⊥) → IsAtOrBelow top q → ⊥
+              none_of top at below (inl e) = at e
+              none_of top at below (inr b) = below b
+
+  pub opened_is : ((q : List ℕ) → Contains doomed q → now q ≡ None) → IsOpened held now rows
+  opened_is gone = record { candidates = survey.candidates; found = survey.found; places = survey.places; believed = survey.believed; rows_are = survey.rows_are; left = left_stays; only = only_left gone }
+
+-- at each moment
+pub clears_by : (held : Store) (rows : List EquivRow) (first doomed : List (List ℕ)) (i j : Store) → IsRecordSurvey held rows first → Dooms held IsOtherArea first doomed → TakesOut doomed i j → Clears held i j
+clears_by held rows first doomed i j survey others takes = record { left = λ q left. takes.others q (λ has. by q (others.sound q has) left) }
+  where
+    by : (q : List ℕ) → Contains first q ⊎ (IsLeft held q → ⊥) → IsLeft held q → ⊥
+    by q (inl h) = survey.not_left q h
+    by q (inr never) = never
+
+-- ---- the run of an opening
+
+module _ {a b m z : Story} (rows : List EquivRow) (first doomed paths : List (List ℕ)) (survey : IsRecordSurvey a.held rows first) (reads : Passes a b Same) (others : Dooms b.held IsOtherArea first doomed) (looks : Passes b m Same) (same : paths ≡ doomed) (takes : Passes m z (TakesOut paths)) where
+  dooms_here : Dooms a.held IsOtherArea first doomed
+  dooms_here = subst (λ (h : Store). Dooms h IsOtherArea first doomed) reads.held others
+
+  pub clears_run : Passes a z (Clears a.held)
+  clears_run = same_then (λ i. record { left = λ q left. refl }) reads (same_then (λ i. record { left = λ q left. refl }) looks (passes_so (Clears a.held) takes (λ i j t. clears_by a.held rows first doomed i j survey dooms_here (subst (λ (l : List (List ℕ)). TakesOut l i j) same t))))
+
+  pub opened_run : (y : Story) → ((q : List ℕ) → Contains paths q → z.held q ≡ None) → y.held ≡ z.held → IsOpened a.held y.held rows
+  opened_run y gone last =
+      let here : m.held ≡ a.held = looks.held ∙ reads.held in
+      let out : TakesOut doomed a.held z.held = subst (λ (h : Store). TakesOut doomed h z.held) here (subst (λ (l : List (List ℕ)). TakesOut l m.held z.held) same takes.held) in
+      let at : IsOpened a.held z.held rows = opened_is a.held z.held rows first doomed survey dooms_here out (λ q has. gone q (subst (λ (l : List (List ℕ)). Contains l q) (sym same) has)) in
+      subst (λ (h : Store). IsOpened a.held h rows) (sym last) at
+
+-- ---- an opened store keeps what every store does
+
+no_slash : (top rest : List ℕ) → top ≡ inside top rest → ⊥
+no_slash top rest is = let long = ap length is in omega (arith, long, length-append top (47 ∷ rest))
+
+module _ (before after : Store) (rows : List EquivRow) (o : IsOpened before after rows) where
+  not_none : (q : List ℕ) → IsSome (after q) → before q ≡ None → ⊥
+  not_none q some n = held_none after q (o.left q (inr (inr (inr n))) ∙ n) some
+
+  record_of : (path : List ℕ) → IsSome (after (inside (codes "rec") path)) → IsLeft before (inside (codes "rec") path) → slashes path ≡ 0
+  record_of path some (inl e) = absurd (e.records (inr (path, refl)))
+  record_of path some (inr (inl b)) = let same : path ≡ hash_text b.0.name = (let e = b.2 in cc) in ap slashes same ∙ name_slashes b.0.name (subst IsName (sym (believed_file before b.0 b.1).name) (name_is_name b.0.stored.sig))
+  record_of path some (inr (inr (inl t))) = absurd (heads_differ (differ 114 115 refl) t.2)
+  record_of path some (inr (inr (inr n))) = absurd (not_none (inside (codes "rec") path) some n)
+
+  stamp_of : (path : List ℕ) → IsSome (after (inside (codes "stamp") path)) → IsLeft before (inside (codes "stamp") path) → slashes path ≡ 1
+  stamp_of path some (inl e) = absurd (e.stamps (inr (path, refl)))
+  stamp_of path some (inr (inl b)) = absurd (heads_differ (differ 115 114 refl) b.2)
+  stamp_of path some (inr (inr (inl t))) = let same : path ≡ t.0 = (let e = t.2 in cc) in ap slashes same ∙ t.1.two
+  stamp_of path some (inr (inr (inr n))) = absurd (not_none (inside (codes "stamp") path) some n)
+
+  temporary_of : (path : List ℕ) → IsSome (after (inside (codes "tmp") path)) → IsLeft before (inside (codes "tmp") path) → ⊥
+  temporary_of path some (inl e) = e.temporary (inr (path, refl))
+  temporary_of path some (inr (inl b)) = heads_differ (differ 116 114 refl) b.2
+  temporary_of path some (inr (inr (inl t))) = heads_differ (differ 116 115 refl) t.2
+  temporary_of path some (inr (inr (inr n))) = not_none (inside (codes "tmp") path) some n
+
+  at_of : (top : List ℕ) → (IsElsewhere top → ⊥) → ((rest : List ℕ) → top ≡ inside (codes "rec") rest → ⊥) → ((rest : List ℕ) → top ≡ inside (codes "stamp") rest → ⊥) → IsSome (after top) → IsLeft before top → ⊥
+  at_of top never not_record not_stamp some (inl e) = never e
+  at_of top never not_record not_stamp some (inr (inl b)) = not_record (hash_text b.0.name) b.2
+  at_of top never not_record not_stamp some (inr (inr (inl t))) = not_stamp t.0 t.2
+  at_of top never not_record not_stamp some (inr (inr (inr n))) = not_none top some n
+
+  pub laid_out_is : IsLaidOut after
+  laid_out_is = record {
+    records = λ path some. record_of path some (o.only (inside (codes "rec") path) some);
+    stamps = λ path some. stamp_of path some (o.only (inside (codes "stamp") path) some);
+    temporary = λ path some. absurd (temporary_of path some (o.only (inside (codes "tmp") path) some));
+    at_records = none_unless (after (codes "rec")) (λ some. at_of (codes "rec") (λ e. e.records (inl refl)) (λ rest is. no_slash (codes "rec") rest is) (λ rest is. heads_differ (differ 114 115 refl) is) some (o.only (codes "rec") some));
+    at_stamps = none_unless (after (codes "stamp")) (λ some. at_of (codes "stamp") (λ e. e.stamps (inl refl)) (λ rest is. heads_differ (differ 115 114 refl) is) (λ rest is. no_slash (codes "stamp") rest is) some (o.only (codes "stamp") some));
+    at_temporary = none_unless (after (codes "tmp")) (λ some. at_of (codes "tmp") (λ e. e.temporary (inl refl)) (λ rest is. heads_differ (differ 116 114 refl) is) (λ rest is. heads_differ (differ 116 115 refl) is) some (o.only (codes "tmp") some));
+  }
+
+  none_after : (q : List ℕ) → before q ≡ None → after q ≡ None
+  none_after q none = o.left q (inr (inr (inr none))) ∙ none
+
+  -- what is held under `stamp/` is a stamp
+  way_of : (path : List ℕ) → IsSome (after (stamp_at path)) → IsLeft before (stamp_at path) → (q : List ℕ) → IsBelow q (work_at path) → after q ≡ None
+  way_of path some (inl e) q up = absurd (e.stamps (inr (path, refl)))
+  way_of path some (inr (inl b)) q up = absurd (heads_differ (differ 115 114 refl) b.2)
+  way_of path some (inr (inr (inl t))) q up = none_after q (t.1.way q (subst (λ (p : List ℕ). IsBelow q (work_at p)) (under_same (codes "stamp") path t.0 t.2) up))
+  way_of path some (inr (inr (inr n))) q up = absurd (not_none (stamp_at path) some n)
+
+  pub has_way : HasWay after × HasNoLitter after
+  has_way = (
+    record {
+      objects = none_unless (after (codes "obj")) (λ some. at_of (codes "obj") (λ e. e.objects refl) (λ rest is. heads_differ (differ 111 114 refl) is) (λ rest is. heads_differ (differ 111 115 refl) is) some (o.only (codes "obj") some));
+      stamps = λ path some. way_of path some (o.only (stamp_at path) some);
+    },
+    λ q below. none_unless (after q) (λ some.
+        let at : IsSome (after (inside (codes "tmp") below.0)) = subst (λ (p : List ℕ). IsSome (after p)) below.1 some in
+        temporary_of below.0 at (o.only (inside (codes "tmp") below.0) at)),
+  )
+
+  row_held : (d : Candidate) → IsBelievedRecord before d → IsHeld after (row_of_stored d.stored)
+  row_held d b =
+      let f = believed_file before d b in
+      record { known = record { stored = d.stored; is = refl; spelled = f.spelled; short = f.short }; held = ap (λ n. after (record_path n)) (sym f.name) ∙ o.left (record_path d.name) (inr (inl (d, b, refl))) ∙ f.file }
+
+  rows_of_places : (places : List ℕ) → ((p : ℕ) (d : Candidate) → Contains places p → slice_get o.candidates p ≡ Some d → IsBelievedRecord before d) → AllByRecursion (IsHeld after) (rows_at o.candidates places)
+  rows_of_places [] all = tt
+  rows_of_places (p ∷ ps) all = by (slice_get o.candidates p) refl (rows_of_places ps (λ k d has at. all k d (suc has.0, omega (arith, has.1), has.2) at))
+    where
+      by : (x : Option Candidate) → slice_get o.candidates p ≡ x → AllByRecursion (IsHeld after) (rows_at o.candidates ps) → AllByRecursion (IsHeld after) (rows_at o.candidates (p ∷ ps))
+      by None e more = rw e more
+      by (Some d) e more = rw e (row_held d (all p d (0, omega arith, refl) e), more)
+
+  pub rows_held : AllByRecursion (IsHeld after) rows
+  rows_held = subst (AllByRecursion (IsHeld after)) (sym o.rows_are) (rows_of_places o.places (λ p d has at. left_at before o.candidates o.places o.found o.believed p d at has))
+
+pub is_kept : (before : Store) (story : Story) (rows : List EquivRow) → IsOpened before story.held rows → ((image : Store) → IsImage story image → image ≡ story.held) → IsKept rows story
+is_kept before story rows o each = record { laid_out = laid_out_is before story.held rows o; stored = λ image img. subst (λ (i : Store). AllByRecursion (IsHeld i) rows) (sym (each image img)) (rows_held before story.held rows o) }

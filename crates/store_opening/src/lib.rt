@@ -1,0 +1,37 @@
+//! Opening the store that runs of plans left on a disk: what is believed of it, what goes, and what then stays so.
+//!
+//! A disk is seen by its story, and an index by its rows, in the order in which they were added. What opening leaves is defined in
+//! `store_model` (`Opened`): the believed records, the stamps above whose work folders nothing is held, and what stands elsewhere.
+//! `specs/Survey` says step by step what is found and what is to go, and `specs/Reopened` what follows.
+//!
+//! Promised of `open_disk`, whatever it answers: at each moment what opening leaves alone is as it was (`Clears`), and the disk failed
+//! only where its count of faults rose. After Ok the disk is opened (`IsOpened`), with the rows of its believed records, and each image
+//! is what is held, and holds their records (`IsKept`).
+//!
+//! So a valid store whose records can be read stays valid, with the same lines in an order that what is held decides
+//! (`opened_is_valid`); what is available stays so (`opened_stays`), and so does what a plan may reuse (`reuse_again`). There is a way
+//! for folders, and nothing is left under `tmp/` (`opened_has_way`).
+//!
+//! Opening reads each file under `rec/` and `stamp/`, and looks once at each folder under `work/` that a stamp tells of a PN for. What the
+//! files under `rec/` say another thread may have worked out before (`Known`, `Ahead`): that counts only where opening reads just these
+//! files, so whatever was left there, no clause is another.
+//!
+//! Want of memory is free. (The Yocto Project Overview and Concepts Manual, "Shared State Cache"; formats and protocol are own rules.)
+#![tactic(auto)]
+
+mod judging;
+mod known;
+mod laws;
+mod opening;
+mod places;
+mod records;
+mod stamps;
+mod survey;
+mod ways;
+
+pub use judging::add_new;
+pub use known::{Ahead, Known};
+pub use laws::{opened_has_way, opened_is_valid, opened_stays, reuse_again};
+pub use opening::open_disk;
+pub use places::{record_path, work_at};
+pub use records::same_bytes;

@@ -1,0 +1,79 @@
+// Opening a disk.
+ghost use Rattle.std.specs.Prelude.{◌≡◌, IfOk, OnOk};
+ghost use Rattle.std.specs.List.{AllByRecursion};
+ghost use Rattle.outside_traits.specs.Fault.{Counts, disk_failed};
+ghost use Rattle.outside_traits.specs.Passes.{EachNow, Passes, Same};
+ghost use Rattle.outside_traits.specs.Story.{IsFresh};
+ghost use Rattle.store_opening.specs.Opening.{Clears};
+ghost use Rattle.store_model.specs.Opened.{IsOpened};
+ghost use Rattle.store_opening.specs.Sound.{IsKept};
+ghost use Rattle.store_model.specs.Readable.{IsRow};
+ghost use Rattle.store_opening.specs.Survey.{Dooms, IsOtherArea, IsRecordSurvey, IsSurveyOf};
+
+use crate::judging::{Survey, survey_of};
+use crate::known::Ahead;
+use crate::records::read_records;
+use crate::survey::{remove_all, survey_at, survey_stamps, survey_temporary};
+use hash_equiv::Index;
+use outside_traits::{Disk, DiskFault};
+use std::alloc::Global;
+use tree_model::{Entry, Mem, Text};
+
+/// What these files under `rec/` say, where it may be known.
+fn known_or_survey(alloc: Global, files: &[(Text, Entry)], ahead: &Ahead) -> Result<Survey, Mem>
+    ensures { IfOk result (λ survey. IsSurveyOf files.now survey.index survey.doomed.items) }
+{
+    match ahead.survey_of(files) {
+        Some(survey) => Ok(survey),
+        None => survey_of(alloc, files),
+    }
+}
+
+/// What the records of a disk say.
+fn survey_records<D: Disk>(alloc: Global, disk: &mut D, ahead: &Ahead) -> Result<Survey, DiskFault>
+    ensures survey { D.tells → IfOk result (λ survey. IsRecordSurvey (D.story disk.old).held survey.index
+        survey.doomed.items) }
+    ensures rows { IfOk result (λ survey. AllByRecursion IsRow survey.index) }
+    ensures others { D.tells → Passes (D.story disk.old) (D.story disk.new) Same }
+    ensures cause { Counts (D.faults disk.old) (D.faults disk.new) (disk_failed result) }
+{
+    let files = read_records(alloc, disk)?;
+    let survey = known_or_survey(alloc, &files, ahead)?;
+    Ok(survey)
+}
+
+/// Puts what is to go outside `rec/` to what goes.
+fn survey_others<D: Disk>(
+    alloc: Global,
+    disk: &mut D,
+    doomed: &mut Vec<Text>,
+) -> Result<(), DiskFault>
+    ensures dooms { D.tells → OnOk result (Dooms (D.story disk.old).held IsOtherArea doomed.old.items
+        doomed.new.items) }
+    ensures others { D.tells → Passes (D.story disk.old) (D.story disk.new) Same }
+    ensures cause { Counts (D.faults disk.old) (D.faults disk.new) (disk_failed result) }
+{
+    survey_stamps(alloc, disk, doomed)?;
+    survey_temporary(alloc, disk, doomed)?;
+    survey_at(alloc, disk, "rec", doomed)?;
+    survey_at(alloc, disk, "stamp", doomed)?;
+    survey_at(alloc, disk, "tmp", doomed)?;
+    survey_at(alloc, disk, "obj", doomed)
+}
+
+/// Clears a disk up, and gives the rows of its believed records.
+pub fn open_disk<D: Disk>(alloc: Global, disk: &mut D, ahead: &Ahead) -> Result<Index, DiskFault>
+    requires fresh { D.tells → IsFresh (D.story disk.old) }
+    ensures opened { D.tells → IfOk result (IsOpened (D.story disk.old).held (D.story disk.new).held) }
+    ensures durable { D.tells → OnOk result (EachNow (D.story disk.new) (λ image. image ≡ (D.story disk.new).held)) }
+    ensures rows { IfOk result (AllByRecursion IsRow) }
+    ensures keeps { D.tells → IfOk result (λ index. IsKept index (D.story disk.new)) }
+    ensures images { D.tells → Passes (D.story disk.old) (D.story disk.new) (Clears (D.story disk.old).held) }
+    ensures cause { Counts (D.faults disk.old) (D.faults disk.new) (disk_failed result) }
+{
+    let mut survey = survey_records(alloc, disk, ahead)?;
+    survey_others(alloc, disk, &mut survey.doomed)?;
+    remove_all(disk, &survey.doomed)?;
+    disk.sync()?;
+    Ok(survey.index)
+}

@@ -1,0 +1,10 @@
+pub mod Sets
+pub mod Picked
+pub mod Flags
+pub mod Rests
+pub mod Steps
+pub mod Naming
+pub mod Winning
+pub mod Keeping
+pub mod Hiding
+pub mod Lines

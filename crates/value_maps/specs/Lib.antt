@@ -1,0 +1,10 @@
+pub mod Kept
+pub mod Named
+pub mod Forms
+pub mod Plain
+pub mod Maps
+pub mod Found
+pub mod Picked
+pub mod Left
+pub mod Keys
+pub mod Telling
