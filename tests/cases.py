@@ -5,7 +5,7 @@ Usage: tests/cases.py [--program FILE] [--data FOLDER] [TOPIC[/NAME] ..]
 The program is the one that the gate built. A case for devices in memory alone is passed over, and one with a run whose devices are to fail
 from that run on; both are counted apart.
 Where a run is refused for a fault of the metadata or a limit, standard error has to explain that by the sentence of docs/faults.tsv and
-nothing else; where it is Ok, nothing stands there. The cases of tests/sentences.tsv have to show just the sentences that stand there.
+nothing else but what may stand behind it (tests/sentences.py); where it is Ok, nothing stands there but the number of remarks. The cases of tests/sentences.tsv have to show just the sentences that stand there.
 The last line is 'N passed, M failed'; the status is 0 where M is 0.
 """
 import argparse
@@ -16,7 +16,7 @@ import subprocess
 import sys
 import tempfile
 
-from sentences import sentences
+from sentences import sentences, without_further
 
 TOP = os.path.dirname(os.path.dirname(os.path.realpath(__file__)))
 ESCAPE = re.compile(rb"\\(?:\{(\d+)\*((?:[^}\\]|\\.)*)\}|x([0-9A-Fa-f]{2})|([ntr\\])|)")
@@ -152,7 +152,8 @@ class Case:
 
     def explained(self, status, text, said):
         """Holds what standard error says of a run to the status and the text. What real files tell besides stands in no case."""
-        said = b"".join(it for it in said.splitlines(True) if not it.startswith((b"bitbake: layers: ", b"bitbake: sandbox: ")))
+        said = b"".join(it for it in said.splitlines(True) if not it.startswith((b"bitbake: layers: ", b"bitbake: lint: ", b"bitbake: sandbox: ")))
+        said = without_further(said.decode(errors="surrogateescape")).encode(errors="surrogateescape")
         self.said += said
         wanted = [it.encode(errors="surrogateescape") for it in sentences(text.decode(errors="surrogateescape"))]
         if status in (3, 10) and said not in wanted or status == 0 and said:

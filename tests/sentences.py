@@ -2,7 +2,8 @@
 """What standard error has to say of a fault of the metadata or a limit, by the line of the fault and the table docs/faults.tsv.
 
 Usage: tests/sentences.py TEXT SAID
-Status 0 where the file SAID is just the sentence of the fault whose line is the file TEXT.
+Status 0 where the file SAID is just the sentence of the fault whose line is the file TEXT, and behind it only what is told besides: who asks
+for what isn't there, what a line looks like, and what is wrong with further recipes, each in a line.
 """
 import os
 import re
@@ -58,10 +59,34 @@ def sentences(text):
     return list(found.values())
 
 
+def further():
+    """The forms of the lines that may stand behind a sentence, without their places."""
+    yield r"\S+ asks for it in \S+"
+    yield r"\S+:\S+ comes after \S+ by this line"
+    yield r"\S+ more ask for it"
+    yield r"\d+ more faults of recipes"
+    yield r"this folder is no project: .*"
+    with open(f"{TOP}/crates/recipe_lint/src/bad_line.rt", encoding="utf-8") as lines:
+        # (each sentence of a mistake is a text of its own there)
+        for text in re.findall(r'(?:^ *|return |=> )"((?:[^"\\]|\\.)+)"', lines.read(), re.M):
+            yield re.escape(text.replace('\\"', '"'))
+    for _, _, _, sentence in rows():
+        yield re.sub(r"<[^<>]+>", ".*", re.escape(sentence.partition("; ")[0]).replace("\\<", "<").replace("\\>", ">"))
+
+
+FURTHER = re.compile("|".join(f"(?:{it})" for it in further()))
+
+
+def without_further(said):
+    """What standard error says, without the lines that may stand behind its first."""
+    first, *rest = said.splitlines(True) or [""]
+    return first + "".join(it for it in rest if not FURTHER.fullmatch(it.rstrip("\n").partition(": ")[2]))
+
+
 def main():
     text, said = (open(it, encoding="utf-8", errors="surrogateescape").read() for it in sys.argv[1:3])
     wanted = sentences(text)
-    if said in wanted:
+    if without_further(said) in wanted:
         return 0
     print(f"of the line {text}standard error says\n{said}wanted\n{''.join(wanted)}", end="")
     return 1

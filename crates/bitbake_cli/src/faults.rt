@@ -56,6 +56,28 @@ pub fn tell_fault(rt: &HostRuntime, status: &Status) {
     tell_more(rt, status);
 }
 
+/// Says what is wrong with a further fault of the metadata, in one line.
+pub fn tell_further(rt: &HostRuntime, status: &Status) {
+    let Status::Metadata {
+        file,
+        line,
+        kind,
+        detail,
+    } = status
+    else {
+        return;
+    };
+    let fault = Fault {
+        file: file.as_str(),
+        line: *line,
+        kind: kind.as_str(),
+        texts: detail.as_slice(),
+    };
+    if let Ok(Some(sentence)) = told_short(rt.alloc(), &fault) {
+        let _ = eprintln!(rt; "{}", sentence.as_str());
+    }
+}
+
 /// Says what the layers passed over: names that aren't UTF-8 and links in the place of folders that were to be listed, and where
 /// nothing provides a name also the links to folders that a listing met.
 pub fn tell_passed(rt: &HostRuntime, status: &Status, layers: &FolderLayers<HostRuntime>) {
@@ -182,6 +204,16 @@ fn told(alloc: Global, fault: &Fault<'_>) -> Result<Option<String>, AllocError> 
     push_filled(&mut made, sentence.wrong, fault.texts)?;
     made.push_str("; ")?;
     push_filled(&mut made, sentence.mend, fault.texts)?;
+    Ok(Some(made))
+}
+
+/// What is wrong alone, with its place in front.
+fn told_short(alloc: Global, fault: &Fault<'_>) -> Result<Option<String>, AllocError> {
+    let Some(sentence) = sentence_of(fault) else {
+        return Ok(None);
+    };
+    let mut made = placed(alloc, fault)?;
+    push_filled(&mut made, sentence.wrong, fault.texts)?;
     Ok(Some(made))
 }
 

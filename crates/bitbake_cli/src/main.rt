@@ -2,28 +2,34 @@
 //!
 //! What is decided is decided in `bitbake_top`, and what it promises is the promise of this program, whatever another thread reads
 //! ahead meanwhile; the devices stand in `outside_os`. Here the words are taken from the system and the devices made, and standard
-//! error tells of what failed: the end of the log of each task, what is wrong with the metadata and what to do, and what a device says
-//! of its first fault.
+//! error tells of what failed: the end of the log of each task, what is wrong with the metadata and what to do, who asks for what isn't
+//! there, and what a device says of its first fault.
+//! `--lint` is a mode of this program alone: its words go to no top call (`linting`, over `recipe_lint`).
 //! `tests/program.sh` tests it by runs.
 #![tactic(auto)]
 
 ghost use Rattle.std.specs.Prelude.{◌≡◌};
 
+mod about;
 mod ahead;
 mod failures;
 mod faults;
+mod linting;
 mod logs;
 mod places;
 mod records;
 mod sentences;
 mod streams;
 
+use about::tell_about;
 use ahead::{is_run, read_ahead};
 use bitbake_top::bitbake;
 use build_store::Ahead;
 use failures::tell_failures;
 use faults::{tell_fault, tell_passed};
+use linting::{asks_for_lint, run_lint, tell_count};
 use outside_os::{FolderDisk, FolderLayers, ReadAhead, Sandboxes, ShBench, StdSink, is_memory};
+use recipe_lint::Counted;
 use std::process::ExitCode;
 use std::sync::Wait;
 use std::thread::{Threads, join};
@@ -58,6 +64,9 @@ fn main(rt: HostRuntime) -> ExitCode {
 /// meanwhile.
 fn run<R: Threads + Wait + Sync>(rt: &HostRuntime, threads: &R) -> io::Result<u8> {
     let words = words_of(rt)?;
+    if asks_for_lint(&words) {
+        return run_lint(rt, &words);
+    }
     let reading = ReadAhead::none();
     let ahead = Ahead::none();
     let mut disk = FolderDisk::new(rt.clone()?);
@@ -94,7 +103,7 @@ fn call<R: Threads + Wait + Sync>(
         benches.push(ShBench::new(rt.clone()?, number, &sandboxes)?)?;
     }
     benches.push(ShBench::new(rt.clone()?, LAST_BENCH, &sandboxes)?)?;
-    let layers = FolderLayers::new(rt.clone()?);
+    let layers = Counted::new(rt.alloc(), FolderLayers::new(rt.clone()?));
     let sink = StdSink::new(rt.clone()?);
     let mut finish = bitbake(
         threads,
@@ -114,9 +123,13 @@ fn call<R: Threads + Wait + Sync>(
         tell(rt, "log", Some("out of memory"));
     }
     tell_fault(rt, &finish.status);
+    tell_about(rt, &finish.status);
     tell_sandboxes(rt, &sandboxes);
-    tell_passed(rt, &finish.status, &finish.layers);
-    tell(rt, "layers", finish.layers.first_fault());
+    if !finish.plans.is_empty() {
+        tell_count(rt, finish.layers.count());
+    }
+    tell_passed(rt, &finish.status, &finish.layers.inner);
+    tell(rt, "layers", finish.layers.inner.first_fault());
     tell(rt, "disk", finish.disk.first_fault());
     for bench in &finish.benches {
         tell(rt, "bench", bench.first_fault());
@@ -136,7 +149,7 @@ fn tell_sandboxes(rt: &HostRuntime, sandboxes: &Sandboxes) {
 }
 
 /// Says on standard error what a device says of its first fault. Where that can't be written the status says it alone.
-fn tell(rt: &HostRuntime, device: &str, fault: Option<&str>) {
+pub(crate) fn tell(rt: &HostRuntime, device: &str, fault: Option<&str>) {
     if let Some(sentence) = fault {
         let _ = eprintln!(rt; "bitbake: {device}: {sentence}");
     }

@@ -1,0 +1,1 @@
+-- Nothing is shared by the proofs of this crate.
