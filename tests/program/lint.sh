@@ -94,7 +94,7 @@ cp "$room/bitbake.conf" conf/bitbake.conf
 
 # With targets, the remarks on their files. A target is found as one of a run, and the mode goes with no other option.
 runs "$bitbake" --lint lib
-wants "the remarks on a target" 0 ''
+holds "no remark on a target" test "$status" -eq 0 -a ! -s "$room/text"
 rm m2/lib_1.0.bb
 runs "$bitbake" app:do_build --lint
 wants "the remarks on another target" 0 "$(printf '%s\n' "$lint_text" | grep '^m1/app')"
@@ -229,6 +229,10 @@ wants "no project" 3 "fault 3 NothingProvides hello"
 tells "that it is none" <<'END'
 bitbake: this folder is no project: it has neither conf/ nor recipes/; go to the folder that has one of them
 END
+
+runs "$bitbake" --lint
+holds "no remark on no project" test "$status" -eq 0
+holds "that it is none, of its remarks" grep -q '^bitbake: this folder is no project: ' "$room/said"
 
 # What a line looks like that is no statement. Each is the recipe's first fault.
 project mistakes

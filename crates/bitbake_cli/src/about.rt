@@ -73,7 +73,7 @@ fn is_absent(rt: &HostRuntime, path: &str) -> bool {
 }
 
 /// Says that the current folder is no project, where it has neither a configuration nor recipes.
-fn tell_no_project(rt: &HostRuntime) {
+pub fn tell_no_project(rt: &HostRuntime) {
     if is_absent(rt, "conf") && is_absent(rt, "recipes") {
         let _ = eprintln!(rt;
             "bitbake: this folder is no project: it has neither conf/ nor recipes/; go to the folder that has one of them"

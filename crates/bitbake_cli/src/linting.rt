@@ -1,5 +1,5 @@
 // The mode that says what is remarked on the metadata, and how many lines show a remark in a run.
-use crate::about::tell_about;
+use crate::about::{tell_about, tell_no_project};
 use crate::faults::{tell_fault, tell_passed};
 use crate::tell;
 use bb_report::{fault_text, write_all};
@@ -86,6 +86,9 @@ pub fn run_lint(rt: &HostRuntime, words: &[Text]) -> io::Result<u8> {
     };
     tell_fault(rt, &status);
     tell_about(rt, &status);
+    if matches!(status, Status::Ok) {
+        tell_no_project(rt);
+    }
     tell_passed(rt, &status, &layers.inner);
     tell(rt, "layers", layers.inner.first_fault());
     tell(rt, "output", sink.first_fault());

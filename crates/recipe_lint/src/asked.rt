@@ -182,11 +182,7 @@ fn put_need<'a>(
 }
 
 /// Puts how the tasks of a ring need each other at the end.
-fn put_ring<'a>(
-    list: &mut Vec<Ask<'a>>,
-    facts: &'a FactSet,
-    ids: &[Text],
-) -> Result<(), Mem> {
+fn put_ring<'a>(list: &mut Vec<Ask<'a>>, facts: &'a FactSet, ids: &[Text]) -> Result<(), Mem> {
     for pair in ids.windows(2) {
         if let [id, needed] = pair {
             put_need(list, facts, id.as_str(), needed.as_str())?;

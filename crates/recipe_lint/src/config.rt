@@ -21,9 +21,7 @@ fn fits(version: &str, wish: &str) -> bool {
 
 /// Whether some recipe has this name and a version that fits.
 fn has_version(recipes: &[ReadRecipe], pn: &str, wish: &str) -> bool {
-    recipes
-        .iter()
-        .any(|recipe| recipe.pn.as_str() == pn && fits(recipe.pv.as_str(), wish))
+    recipes.iter().any(|recipe| recipe.pn.as_str() == pn && fits(recipe.pv.as_str(), wish))
 }
 
 /// Whether a recipe of this name provides the other name.
@@ -183,5 +181,11 @@ pub(crate) fn check_local(
         alloc,
         "nothing includes this file; write include conf/local.conf into conf/bitbake.conf",
     )?;
-    notes.add(alloc, &Place { file, line: 1 }, RemarkKind::NotIncluded, words, "")
+    notes.add(
+        alloc,
+        &Place { file, line: 1 },
+        RemarkKind::NotIncluded,
+        words,
+        "",
+    )
 }

@@ -219,6 +219,11 @@ impl Files {
         self.list.as_slice()
     }
 
+    /// The numbers of the files of the configuration.
+    pub(crate) fn shared(&self) -> &[usize] {
+        self.shared.as_slice()
+    }
+
     /// The file of a number.
     pub(crate) fn get(&self, number: usize) -> Option<&SourceFile> {
         self.list.get(number)

@@ -51,10 +51,12 @@ pub(crate) fn meant_flag(alloc: Global, flag: &str) -> Result<&'static str, Mem>
 }
 
 /// The row of a variable that has no effect.
-pub(crate) fn effect_of(name: &str) -> Option<&'static Effect> {
-    match VARIABLES.iter().find(|row| row.name == name) {
-        Some(row) => Some(row),
-        None => FRONTS.iter().find(|row| name.starts_with(row.name)),
+pub(crate) fn effect_of(name: &[u8]) -> Option<&'static Effect> {
+    match VARIABLES.binary_search_by(|row| row.name.as_bytes().cmp(name)) {
+        Ok(at) => VARIABLES.get(at),
+        Err(_) => FRONTS
+            .iter()
+            .find(|row| name.starts_with(row.name.as_bytes())),
     }
 }
 

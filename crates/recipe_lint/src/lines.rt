@@ -55,33 +55,45 @@ fn cut_name(line: &[u8]) -> (&[u8], &[u8]) {
     }
 }
 
-/// The name that a line assigns to or defines, or an empty text.
-fn name_in(line: &[u8]) -> &str {
+/// The name that a line assigns to or defines, or no bytes.
+fn name_in(line: &[u8]) -> &[u8] {
     let line = line.strip_prefix(b"export ").unwrap_or(line);
     let (front, rest) = cut_name(line);
     if rest.is_empty() || rest.starts_with(b"[") {
-        return "";
+        return b"";
     }
     // (of `+=`, `.=` and `:=` the first sign may stand in a name)
-    let name = match front {
+    match front {
         [name @ .., b'+' | b'.' | b':'] if rest.starts_with(b"=") => name,
         _ => front,
-    };
-    str::from_utf8(name).unwrap_or("")
+    }
+}
+
+/// The part of a name up to its first colon.
+fn first_part_of(name: &[u8]) -> &[u8] {
+    match name.iter().position(|byte| *byte == b':') {
+        Some(end) => name.split_at(end).0,
+        None => name,
+    }
 }
 
 /// Whether a name may have the old spelling: a small letter or a reference stands behind an underscore.
-fn may_be_old(name: &str) -> bool {
-    name.as_bytes()
-        .windows(2)
+fn may_be_old(name: &[u8]) -> bool {
+    name.windows(2)
         .any(|pair| matches!(pair, [b'_', b'a' | b'p' | b'r' | b'$']))
 }
 
+/// Whether a name has the old spelling.
+fn is_old(alloc: Global, name: &[u8]) -> Result<bool, Mem> {
+    match str::from_utf8(name) {
+        Ok(name) => Ok(new_spelling(alloc, name)?.is_some()),
+        Err(_) => Ok(false),
+    }
+}
+
 /// Whether a name is that of a variable without effect to which projects seldom refer.
-fn is_idle(name: &str) -> bool {
-    name.starts_with(|c: char| c.is_ascii_uppercase())
-        && effect_of(name).is_some()
-        && !OFTEN_READ.iter().any(|known| *known == name)
+fn is_idle(name: &[u8]) -> bool {
+    effect_of(name).is_some() && !OFTEN_READ.iter().any(|known| known.as_bytes() == name)
 }
 
 /// Notes what a line shows at which a statement begins.
@@ -90,17 +102,14 @@ fn note_line(shown: &mut Shown, alloc: Global, line: &[u8]) -> Result<(), Mem> {
     if name.is_empty() {
         return Ok(());
     }
-    if may_be_old(name) && new_spelling(alloc, name)?.is_some() {
+    if may_be_old(name) && is_old(alloc, name)? {
         shown.spelled = shown.spelled.saturating_add(1);
     }
-    let first = match name.split_once(':') {
-        Some((first, _)) => first,
-        None => name,
-    };
+    let first = first_part_of(name);
     if is_idle(first) {
         shown.idle = shown.idle.saturating_add(1);
     }
-    if first == "BB_LINT_SKIP" {
+    if first == b"BB_LINT_SKIP".as_slice() {
         note_skips(shown, line);
     }
     Ok(())

@@ -156,7 +156,5 @@ pub(crate) fn is_capital_name(name: &str) -> bool {
     };
     begins
         && bytes.len() > 1
-        && bytes
-            .iter()
-            .all(|c| c.is_ascii_uppercase() || c.is_ascii_digit() || *c == b'_')
+        && bytes.iter().all(|c| c.is_ascii_uppercase() || c.is_ascii_digit() || *c == b'_')
 }

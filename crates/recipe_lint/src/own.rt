@@ -71,13 +71,9 @@ impl<'a> Own<'a> {
     }
 }
 
-/// Remarks on a task without a function that isn't `[noexec]`.
-fn check_function(
-    alloc: Global,
-    own: &Own<'_>,
-    task: &str,
-    notes: &mut Notes,
-) -> Result<(), Mem> {
+/// Remarks on a task without a function that isn't `[noexec]`. Of one that a class adds it is for the recipe to have a function or none, so
+/// there it is remarked only where a function's name is near.
+fn check_function(alloc: Global, own: &Own<'_>, task: &str, notes: &mut Notes) -> Result<(), Mem> {
     if own.has_flag(alloc, task, "func")? || own.has_flag(alloc, task, "noexec")? {
         return Ok(());
     }
@@ -85,6 +81,7 @@ fn check_function(
         return Ok(());
     };
     let words = match own.near_function(alloc, task)? {
+        "" if place.file.ends_with(".bbclass") => return Ok(()),
         "" => format!(in alloc;
             "the task {task} has no function, so it runs nothing; write {task}() {{, or set {task}[noexec] = \"1\""
         )?,
@@ -117,7 +114,9 @@ fn check_inputs(
         let name = file_name(path);
         if let Some(before) = paths.get(name)
             && *before != path
-            && let Some(place) = own.files.place_in(own.reads, Sought::Flag(task, "file-checksums"))
+            && let Some(place) = own
+                .files
+                .place_in(own.reads, Sought::Flag(task, "file-checksums"))
         {
             let words = format!(in alloc;
                 "{task} has two input files of the name {name}: {before} and {path}; it finds the last one alone"

@@ -111,6 +111,7 @@ fn take_recipe(
     };
     check_own(alloc, &own, notes)?;
     note_keyed(alloc, files, reads.as_slice(), store, &mut all.set)?;
+    note_keyed(alloc, files, files.shared(), store, &mut all.set)?;
     for task in facts.tasks.as_slice() {
         files.put_task(alloc, reads.as_slice(), task.task.as_str())?;
         put_name(&mut all.tasks, alloc, task.task.as_str())?;

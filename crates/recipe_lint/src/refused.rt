@@ -49,7 +49,10 @@ fn is_same(one: &Status, other: &Status) -> bool {
 fn is_own_fault(status: &Status) -> bool {
     match status {
         Status::Metadata {
-            file, line, kind, ..
+            file,
+            line,
+            kind,
+            ..
         } => !file.as_str().is_empty() && (*line > 0 || kind.as_str() == "BadName"),
         _ => false,
     }

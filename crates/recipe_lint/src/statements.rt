@@ -60,7 +60,7 @@ fn check_name(
     if known.referred.get(first).is_some() {
         return Ok(());
     }
-    check_effect(alloc, place, first, effect_of(first), notes)
+    check_effect(alloc, place, first, effect_of(first.as_bytes()), notes)
 }
 
 /// Remarks on an assignment to a flag.
@@ -148,7 +148,10 @@ fn check_unset(
 ) -> Result<(), Mem> {
     let mut near = Near::to(name);
     for (other, _) in &known.set {
-        near.look(alloc, other.as_str())?;
+        // (there may be thousands, and a first letter is seldom wrong)
+        if other.as_bytes().first() == name.as_bytes().first() {
+            near.look(alloc, other.as_str())?;
+        }
     }
     let words = match near.best() {
         "" => format!(in alloc; "{name} is set nowhere, so ${{{name}}} stays as it stands")?,
