@@ -2,7 +2,8 @@
 # bash-completion looks; without that, `. bin/completion.bash`.
 #
 # Names are those of `bitbake -s` in the current folder, kept for ten seconds; tasks are those of the recipe that `-n` plans, and its functions
-# do_.. that `-e` prints. A project that is refused has none. Nothing is built for it.
+# do_.. that `-e` prints. A project that is refused has none. Where no target is typed yet, tasks are those of all lines `addtask`. A task may be
+# typed without its do_. Nothing is built for it.
 
 # What the program prints in the current folder.
 _bitbake_asks() {
@@ -30,33 +31,47 @@ _bitbake_tasks() {
     } | sort -u)
 }
 
+# Sets `found` to the tasks of the option -c: those of the target that a line has, or all that files below the current folder add.
+_bitbake_tasks_for() {
+    is_task=yes
+    if [[ -n $1 ]]; then
+        _bitbake_tasks "$1"
+    else
+        found=$(grep -rhE --include='*.bb' --include='*.bbappend' --include='*.bbclass' --include='*.inc' --exclude-dir=build \
+            '^[[:space:]]*addtask[[:space:]]' . 2>/dev/null | awk '{
+                for (k = 2; k <= NF && $k != "after" && $k != "before"; k++) print ($k ~ /^do_/ ? "" : "do_") $k
+            }' | sort -u)
+    fi
+}
+
 # The reply for what bash has at the cursor. Bash cuts words at colons and equals signs, so the word is taken from the line, and what stands
 # in front of its last such sign is left out of the reply.
 _bitbake() {
-    local program=${1/#\~\//$HOME/} line=${COMP_LINE:0:COMP_POINT} found='' word before typed target
+    local program=${1/#\~\//$HOME/} line=${COMP_LINE:0:COMP_POINT} found='' is_task='' word before typed target
     word=${line##*[[:space:]]}
     before=${line%"$word"}
     before=${before%"${before##*[![:space:]]}"}
     before=${before##*[[:space:]]}
     typed=$word
-    target=$(_bitbake_target "$line")
+    target=$(_bitbake_target "${line%"$word"}${word:-_}${COMP_LINE:COMP_POINT}")
     case $before,$word in
-        -c,* | --cmd,*) [[ -z $target ]] || _bitbake_tasks "$target" ;;
+        -c,* | --cmd,*) _bitbake_tasks_for "$target" ;;
         *,--cmd=*)
             typed=${word#--cmd=}
-            [[ -z $target ]] || _bitbake_tasks "$target"
+            _bitbake_tasks_for "$target"
             ;;
         *,-*)
-            found='-c -f -k -n -e -s -p --cmd --force --continue --dry-run --environment --show-versions --parse-only --no-setscene --sample'
+            found='-c -f -k -n -e -s -p --cmd --force --continue --dry-run --environment --show-versions --parse-only --no-setscene --lint --sample'
             ;;
         *,*:*)
             typed=${word#*:}
+            is_task=yes
             _bitbake_tasks "${word%%:*}"
             ;;
         *) _bitbake_names ;;
     esac
     mapfile -t COMPREPLY < <(compgen -W "$found" -- "$typed")
-    if [[ ${#COMPREPLY[@]} -eq 0 && $typed != "$word" ]]; then
+    if [[ ${#COMPREPLY[@]} -eq 0 && -n $is_task ]]; then
         # (a task's name without do_)
         mapfile -t COMPREPLY < <(compgen -W "${found//do_/}" -- "$typed")
     fi

@@ -291,37 +291,40 @@ sizes_beyond_the_formats() {
 reasons_of_missing_files() {
     project reasons
     recipe hello 'echo hello > hello.txt'
-    mkdir ../away && mv recipes ../away/ && ln -s ../away/recipes recipes
+    mkdir ../away && mv recipes ../away/ && ln -s ../gone recipes
     runs "$program" -p
-    holds "linked recipes" test "$status $(cat "$room/text")" = "0 parsed 0 recipes"
-    holds "they are told" said "bitbake: layers: recipes is a link, and no folder is entered through one"
+    holds "recipes behind a link that leads nowhere" test "$status $(cat "$room/text")" = "0 parsed 0 recipes"
+    holds "they are told" said "bitbake: layers: recipes is a link that leads to no folder"
     runs "$program" hello
     holds "a target among them" test "$status $(cat "$room/text")" = "3 fault 3 NothingProvides hello"
-    holds "the link is told" said "bitbake: layers: recipes is a link, and no folder is entered through one"
-    rm recipes && mkdir recipes && cp ../away/recipes/hello.bb recipes/ && ln -s ../../away/recipes recipes/more
-    mkdir conf && printf 'BBFILES = "recipes/*.bb recipes/*/*.bb"\n' >conf/bitbake.conf && recipe other : && mv recipes/other.bb ../away/recipes/
+    holds "the link is told" said "bitbake: layers: recipes is a link that leads to no folder"
+    rm recipes && mkdir -p meta/recipes conf && cp ../away/recipes/hello.bb meta/recipes/ && ln -s .. meta/recipes/round
+    printf 'BBFILES = "meta/recipes/*.bb meta/recipes/*/*/*.bb"\n' >conf/bitbake.conf
     runs "$program" other
-    holds "a recipe behind a linked folder" said "bitbake: layers: recipes/more is a link, and no folder is entered through one"
-    rm -r conf recipes/more
+    holds "a link to a folder above" said "bitbake: layers: meta/recipes/round is a link to a folder that is listed elsewhere, or that holds the project, and isn't entered"
+    rm -r conf meta && mkdir recipes && cp ../away/recipes/hello.bb recipes/
 
-    mkdir ../away/classes && : >../away/classes/c.bbclass && ln -s ../away/classes classes && printf 'inherit c\n' >>recipes/hello.bb
+    printf 'inherit c\n' >>recipes/hello.bb && ln -s ../away/classes classes
     runs "$program" -p
-    holds "linked classes" test "$status $(cat "$room/text")" = "3 fault 3 recipes/hello.bb:4: MissingClass c" -o "$status" -eq 3
-    holds "the link of the classes" said "bitbake: layers: classes is a link to a folder, and no folder is entered through a link"
+    holds "classes behind a link that leads nowhere" test "$status $(cat "$room/text")" = "3 fault 3 recipes/hello.bb:4: MissingClass c" -o "$status" -eq 3
+    holds "the link of the classes" said "bitbake: layers: classes is a link that leads nowhere"
     rm classes && recipe hello 'echo hello > hello.txt'
 
-    mkdir -p conf ../away/meta/conf && : >../away/meta/conf/layer.conf && : >conf/bitbake.conf && ln -s ../away/meta linked
+    mkdir -p conf bare && : >conf/bitbake.conf && ln -s ../away/meta linked && : >plain
     printf 'BBLAYERS = "%s"\n' "$room/away/meta" >conf/bblayers.conf
     runs "$program" -p
     holds "a layer outside" test "$status" -eq 3
-    holds "that it lies there" said "bitbake: layers: $room/away/meta/conf/layer.conf doesn't lead from the project's folder to something in it, and nothing else is read"
+    holds "that it lies there" said "bitbake: layers: $room/away/meta/conf/layer.conf doesn't lead from the project's folder to something in it, and nothing else is read; a link in the project may lead there"
     printf 'BBLAYERS = "../away/meta"\n' >conf/bblayers.conf
     runs "$program" -p
-    holds "a layer above" said "bitbake: layers: ../away/meta/conf/layer.conf doesn't lead from the project's folder to something in it, and nothing else is read"
-    printf 'BBLAYERS = "linked"\n' >conf/bblayers.conf
-    runs "$program" -p
-    holds "a linked layer" said "bitbake: layers: linked is a link to a folder, and no folder is entered through a link"
-    rm -r conf
+    holds "a layer above" said "bitbake: layers: ../away/meta/conf/layer.conf doesn't lead from the project's folder to something in it, and nothing else is read; a link in the project may lead there"
+    for words in "linked:linked is a link that leads nowhere" "gone:there is no folder gone" "plain:plain is no folder" \
+        "bare:the folder bare is there, and has no file conf/layer.conf"; do
+        printf 'BBLAYERS = "%s"\n' "${words%%:*}" >conf/bblayers.conf
+        runs "$program" -p
+        holds "the layer ${words%%:*}" said "bitbake: layers: ${words#*:}"
+    done
+    rm -r conf linked bare plain
 
     mkdir -p files/folder && ln -s folder files/linked && ln -s nowhere files/lost
     for word in folder linked lost; do
@@ -331,10 +334,31 @@ reasons_of_missing_files() {
         holds "$word among file-checksums" test "$status $(cat "$room/text")" = "3 fault 3 recipes/hello.bb: MissingFile files/$word"
         case $word in
             folder) holds "it is a folder" said "bitbake: layers: files/folder is a folder" ;;
-            linked) holds "it is a link to a folder" said "bitbake: layers: files/linked is a link to a folder, and no folder is entered through a link" ;;
+            linked) holds "it leads to a folder" said "bitbake: layers: files/linked is a folder" ;;
             lost) holds "it leads nowhere" said "bitbake: layers: files/lost is a link that leads nowhere" ;;
         esac
     done
+}
+
+# Folders of layers that are links to folders, in the project and outside of it: what is read through them is read as if it stood there.
+links_to_folders() {
+    project through
+    rm -r recipes && mkdir -p ../far/meta/recipes ../far/meta/conf ../far/meta/classes ../far/src ../far/own conf
+    printf 'BBPATH .= ":${LAYERDIR}"\nBBFILES += "${LAYERDIR}/recipes/*.bb"\n' >../far/meta/conf/layer.conf
+    printf 'do_share() {\n    cat "$FILESDIR"/* > share.txt\n}\naddtask share\n' >../far/meta/classes/share.bbclass
+    printf 'inherit share\ndo_share[file-checksums] = "recipes/src/one:True"\n' >../far/meta/recipes/far.bb
+    echo one >../far/src/one && printf 'do_build() {\n    echo own > own.txt\n}\naddtask build\n' >../far/own/own.bb
+    ln -s ../far/meta meta && ln -s ../far/own recipes && ln -s ../src ../far/own/src && ln -s ../../.. ../far/own/up
+    printf 'BBLAYERS = "meta"\n' >conf/bblayers.conf && printf 'BBFILES += "recipes/*.bb"\n' >conf/bitbake.conf
+    runs "$program" far:do_share own
+    holds "a layer, recipes and input files behind links" test "$status" -eq 0
+    holds "what they give" test "$(cat build/work/far/do_share/share.txt build/work/own/do_build/own.txt | tr '\n' ' ')" = "one own "
+    runs "$program" far:do_share own
+    holds "they are found" test "$(sed -n '$p' "$room/text")" = "ok 2 found, 0 restored, 0 started"
+    echo two >../far/src/one
+    runs "$program" far:do_share own
+    holds "an edit behind a link" test "$(sed -n '$p' "$room/text")" = "ok 1 found, 0 restored, 1 started"
+    rm -r ../far
 }
 
 # A preference that names none of those that provide a name.
@@ -383,6 +407,7 @@ patterns_in_folders
 odd_names_below_build
 sizes_beyond_the_formats
 reasons_of_missing_files
+links_to_folders
 a_preference_of_none
 the_record_of_an_unsteady_task
 

@@ -11,19 +11,20 @@ bitbake: hello:do_build failed with status 3; its log is build/bench/log/hello/d
 END
 holds "its log is kept" test -f build/bench/log/hello/do_build -a ! -s build/bench/log/hello/do_build
 
-# Of a long log the last 20 lines are shown, byte for byte, and all of it is kept.
-recipe hello 'seq 1 200000; printf "the \\377 end" >&2; exit 4'
+# Of a long log the last 20 lines are shown, what is no text of them escaped and long ones cut, and all of it is kept.
+recipe hello 'seq 1 200000; head -c 500 /dev/zero | tr "\\000" y; echo; printf "a\\tb\\033[1m \\302\\205 the \\377 end" >&2; exit 4'
 runs "$bitbake" hello
 wants "a body that talks and fails" 1 "$plan
 failed hello:do_build status 4
 fault 1 failed: hello:do_build"
 {
     echo 'bitbake: hello:do_build failed with status 4; its log is build/bench/log/hello/do_build, which ends with'
-    seq 199982 200000 | sed 's/^/| /'
-    printf '| the \377 end\n'
+    seq 199983 200000 | sed 's/^/| /'
+    printf '| %s ..\n' "$(head -c 400 /dev/zero | tr '\000' y)"
+    printf '| a\tb\\x1b[1m \\u{85} the \\xff end\n'
 } >"$room/end"
 says "the end of its log" <"$room/end"
-holds "all of its log" test "$(wc -l <build/bench/log/hello/do_build)" -eq 200000
+holds "all of its log" test "$(wc -l <build/bench/log/hello/do_build)" -eq 200001
 
 # Where something stands in a log's place, the log stays where the bench keeps it, and the run's status stays.
 rm -r build/bench/log && echo file >build/bench/log
@@ -32,7 +33,7 @@ runs "$bitbake" hello
 wants "a log that has no place" 1 "$plan
 failed hello:do_build status 5
 fault 1 failed: hello:do_build"
-kept=$(echo build/bench/failed/*/0)
+kept=$(echo build/bench/*/log build/bench/at/hello/do_build/log | tr ' ' '\n' | grep -v '\*' | while read -r log; do test -f "$log" && echo "$log"; done)
 says "the log where it is" <<END
 bitbake: hello:do_build failed with status 5; its log is $kept, which ends with
 | first
@@ -87,7 +88,7 @@ bitbake: other:do_build failed with status 4; its log is build/bench/log/other/d
 END
 holds "the log of the one" test "$(cat build/bench/log/hello/do_build)" = one
 holds "the log of the other" test "$(cat build/bench/log/other/do_build)" = two
-holds "no other log" test "$(find build/bench/log build/bench/failed -type f | wc -l)" -eq 2
+holds "no other log" test "$(find build/bench/log -type f | wc -l)" -eq 2
 
 project kills
 recipe hello 'kill -9 $$'

@@ -47,7 +47,7 @@ for line in "$@"; do
 done
 END
     bash --norc --noprofile "$room/completed" "$top" "$bitbake" 'bitbake ' 'bitbake -k gr' 'bitbake --no' 'bitbake greet:' 'bitbake app greet:do_c' \
-        'bitbake greet:comp' 'bitbake app -c do_b' 'bitbake -c do_b' 'bitbake nosuch:' >"$room/text" 2>&1
+        'bitbake greet:comp' 'bitbake app -c do_b' 'bitbake app -c pop' 'bitbake -c do_b' 'bitbake -c pop' 'bitbake --cmd=pop' 'bitbake nosuch:' >"$room/text" 2>&1
     status=$?
     wants "what bash completes" 0 'bitbake : app  greet
 bitbake -k gr: greet
@@ -56,7 +56,10 @@ bitbake greet:: do_build  do_compile  do_configure  do_install  do_populate_sysr
 bitbake app greet:do_c: do_compile  do_configure
 bitbake greet:comp: compile
 bitbake app -c do_b: do_build
-bitbake -c do_b:
+bitbake app -c pop: populate_sysroot
+bitbake -c do_b: do_build
+bitbake -c pop: populate_sysroot
+bitbake --cmd=pop: populate_sysroot
 bitbake nosuch::'
     holds "nothing is built for it" test ! -e build
     (cd "$room/clone" && PATH=$room/tools:$PATH BITBAKE_NO_BUILD=1 bin/bitbake -s) >"$room/text" 2>&1

@@ -1,6 +1,6 @@
 // What is wrong where a run ends with a fault of the metadata, a limit, or a task that gave something else than before, as standard
 // error tells it.
-use crate::places::reason_at;
+use crate::places::{layer_reason, reason_at};
 use crate::records::tell_records;
 use crate::sentences::{SENTENCES, Sentence};
 use meta_model::Status;
@@ -27,7 +27,7 @@ pub fn tell_fault(rt: &HostRuntime, status: &Status) {
             line,
             kind,
             detail,
-        } => told(
+        } => sentence_for(
             rt.alloc(),
             &Fault {
                 file: file.as_str(),
@@ -73,13 +73,13 @@ pub fn tell_further(rt: &HostRuntime, status: &Status) {
         kind: kind.as_str(),
         texts: detail.as_slice(),
     };
-    if let Ok(Some(sentence)) = told_short(rt.alloc(), &fault) {
+    if let Ok(Some(sentence)) = short_sentence_for(rt.alloc(), &fault) {
         let _ = eprintln!(rt; "{}", sentence.as_str());
     }
 }
 
-/// Says what the layers passed over: names that aren't UTF-8 and links in the place of folders that were to be listed, and where
-/// nothing provides a name also the links to folders that a listing met.
+/// Says what the layers passed over: names that aren't UTF-8 and links that lead to no folder where one was to be listed, and where
+/// nothing provides a name also the links to folders that a listing met and didn't enter.
 pub fn tell_passed(rt: &HostRuntime, status: &Status, layers: &FolderLayers<HostRuntime>) {
     for remark in layers.remarks() {
         let _ = eprintln!(rt; "bitbake: layers: {}", remark.as_str());
@@ -127,10 +127,7 @@ fn tell_more(rt: &HostRuntime, status: &Status) {
 /// Why what a fault of this kind names counts as missing, as far as the real files tell.
 fn reason_for(rt: &HostRuntime, file: &str, kind: &str, text: &str) -> io::Result<Option<String>> {
     match kind {
-        "NoSuchLayer" => reason_at(
-            rt,
-            format!(in rt.alloc(); "{text}/conf/layer.conf")?.as_str(),
-        ),
+        "NoSuchLayer" => layer_reason(rt, text),
         "MissingClass" => reason_at(
             rt,
             format!(in rt.alloc(); "classes/{text}.bbclass")?.as_str(),
@@ -152,7 +149,7 @@ fn reason_for(rt: &HostRuntime, file: &str, kind: &str, text: &str) -> io::Resul
 
 /// The sentence of a kind without a place.
 fn told_of(alloc: Global, kind: &str, texts: &[Text]) -> Result<Option<String>, AllocError> {
-    told(
+    sentence_for(
         alloc,
         &Fault {
             file: "",
@@ -196,11 +193,11 @@ fn first_other<'a>(held: &'a [ManifestLine], given: &'a [ManifestLine]) -> &'a s
 }
 
 /// The sentence of a fault, with its place in front.
-fn told(alloc: Global, fault: &Fault<'_>) -> Result<Option<String>, AllocError> {
+fn sentence_for(alloc: Global, fault: &Fault<'_>) -> Result<Option<String>, AllocError> {
     let Some(sentence) = sentence_of(fault) else {
         return Ok(None);
     };
-    let mut made = placed(alloc, fault)?;
+    let mut made = place_of(alloc, fault)?;
     push_filled(&mut made, sentence.wrong, fault.texts)?;
     made.push_str("; ")?;
     push_filled(&mut made, sentence.mend, fault.texts)?;
@@ -208,11 +205,11 @@ fn told(alloc: Global, fault: &Fault<'_>) -> Result<Option<String>, AllocError> 
 }
 
 /// What is wrong alone, with its place in front.
-fn told_short(alloc: Global, fault: &Fault<'_>) -> Result<Option<String>, AllocError> {
+fn short_sentence_for(alloc: Global, fault: &Fault<'_>) -> Result<Option<String>, AllocError> {
     let Some(sentence) = sentence_of(fault) else {
         return Ok(None);
     };
-    let mut made = placed(alloc, fault)?;
+    let mut made = place_of(alloc, fault)?;
     push_filled(&mut made, sentence.wrong, fault.texts)?;
     Ok(Some(made))
 }
@@ -240,7 +237,7 @@ fn has_no_text(texts: &[Text]) -> bool {
 }
 
 /// The place of a fault as editors read it, or the program's name where no file is at fault.
-fn placed(alloc: Global, fault: &Fault<'_>) -> Result<String, AllocError> {
+fn place_of(alloc: Global, fault: &Fault<'_>) -> Result<String, AllocError> {
     let file = fault.file;
     match fault.line {
         _ if file.is_empty() => String::from_str(alloc, "bitbake: "),

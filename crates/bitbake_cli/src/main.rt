@@ -2,8 +2,8 @@
 //!
 //! What is decided is decided in `bitbake_top`, and what it promises is the promise of this program, whatever another thread reads
 //! ahead meanwhile; the devices stand in `outside_os`. Here the words are taken from the system and the devices made, and standard
-//! error tells of what failed: the end of the log of each task, what is wrong with the metadata and what to do, who asks for what isn't
-//! there, and what a device says of its first fault.
+//! error tells of what failed, beside the ends of logs, which the benches show: which tasks gave too much, what is wrong with the metadata
+//! and what to do, who asks for what isn't there, and what a device says of its first fault.
 //! `--lint` is a mode of this program alone: its words go to no top call (`linting`, over `recipe_lint`).
 //! `tests/program.sh` tests it by runs.
 #![tactic(auto)]
@@ -15,7 +15,6 @@ mod ahead;
 mod failures;
 mod faults;
 mod linting;
-mod logs;
 mod places;
 mod records;
 mod sentences;
@@ -25,10 +24,12 @@ use about::tell_about;
 use ahead::{is_run, read_ahead};
 use bitbake_top::bitbake;
 use build_store::Ahead;
-use failures::tell_failures;
+use failures::tell_too_large;
 use faults::{tell_fault, tell_passed};
 use linting::{asks_for_lint, run_lint, tell_count};
-use outside_os::{FolderDisk, FolderLayers, ReadAhead, Sandboxes, ShBench, StdSink, is_memory};
+use outside_os::{
+    FolderDisk, FolderLayers, ReadAhead, Sandboxes, ShBench, StdSink, Syncs, is_memory,
+};
 use recipe_lint::Counted;
 use std::process::ExitCode;
 use std::sync::Wait;
@@ -69,7 +70,8 @@ fn run<R: Threads + Wait + Sync>(rt: &HostRuntime, threads: &R) -> io::Result<u8
     }
     let reading = ReadAhead::none();
     let ahead = Ahead::none();
-    let mut disk = FolderDisk::new(rt.clone()?);
+    let syncs = Syncs::none();
+    let mut disk = FolderDisk::new(rt.clone()?, &syncs);
     if !is_run(rt, &words) || !disk.hold_early(&reading) {
         return call(rt, threads, &ahead, &words, disk);
     }
@@ -100,9 +102,9 @@ fn call<R: Threads + Wait + Sync>(
     let sandboxes = Sandboxes::unknown();
     let mut benches = Vec::new(rt.alloc());
     for number in 0..LAST_BENCH {
-        benches.push(ShBench::new(rt.clone()?, number, &sandboxes)?)?;
+        benches.push(ShBench::new(rt.clone()?, number, &sandboxes))?;
     }
-    benches.push(ShBench::new(rt.clone()?, LAST_BENCH, &sandboxes)?)?;
+    benches.push(ShBench::new(rt.clone()?, LAST_BENCH, &sandboxes))?;
     let layers = Counted::new(rt.alloc(), FolderLayers::new(rt.clone()?));
     let sink = StdSink::new(rt.clone()?);
     let mut finish = bitbake(
@@ -118,10 +120,8 @@ fn call<R: Threads + Wait + Sync>(
     for bench in &mut finish.benches {
         bench.close();
     }
-    // While the disk is there no other run can touch the logs.
-    if tell_failures(rt, &finish.plans, &finish.tales, &finish.benches).is_err() {
-        tell(rt, "log", Some("out of memory"));
-    }
+    finish.disk.close();
+    tell_too_large(rt, &finish.plans, &finish.tales);
     tell_fault(rt, &finish.status);
     tell_about(rt, &finish.status);
     tell_sandboxes(rt, &sandboxes);

@@ -6,8 +6,9 @@
 //                                   disk write KIND PATH TEXT  bench K run SCRIPT
 //   sink TEXT                       disk remove PATH           bench K take ENTRIES LARGEST BYTES
 //                                   disk rename FROM TO
-//   other CALL                      disk sync                  bench K failed
+//   other CALL                      disk sync
 //                                   disk moment
+//                                   disk close
 //
 //   ahead hold                      ahead read                 ahead records
 //
@@ -16,30 +17,37 @@
 // `ahead hold` lets the disk take its lock before its first call, and says whether it has it; `ahead read` reads ahead for it,
 // and `ahead records` answers these files under `rec/` with what they hold, or nothing where they weren't read or a link stands
 // among them. `other` makes a call of the disk on another object over the same folder, and says what that says of its first
-// fault. Calls of one bench behind one another are made on one object; a call of another bench begins with a new one. `bench K
-// failed` answers which runs failed, each with the place of its log. KIND is `file`, `program` or `link`. `disk sync` answers
-// what was synced, each file and folder by its path.
+// fault. Calls of one bench behind one another are made on one object; a call of another bench begins with a new one. KIND is
+// `file`, `program` or `link`. `disk sync` answers what was synced, each file and folder by its path, or `all`. Where the room has a
+// file `no-sync`, the disk has no sync of all, and where it has `failing-sync`, that fails.
 use crate::answers::{entry_of, of_a_line, of_files, of_paths, of_tree, of_word, on_a_line};
 use crate::disk_calls::{disk_answer, other_answer};
 use crate::rooms::{no_call, shell};
 use crate::stamp_calls::stamp_answer;
 use crate::watch::Watch;
-use outside_os::{FolderDisk, FolderLayers, ReadAhead, Sandboxes, ShBench, StdSink};
+use outside_os::{FolderDisk, FolderLayers, ReadAhead, Sandboxes, ShBench, StdSink, Syncs};
 use outside_traits::{Bench, BenchFault, Layers, ReadFault, Sink, Taken};
 use std::cell::RefCell;
 use std::io;
 use tree_model::{Bytes, Mem, Size, is_clean};
 
+/// What the devices of a room share.
+#[derive(Drop)]
+pub struct Shared {
+    pub ahead: ReadAhead,
+    pub sandboxes: Sandboxes,
+    pub syncs: Syncs,
+}
+
 /// The bench of the last call that was one of a bench, with its number.
 pub type LastBench<'a> = Option<(u32, ShBench<'a, HostRuntime>)>;
 
 /// What the call of a line answers.
-pub fn answer<'a, 'b>(
+pub fn answer<'a>(
     rt: &HostRuntime,
-    ahead: &'a ReadAhead,
+    shared: &'a Shared,
     disk: &mut FolderDisk<'a, Watch<'_>>,
-    sandboxes: &'b Sandboxes,
-    bench: &mut LastBench<'b>,
+    bench: &mut LastBench<'a>,
     synced: &RefCell<String>,
     line: &str,
 ) -> io::Result<String> {
@@ -57,12 +65,12 @@ pub fn answer<'a, 'b>(
         "layers" => layers_answer(rt, call),
         "disk" => disk_answer(rt.alloc(), disk, synced, call),
         "stamp" => stamp_answer(rt.alloc(), disk, call),
-        "ahead" => ahead_answer(rt, ahead, disk, call),
+        "ahead" => ahead_answer(rt, &shared.ahead, disk, call),
         "other" => {
             let watch = Watch::new(rt.clone()?, synced);
-            other_answer(rt.alloc(), watch, synced, call)
+            other_answer(rt.alloc(), watch, &shared.syncs, synced, call)
         }
-        "bench" => numbered_answer(rt, sandboxes, bench, call),
+        "bench" => numbered_answer(rt, shared, bench, call),
         "sink" => sink_answer(rt, call),
         _ => Err(no_call()),
     }
@@ -132,7 +140,7 @@ fn read_word(fault: ReadFault) -> &'static str {
 /// What the bench with a number answers.
 fn numbered_answer<'a>(
     rt: &HostRuntime,
-    sandboxes: &'a Sandboxes,
+    shared: &'a Shared,
     last: &mut LastBench<'a>,
     call: &str,
 ) -> io::Result<String> {
@@ -144,7 +152,7 @@ fn numbered_answer<'a>(
         if let Some((_, before)) = last {
             before.close();
         }
-        *last = Some((number, ShBench::new(rt.clone()?, number, sandboxes)?));
+        *last = Some((number, ShBench::new(rt.clone()?, number, &shared.sandboxes)));
     }
     match last {
         Some((_, bench)) => bench_answer(rt, bench, call),
@@ -169,24 +177,8 @@ fn bench_answer(
             }
         }
         "take" => take_answer(rt, bench, rest),
-        "failed" => failed_answer(rt, bench),
         _ => Err(no_call()),
     }
-}
-
-/// The runs of a bench that failed: the number of each, and the place of its log.
-fn failed_answer(rt: &HostRuntime, bench: &ShBench<'_, HostRuntime>) -> io::Result<String> {
-    let mut said = String::new(rt.alloc());
-    for run in bench.failed_runs() {
-        let number = format!(in rt.alloc(); "{} ", run.number)?;
-        said.push_str(number.as_str())?;
-        match &run.log {
-            Ok(log) => said.push_str(log.as_str())?,
-            Err(_) => said.push_str("not kept")?,
-        }
-        said.push_str("; ")?;
-    }
-    Ok(said)
 }
 
 fn bench_word(rt: &HostRuntime, done: Result<(), BenchFault>) -> io::Result<String> {

@@ -2,7 +2,7 @@
 use crate::answers::{entry_of, of_a_line, of_entry, of_paths, of_word};
 use crate::rooms::no_call;
 use crate::watch::Watch;
-use outside_os::FolderDisk;
+use outside_os::{FolderDisk, Syncs};
 use outside_traits::{Disk, DiskFault};
 use std::alloc::Global;
 use std::cell::RefCell;
@@ -25,15 +25,19 @@ pub fn disk_answer(
         "rename" => rename_answer(alloc, disk, rest),
         "moment" => Ok(format!(in alloc; "{}", disk.moment())?),
         "sync" => match disk.sync() {
-            Ok(()) => taken(alloc, synced),
+            Ok(()) => take_synced(alloc, synced),
             Err(fault) => disk_word(alloc, Err(fault)),
         },
+        "close" => {
+            disk.close();
+            Ok(of_word(alloc, "closed")?)
+        }
         _ => Err(no_call()),
     }
 }
 
 /// What was synced since the last look.
-fn taken(alloc: Global, synced: &RefCell<String>) -> io::Result<String> {
+fn take_synced(alloc: Global, synced: &RefCell<String>) -> io::Result<String> {
     match synced.try_replace(String::new(alloc)) {
         Ok(paths) => Ok(paths),
         Err(_) => Err(no_call()),
@@ -97,10 +101,11 @@ fn rename_answer(
 pub fn other_answer(
     alloc: Global,
     rt: Watch<'_>,
+    syncs: &Syncs,
     synced: &RefCell<String>,
     call: &str,
 ) -> io::Result<String> {
-    let mut disk = FolderDisk::new(rt);
+    let mut disk = FolderDisk::new(rt, syncs);
     let said = disk_answer(alloc, &mut disk, synced, call)?;
     let fault = disk.first_fault().unwrap_or("no fault");
     Ok(format!(in alloc; "{said}: {fault}")?)

@@ -14,8 +14,8 @@ mod rooms;
 mod stamp_calls;
 mod watch;
 
-use calls::answer;
-use outside_os::{FolderDisk, ReadAhead, Sandboxes};
+use calls::{Shared, answer};
+use outside_os::{FolderDisk, ReadAhead, Sandboxes, Syncs};
 use rooms::enter;
 use std::cell::RefCell;
 use std::process::ExitCode;
@@ -53,13 +53,16 @@ fn run_all(rt: &HostRuntime) -> io::Result<()> {
 /// Makes the calls of one room on new devices.
 fn run_room(rt: &HostRuntime, lines: &str) -> io::Result<()> {
     let synced = RefCell::new(String::new(rt.alloc()));
-    let ahead = ReadAhead::none();
-    let mut disk = FolderDisk::new(Watch::new(rt.clone()?, &synced));
-    let sandboxes = Sandboxes::unknown();
+    let shared = Shared {
+        ahead: ReadAhead::none(),
+        sandboxes: Sandboxes::unknown(),
+        syncs: Syncs::none(),
+    };
+    let mut disk = FolderDisk::new(Watch::new(rt.clone()?, &synced), &shared.syncs);
     let mut bench = None;
     for line in lines.lines() {
         if !line.is_empty() {
-            let said = answer(rt, &ahead, &mut disk, &sandboxes, &mut bench, &synced, line)?;
+            let said = answer(rt, &shared, &mut disk, &mut bench, &synced, line)?;
             println!(rt; "{line} -> {said}")?;
         }
     }

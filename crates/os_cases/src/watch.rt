@@ -1,5 +1,5 @@
 // The system's files, where each sync of a file or folder is written down.
-use outside_os::Locking;
+use outside_os::{Locking, Syncing};
 use std::alloc::{Allocator, Global};
 use std::cell::RefCell;
 use std::fs::{File, Metadata, OpenFile, OpenOptions, Permissions};
@@ -7,6 +7,7 @@ use std::io;
 use std::io::{Read, Seek, SeekFrom, Write};
 use std::path::PathBuf;
 use std::rt::Files;
+use std::time::{Clock, Duration};
 
 /// A runtime whose files write their paths down as they are synced, each with a blank behind.
 #[derive(Drop)]
@@ -165,5 +166,40 @@ impl<'a> Locking for Watch<'a> {
 
     fn find_lock(&self, path: &str) -> io::Result<File> {
         self.rt.find_lock(path)
+    }
+
+    fn wait_lock(&self, path: &str) -> io::Result<File> {
+        self.rt.wait_lock(path)
+    }
+}
+
+/// A clock by which each sync takes a second or more, so that it depends on no machine which syncs are slow.
+impl<'a> Clock for Watch<'a> {
+    fn monotonic(&self) -> io::Result<Duration> {
+        match self.synced.try_borrow() {
+            Ok(synced) => Ok(Duration::from_secs(synced.len() as u64)),
+            Err(_) => Err(io::Error::from(io::ErrorKind::ResourceBusy)),
+        }
+    }
+
+    fn since_1970(&self) -> io::Result<Duration> {
+        self.rt.since_1970()
+    }
+}
+
+impl<'a> Syncing for Watch<'a> {
+    fn sync_all_of(&self, folder: &str) -> io::Result<bool> {
+        if self.rt.symlink_metadata("no-sync").is_ok() {
+            return Ok(false);
+        }
+        if self.rt.symlink_metadata("failing-sync").is_ok() {
+            return Err(io::Error::new(io::ErrorKind::Other, "it is made to fail"));
+        }
+        let is_done = self.rt.sync_all_of(folder)?;
+        let Ok(mut synced) = self.synced.try_borrow_mut() else {
+            return Err(io::Error::from(io::ErrorKind::ResourceBusy));
+        };
+        synced.push_str("all ")?;
+        Ok(is_done)
     }
 }

@@ -4,12 +4,13 @@ ghost use Rattle.std.specs.Prelude.{[], Ok, None, true};
 use crate::faults::{FirstFault, is_memory, one_more};
 use crate::folder::{join, open_up, put_entry, read_entry};
 use crate::lock::BENCHES_FOLDER;
+use crate::logs::TaskLog;
 use crate::output::look_over;
-use crate::own::{make_own, remove_place};
+use crate::own::make_own;
 use crate::place::{Place, WORK};
-use crate::runs::{FailedRun, Runs};
 use crate::sandboxes::Sandboxes;
 use crate::supervisor::{Supervisor, Way};
+use crate::telling::Telling;
 use crate::walk::Item;
 use outside_traits::{Bench, BenchFault, Taken};
 use std::alloc::{AllocError, Global};
@@ -42,11 +43,13 @@ const LAID_AT: u64 = 946_684_800;
 /// Each folder has a lock, which the object has, and each script too. A bench with a sandbox passes over folders whose lock somebody has; the
 /// folder of a task is waited for, for ten seconds. A bench that was never cleared runs nothing.
 ///
-/// The log of a script that fails is kept in a file of its own; `failed_runs` says where.
+/// The log of a task whose script fails is kept, and its end is shown on standard error at once (`TaskLog`).
 #[derive(Drop)]
 pub struct ShBench<'a, R: Processes> {
     site: Site<'a, R>,
-    runs: Runs,
+
+    /// The log of the task for which it was cleared last.
+    log: Option<TaskLog>,
     faults: u64,
     first: FirstFault,
 }
@@ -83,11 +86,6 @@ impl<'a, R: Processes + AllocGlobal> ShBench<'a, R> {
         if let Some(sandbox) = self.site.sandbox.take() {
             sandbox.end();
         }
-    }
-
-    /// The runs of scripts that ended with another status than 0, in their order.
-    pub fn failed_runs(&self) -> &[FailedRun] {
-        self.runs.failed()
     }
 
     /// Counts the fault where a call of the system failed, for a call of the bench.
@@ -129,13 +127,12 @@ impl<'a, R: Processes + AllocGlobal> Site<'a, R> {
     }
 }
 
-impl<'a, R: Files<File = File> + Env + Processes + Clock + AllocGlobal + Clone + Drop> ShBench<
+impl<
     'a,
-    R,
-> {
+    R: Files<File = File> + Env + Processes + Clock + Telling + AllocGlobal + Clone + Drop,
+> ShBench<'a, R> {
     /// The bench of a number, without a fault so far.
-    pub fn new(rt: R, number: u32, sandboxes: &'a Sandboxes) -> Result<Self, AllocError> {
-        let runs = Runs::none(rt.alloc(), number)?;
+    pub fn new(rt: R, number: u32, sandboxes: &'a Sandboxes) -> Self {
         let site = Site {
             rt,
             number,
@@ -144,20 +141,34 @@ impl<'a, R: Files<File = File> + Env + Processes + Clock + AllocGlobal + Clone +
             sandbox: None,
             left: None,
         };
-        Ok(ShBench {
+        ShBench {
             site,
-            runs,
+            log: None,
             faults: 0,
             first: FirstFault::none(),
-        })
+        }
     }
 
-    /// Takes the logs of an earlier process away. Where they can't go, a log that can't be kept for it says so.
-    fn forget_logs(&self) {
-        let rt = &self.site.rt;
-        if self.runs.is_empty() && make_own(rt, self.runs.above()).is_ok() {
-            let _ = remove_place(rt, self.runs.folder());
+    /// Clears the place of a task's work, and forgets the log that an earlier run kept of it.
+    fn begin(&mut self, recipe: &str, task: &str) -> io::Result<()> {
+        self.log = None;
+        let log = TaskLog::of(self.site.rt.alloc(), recipe, task)?;
+        log.forget(&self.site.rt)?;
+        self.log = Some(log);
+        self.site.clear(recipe, task)
+    }
+
+    /// Runs a script, and keeps its log and shows the end of it where it failed.
+    fn run_told(&mut self, script: &str) -> io::Result<u32> {
+        let status = self.site.run(script)?;
+        match &self.log {
+            Some(log) if status != 0 => {
+                let site = &self.site;
+                log.tell(&site.rt, site.folder(), status)?;
+            }
+            _ => {}
         }
+        Ok(status)
     }
 }
 
@@ -180,13 +191,13 @@ impl<'a, R: Files<File = File> + Env + Processes + Clock + AllocGlobal + Clone +
 
     /// Makes the sandbox of the bench, or finds out that the system makes none.
     fn make_sandbox(&mut self) -> io::Result<()> {
-        let mut place = Place::numbered(&self.rt, self.number)?;
+        let mut place = Place::of_number(&self.rt, self.number)?;
         place.clear(&self.rt)?;
         make_own(&self.rt, ROOTS)?;
         let lock = place.lock().handle()?;
         match Supervisor::start(&self.rt, Way::Sandbox, place.folder(), lock)? {
             Ok(sandbox) => {
-                if self.sandboxes.made() {
+                if self.sandboxes.note_made() {
                     self.sandbox = Some(sandbox);
                     self.place = Some(place);
                 }
@@ -194,7 +205,7 @@ impl<'a, R: Files<File = File> + Env + Processes + Clock + AllocGlobal + Clone +
             }
             Err(reason) => {
                 let error = io::Error::new(ErrorKind::Other, reason.as_str());
-                if self.sandboxes.refused(reason) {
+                if self.sandboxes.note_refusal(reason) {
                     return Ok(());
                 }
                 Err(error)
@@ -328,8 +339,10 @@ fn tree_of(entries: Vec<(Text, Entry)>) -> io::Result<Option<Tree>> {
     }
 }
 
-impl<'a, R: Files<File = File> + Env + Processes + Clock + AllocGlobal + Clone + Drop> Bench
-    for ShBench<'a, R> {
+impl<
+    'a,
+    R: Files<File = File> + Env + Processes + Clock + Telling + AllocGlobal + Clone + Drop,
+> Bench for ShBench<'a, R> {
     ghost use Rattle.outside_traits.specs.Bench.{Workplace};
 
     ghost tells = { ⊥ };
@@ -341,8 +354,7 @@ impl<'a, R: Files<File = File> + Env + Processes + Clock + AllocGlobal + Clone +
     ghost faults = { λ s. s.faults };
 
     fn clear(&mut self, _alloc: Global, recipe: &str, task: &str) -> Result<(), BenchFault> {
-        self.forget_logs();
-        let done = self.site.clear(recipe, task);
+        let done = self.begin(recipe, task);
         self.count("clearing", done)
     }
 
@@ -352,10 +364,8 @@ impl<'a, R: Files<File = File> + Env + Processes + Clock + AllocGlobal + Clone +
     }
 
     fn run(&mut self, _alloc: Global, script: &str) -> Result<u32, BenchFault> {
-        let done = self.site.run(script);
-        let site = &self.site;
-        let counted = self.runs.count(&site.rt, site.folder(), done);
-        self.count("run", counted)
+        let done = self.run_told(script);
+        self.count("run", done)
     }
 
     fn take(&mut self, _alloc: Global, max: Size) -> Result<Taken, BenchFault> {

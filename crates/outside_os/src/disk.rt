@@ -12,13 +12,15 @@ use crate::listed::{Listed, Listing, Seen};
 use crate::lock::{BENCHES_FOLDER, LOCK, Locking};
 use crate::own::make_own;
 use crate::seen::SeenFolders;
+use crate::syncs::{Syncing, Syncs};
 use crate::walk::{Part, WalkFault, walk_part};
 use outside_traits::{Disk, DiskFault};
 use std::alloc::{AllocError, Global};
-use std::collections::BTreeSet;
+use std::collections::{BTreeMap, BTreeSet};
 use std::fs::{File, OpenFile};
 use std::io::ErrorKind;
 use std::rt::Files;
+use std::time::Clock;
 use std::{fs, io};
 use tree_model::{Entry, Texts, is_below, is_clean};
 
@@ -30,6 +32,15 @@ const BENCHES: &str = "bench";
 
 /// The folder above the root, where the root's own name stands.
 const HERE: &str = ".";
+
+/// The file that is there while a run may have changed what it hasn't synced, from the current folder.
+const UNSYNCED: &str = "build/bench/unsynced";
+
+/// How many changed files and folders are made durable one by one, whatever that takes.
+const FEW: usize = 8;
+
+/// From how many microseconds on a sync of one file after the other is taken to cost more than one of all.
+const LONG: u64 = 4000;
 
 /// The files and links of the folder `build` of the current folder, without those in its folder `bench`.
 ///
@@ -43,12 +54,12 @@ const HERE: &str = ".";
 /// until it takes that folder away itself, and what it has listed it reads in the listing's order without another look,
 /// until it changes anything. Where somebody removes such a folder by hand, a write into it is a fault; where somebody
 /// makes a listed file longer, its first bytes are read.
+///
+/// Many changed files and folders are made durable at once, by a sync of the file system of `build`, where syncs of a few of them
+/// took long, all folders that were come by stand on that one, and the machine has a program for it; else each by itself.
 #[derive(Drop)]
 pub struct FolderDisk<'a, R> {
     folder: BuildFolder<'a, R>,
-
-    /// How many calls were answered.
-    calls: u64,
     faults: u64,
     first: FirstFault,
 }
@@ -58,14 +69,27 @@ pub struct FolderDisk<'a, R> {
 struct BuildFolder<'a, R> {
     rt: R,
 
+    /// The syncs of the run.
+    syncs: &'a Syncs,
+
+    /// How many calls were answered.
+    calls: u64,
+
     /// The locked file.
     lock: Option<File>,
 
-    /// The files and folders that were changed since the last sync, by their paths from the current folder.
-    changed: BTreeSet<String>,
+    /// Whether this object has changed anything, which a file says for a later process.
+    is_marked: bool,
 
-    /// The folders that a sync of this object has made durable, and their names with them.
+    /// The files and folders that were changed and aren't known to be durable, by their paths from the current folder, and whether
+    /// each is a folder.
+    changed: BTreeMap<String, bool>,
+
+    /// The folders that are known to be durable, and their names with them.
     settled: BTreeSet<String>,
+
+    /// How many microseconds the last sync of files and folders by themselves took for each, if there was one.
+    pace: Option<u64>,
 
     /// The folders that aren't looked at again.
     seen: SeenFolders,
@@ -84,11 +108,11 @@ impl<'a, R: AllocGlobal> FolderDisk<'a, R> {
     ghost use Rattle.std.specs.Prelude.{◌≡◌};
     ghost use Rattle.outside_traits.specs.Fault.{Counts, disk_failed};
 
-    /// The folder as it is, without a fault or a change so far.
-    pub fn new(rt: R) -> Self
+    /// The folder as it is, without a fault or a change so far. With `syncs` it makes many changes durable at once.
+    pub fn new(rt: R, syncs: &'a Syncs) -> Self
         ensures { result.faults ≡ 0 }
     {
-        let changed = BTreeSet::new(rt.alloc());
+        let changed = BTreeMap::new(rt.alloc());
         let settled = BTreeSet::new(rt.alloc());
         let seen = SeenFolders::none(rt.alloc());
         let listed = Listed::none(rt.alloc());
@@ -96,15 +120,18 @@ impl<'a, R: AllocGlobal> FolderDisk<'a, R> {
         FolderDisk {
             folder: BuildFolder {
                 rt,
+                syncs,
+                calls: 0,
                 lock: None,
+                is_marked: false,
                 changed,
                 settled,
+                pace: None,
                 seen,
                 listed,
                 ahead: None,
                 whole,
             },
-            calls: 0,
             faults: 0,
             first: FirstFault::none(),
         }
@@ -126,12 +153,12 @@ impl<'a, R: AllocGlobal> FolderDisk<'a, R> {
     {
         match done {
             Ok(value) => {
-                self.calls = self.calls.saturating_add(1);
+                self.folder.calls = self.folder.calls.saturating_add(1);
                 Ok(value)
             }
             Err(error) if is_memory(&error) => Err(DiskFault::Memory),
             Err(error) => {
-                self.calls = self.calls.saturating_add(1);
+                self.folder.calls = self.folder.calls.saturating_add(1);
                 self.faults = one_more(self.faults);
                 self.note(call, path, &error);
                 Err(DiskFault::Failed)
@@ -180,6 +207,20 @@ impl<'a, R: AllocGlobal> FolderDisk<'a, R> {
     }
 }
 
+impl<'a, R: Files> FolderDisk<'a, R> {
+    ghost use Rattle.std.specs.Prelude.{◌≡◌};
+
+    /// Says to later processes that all is durable which this object changed, where it is.
+    pub fn close(&mut self)
+        ensures { self.new.faults ≡ self.old.faults }
+    {
+        if self.folder.is_marked && self.folder.changed.is_empty() {
+            // Where it stays, a later process syncs once more.
+            let _ = fs::remove_file(&self.folder.rt, UNSYNCED);
+        }
+    }
+}
+
 impl<'a, R: Locking + AllocGlobal> FolderDisk<'a, R> {
     ghost use Rattle.std.specs.Prelude.{◌≡◌};
 
@@ -197,7 +238,7 @@ impl<'a, R: Locking + AllocGlobal> FolderDisk<'a, R> {
     }
 }
 
-impl<R: Files + Locking + AllocGlobal + Clone + Drop> Disk for FolderDisk<'_, R> {
+impl<R: Files + Clock + Locking + Syncing + AllocGlobal + Clone + Drop> Disk for FolderDisk<'_, R> {
     ghost use Rattle.outside_traits.specs.Story.{Story};
 
     ghost tells = { ⊥ };
@@ -256,11 +297,11 @@ impl<R: Files + Locking + AllocGlobal + Clone + Drop> Disk for FolderDisk<'_, R>
     }
 
     fn moment(&self) -> u64 {
-        self.calls
+        self.folder.calls
     }
 }
 
-impl<'a, R: Files + Locking + AllocGlobal + Clone + Drop> BuildFolder<'a, R> {
+impl<'a, R: Files + Clock + Locking + Syncing + AllocGlobal + Clone + Drop> BuildFolder<'a, R> {
     /// Takes the lock of a run, unless this object has it.
     fn hold(&mut self) -> io::Result<()> {
         if self.lock.is_none() {
@@ -334,22 +375,60 @@ impl<'a, R: Files + Locking + AllocGlobal + Clone + Drop> BuildFolder<'a, R> {
         }
     }
 
-    /// Forgets what was listed and read ahead, since something changes.
-    fn forget(&mut self) {
+    /// Takes the lock, and forgets what was listed and read ahead, since something changes. Before the first change all is made durable that
+    /// an earlier process may have left unsynced, so that what is held is on the disk for good.
+    fn begin_change(&mut self) -> io::Result<()> {
+        self.hold()?;
         self.listed.forget();
         self.ahead = None;
+        if !self.is_marked {
+            match look(&self.rt, UNSYNCED)? {
+                Some(_) => self.sync_all()?,
+                None => fs::write(&self.rt, UNSYNCED, "")?,
+            }
+            self.is_marked = true;
+        }
+        Ok(())
+    }
+
+    /// Makes all durable that is there.
+    fn sync_all(&self) -> io::Result<()> {
+        if self.syncs.wait(&self.rt) {
+            return Ok(());
+        }
+        self.check_syncs()?;
+        let mut folders = BTreeSet::new(self.rt.alloc());
+        for item in walk_part(&self.rt, &part_of(""), u64::MAX)?
+            .into_iter()
+            .flatten()
+        {
+            let whole = join(self.rt.alloc(), ROOT, item.path.as_str())?;
+            sync_place(&self.rt, whole.as_str())?;
+            note_all_above(&mut folders, self.rt.alloc(), whole.as_str())?;
+        }
+        for folder in &folders {
+            sync_place(&self.rt, folder.as_str())?;
+        }
+        Ok(())
+    }
+
+    /// An error where a sync of all failed.
+    fn check_syncs(&self) -> io::Result<()> {
+        match self.syncs.failure() {
+            Some(failure) => Err(io::Error::new(ErrorKind::Other, failure)),
+            None => Ok(()),
+        }
     }
 
     fn write(&mut self, path: &str, entry: &Entry) -> io::Result<()> {
-        self.hold()?;
-        self.forget();
+        self.begin_change()?;
         if is_below(BENCHES, path) {
             return Err(io::Error::from(ErrorKind::InvalidInput));
         }
         let whole = join(self.rt.alloc(), ROOT, path)?;
         self.note_above(whole.as_str())?;
         if let Entry::File { exec: _, bytes: _ } = entry {
-            note(&mut self.changed, self.rt.alloc(), whole.as_str())?;
+            self.note(whole.as_str(), false)?;
         }
         self.seen.make_above(&self.rt, ROOT, path)?;
         self.seen.forget(whole.as_str());
@@ -357,8 +436,7 @@ impl<'a, R: Files + Locking + AllocGlobal + Clone + Drop> BuildFolder<'a, R> {
     }
 
     fn rename(&mut self, from: &str, to: &str) -> io::Result<()> {
-        self.hold()?;
-        self.forget();
+        self.begin_change()?;
         let source = match self.open_place(from)? {
             Some(source) if !is_below(BENCHES, to) => source,
             _ => return Err(io::Error::from(ErrorKind::InvalidInput)),
@@ -374,8 +452,7 @@ impl<'a, R: Files + Locking + AllocGlobal + Clone + Drop> BuildFolder<'a, R> {
     }
 
     fn remove(&mut self, path: &str) -> io::Result<()> {
-        self.hold()?;
-        self.forget();
+        self.begin_change()?;
         let Some(whole) = self.open_place(path)? else {
             return Ok(());
         };
@@ -414,13 +491,67 @@ impl<'a, R: Files + Locking + AllocGlobal + Clone + Drop> BuildFolder<'a, R> {
 
     fn sync(&mut self) -> io::Result<()> {
         self.hold()?;
-        for path in &self.changed {
-            if sync_place(&self.rt, path.as_str())? {
-                note(&mut self.settled, self.rt.alloc(), path.as_str())?;
+        if self.changed.len() > FEW
+            && self.is_one_system()?
+            && self.is_slow()?
+            && self.syncs.wait(&self.rt)
+        {
+            return self.settle();
+        }
+        self.sync_each()
+    }
+
+    /// Whether syncing what was changed, one after the other, takes longer than a sync of all. Where nothing is known of that, some are synced.
+    fn is_slow(&mut self) -> io::Result<bool> {
+        let each = match self.pace {
+            Some(each) => each,
+            None => self.sync_first(FEW)?,
+        };
+        Ok(each.saturating_mul(self.changed.len() as u64) > LONG)
+    }
+
+    /// Whether all that is to be synced stands on one file system.
+    fn is_one_system(&self) -> io::Result<bool> {
+        self.seen.are_on(&self.rt, ROOT)
+    }
+
+    /// Notes that all is durable that was changed.
+    fn settle(&mut self) -> io::Result<()> {
+        for (path, is_folder) in &self.changed {
+            if *is_folder {
+                self.settled
+                    .insert(String::from_str(self.rt.alloc(), path.as_str())?)?;
             }
         }
         self.changed.clear();
         Ok(())
+    }
+
+    /// Makes each changed file and folder durable. Where a sync of all failed, none is known to be.
+    fn sync_each(&mut self) -> io::Result<()> {
+        self.check_syncs()?;
+        if !self.changed.is_empty() {
+            self.sync_first(usize::MAX)?;
+        }
+        self.changed.clear();
+        Ok(())
+    }
+
+    /// Makes the first changed files and folders durable, so many at most, and gives the microseconds that this took for each.
+    fn sync_first(&mut self, most: usize) -> io::Result<u64> {
+        let begun = self.rt.monotonic()?;
+        let mut count = 0u64;
+        for (path, _) in self.changed.iter().take(most) {
+            if sync_place(&self.rt, path.as_str())? {
+                self.settled
+                    .insert(String::from_str(self.rt.alloc(), path.as_str())?)?;
+            }
+            count = count.saturating_add(1);
+        }
+        let spent = self.rt.monotonic()?.saturating_sub(begun);
+        let each = spent.as_micros() as u64 / count.max(1);
+        self.pace = Some(each);
+        Ok(each)
     }
 
     /// Removes the folders above a path, from the nearest on, up to one that isn't empty or is the root.
@@ -433,6 +564,7 @@ impl<'a, R: Files + Locking + AllocGlobal + Clone + Drop> BuildFolder<'a, R> {
             self.note_above(folder)?;
             self.remove_empty(folder)?;
             self.settled.remove(folder);
+            self.changed.remove(folder);
             self.seen.forget_empty(folder);
             folder = above(folder);
         }
@@ -450,12 +582,27 @@ impl<'a, R: Files + Locking + AllocGlobal + Clone + Drop> BuildFolder<'a, R> {
         }
     }
 
+    /// Notes a file or a folder as changed, and says whether it wasn't noted as changed before.
+    fn note(&mut self, path: &str, is_folder: bool) -> Result<bool, AllocError> {
+        match self.changed.get_mut(path) {
+            Some(before) => {
+                *before = is_folder;
+                Ok(false)
+            }
+            None => {
+                self.changed
+                    .insert(String::from_str(self.rt.alloc(), path)?, is_folder)?;
+                Ok(true)
+            }
+        }
+    }
+
     /// Notes the folder above a path as changed. The folders above that one are noted as far as they are not known to
     /// be durable: they may be new, or left by a process that didn't come to its sync.
     fn note_above(&mut self, path: &str) -> io::Result<()> {
         let mut folder = above(path);
         for _ in 0..u64::MAX {
-            let is_new = note(&mut self.changed, self.rt.alloc(), folder)?;
+            let is_new = self.note(folder, true)?;
             if !is_new || folder == HERE || self.settled.contains(folder) {
                 break;
             }
@@ -493,6 +640,7 @@ pub fn part_of(prefix: &str) -> Part<'_> {
         opens: false,
         mends: true,
         notes: false,
+        follows: false,
     }
 }
 
@@ -512,13 +660,24 @@ fn above(path: &str) -> &str {
     }
 }
 
-/// Adds a path to a set, and says whether it wasn't in it.
-fn note(paths: &mut BTreeSet<String>, alloc: Global, path: &str) -> Result<bool, AllocError> {
-    if paths.contains(path) {
-        return Ok(false);
+/// Adds the folders that a path has above it to a set.
+fn note_all_above(
+    folders: &mut BTreeSet<String>,
+    alloc: Global,
+    path: &str,
+) -> Result<(), AllocError> {
+    let mut folder = above(path);
+    for _ in 0..u64::MAX {
+        if folders.contains(folder) {
+            break;
+        }
+        folders.insert(String::from_str(alloc, folder)?)?;
+        if folder == HERE {
+            break;
+        }
+        folder = above(folder);
     }
-    paths.insert(String::from_str(alloc, path)?)?;
-    Ok(true)
+    Ok(())
 }
 
 /// Makes what stands at a path durable, a file with its bytes and a folder with its names, and says whether it is a

@@ -19,8 +19,8 @@ pub fn is_memory(error: &io::Error) -> bool {
     error.kind() == ErrorKind::OutOfMemory
 }
 
-/// Bytes as text: those that are no UTF-8, and those of control characters, as `\xff`.
-pub fn escaped(alloc: Global, bytes: &[u8]) -> Result<String, AllocError> {
+/// Bytes as text: those that are no UTF-8, and control characters, as `\xff`; control characters beyond ASCII as `\u{85}`.
+pub fn escape(alloc: Global, bytes: &[u8]) -> Result<String, AllocError> {
     let mut text = String::with_capacity(alloc, bytes.len())?;
     put_escaped(&mut text, bytes)?;
     Ok(text)
@@ -44,6 +44,9 @@ fn put_plain(text: &mut String, character: char) -> Result<(), AllocError> {
     let code = character as u32;
     if code < 32 || code == 127 {
         return write!(text, "\\x{code:02x}");
+    }
+    if (128..160).contains(&code) {
+        return write!(text, "\\u{{{code:x}}}");
     }
     text.push(character)
 }

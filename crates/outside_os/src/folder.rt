@@ -378,18 +378,20 @@ fn make_folders<R: Files + AllocGlobal>(rt: &R, root: &str, path: &str) -> io::R
     Ok(())
 }
 
-/// Makes a folder where none stands. What is neither file, folder nor link gives way to it.
-pub fn make_folder<R: Files>(rt: &R, path: &str) -> io::Result<()> {
+/// Makes a folder where none stands, and gives what the system says of one that was there. What is neither file, folder nor link gives
+/// way to it.
+pub fn make_folder<R: Files>(rt: &R, path: &str) -> io::Result<Option<Metadata>> {
     if let Some(metadata) = look(rt, path)? {
         if metadata.is_dir() {
-            return Ok(());
+            return Ok(Some(metadata));
         }
         if is_entry(&metadata) {
             return Err(io::Error::from(ErrorKind::NotADirectory));
         }
         fs::remove_file(rt, path)?;
     }
-    fs::create_dir(rt, path)
+    fs::create_dir(rt, path)?;
+    Ok(None)
 }
 
 /// Removes what stands at a path, unless it is a folder under which a file or a link stands.
@@ -410,7 +412,7 @@ fn clear_place<R: Files + AllocGlobal + Clone + Drop>(rt: &R, path: &str) -> io:
 fn remove_opened<R: Files + AllocGlobal + Clone + Drop>(rt: &R, folder: &str) -> io::Result<()> {
     match fs::remove_dir_all(rt, folder) {
         Err(error) if is_denied(&error) => {
-            list_items(rt, &Part::opened(folder), u64::MAX)?;
+            list_items(rt, &Part::with_opening(folder), u64::MAX)?;
             fs::remove_dir_all(rt, folder)
         }
         done => done,

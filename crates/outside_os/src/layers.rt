@@ -2,45 +2,45 @@
 ghost use Rattle.std.specs.Prelude.{None};
 
 use crate::faults::{FirstFault, is_memory, one_more};
-use crate::folder::{look, look_through, read_bytes};
-use crate::seen::SeenFolders;
+use crate::folder::{look_through, read_bytes};
+use crate::linked::{BUILT, Link, LinkedFolders, ReachedFolders, lost_link};
 use crate::walk::{Part, WalkFault, walk_noting};
 use outside_traits::{Layers, ReadFault};
 use std::alloc::{AllocError, Global};
 use std::io;
+use std::mem::replace;
 use std::rt::Files;
-use tree_model::{Bytes, Texts, is_below, is_clean};
+use tree_model::{Bytes, Text, Texts, is_below, is_clean};
 
 /// The current folder, which is the root of the layers.
 const HERE: &str = ".";
-
-/// Where what is built is kept: no part of the layers.
-const BUILT: &str = "build";
 
 /// The most sentences that are kept of one kind.
 const MOST_REMARKS: usize = 20;
 
 /// The files of the current folder, without those in its folder `build`.
 ///
-/// A link that leads to a file counts as that file. A linked folder isn't entered, by `read` no more than by `list`,
-/// so links can't lead round in a circle. Each folder is looked at once: a link that another program puts in its place after that is
-/// followed. A name that isn't UTF-8 is passed over, which a remark says where a listing came by it. It tells nothing.
+/// A link that leads to a file counts as that file, and one that leads to a folder as that folder, also to one outside of the current
+/// folder. A listing has each folder once, however many links lead there, so links can't lead round in a circle: what stands in the
+/// folder itself comes first, then what links lead to, by their paths. A folder that holds the current one, or `build`, isn't entered
+/// through a link. Each folder is looked at once. A name that isn't UTF-8 is passed over, which a remark says where a listing came by it.
+/// It tells nothing.
 #[derive(Drop)]
 pub struct FolderLayers<R> {
     rt: R,
     faults: u64,
     first: FirstFault,
     passed: Passed,
-    seen: SeenFolders,
+    seen: ReachedFolders,
 }
 
 /// What is said of what listings passed over.
 #[derive(Drop)]
 struct Passed {
-    /// Of names that aren't UTF-8, and of links in the place of folders that were to be listed.
+    /// Of names that aren't UTF-8, and of links that lead to nothing in the place of folders that were to be listed.
     remarks: Vec<String>,
 
-    /// Of links to folders that a listing came by.
+    /// Of links to folders that listings came by and didn't enter.
     links: Vec<String>,
 }
 
@@ -54,7 +54,7 @@ impl<R: AllocGlobal> FolderLayers<R> {
             remarks: Vec::new(rt.alloc()),
             links: Vec::new(rt.alloc()),
         };
-        let seen = SeenFolders::none(rt.alloc());
+        let seen = ReachedFolders::none(rt.alloc());
         FolderLayers {
             rt,
             faults: 0,
@@ -69,13 +69,13 @@ impl<R: AllocGlobal> FolderLayers<R> {
         self.first.as_str()
     }
 
-    /// What is said of what was passed over: names that aren't UTF-8, and links in the place of folders that were to be listed. At
-    /// most twenty of them.
+    /// What is said of what was passed over: names that aren't UTF-8, and links that lead to no folder in the place of folders that were
+    /// to be listed. At most twenty of them.
     pub fn remarks(&self) -> &[String] {
         self.passed.remarks.as_slice()
     }
 
-    /// What is said of links to folders that a listing came by, at most twenty of them.
+    /// What is said of links to folders that listings came by and didn't enter, at most twenty of them.
     pub fn links(&self) -> &[String] {
         self.passed.links.as_slice()
     }
@@ -94,7 +94,7 @@ impl<R: AllocGlobal> FolderLayers<R> {
             Err(fault) => {
                 let WalkFault { place, error } = fault;
                 match &place {
-                    Some(place) => self.count("listing", shown(place.as_str()), Err(error)),
+                    Some(place) => self.count("listing", path_of(place.as_str()), Err(error)),
                     None => self.count("listing", prefix, Err(error)),
                 }
             }
@@ -125,17 +125,17 @@ impl<R: AllocGlobal> FolderLayers<R> {
 }
 
 /// A path from the current folder, as metadata has it.
-fn shown(place: &str) -> &str {
+fn path_of(place: &str) -> &str {
     place.strip_prefix("./").unwrap_or(place)
 }
 
-/// The length of the file at a path, or of that to which a link there leads, or `None` where that is nothing.
+/// The length of the file to which a path leads, or `None` where that is nothing.
 fn length_of<R: Files + AllocGlobal>(
     rt: &R,
-    seen: &mut SeenFolders,
+    seen: &mut ReachedFolders,
     path: &str,
 ) -> io::Result<Option<u64>> {
-    if !is_clean(path) || is_below(BUILT, path) || !seen.is_reached(rt, HERE, path)? {
+    if !is_clean(path) || is_below(BUILT, path) || !seen.is_reached(rt, path)? {
         return Ok(None);
     }
     match look_through(rt, path)? {
@@ -144,13 +144,76 @@ fn length_of<R: Files + AllocGlobal>(
     }
 }
 
-/// The paths of the files of the current folder that begin with the prefix.
+/// What a listing has found so far.
+#[derive(Drop)]
+struct Listing {
+    paths: Vec<Text>,
+
+    /// The links to folders that are still to be looked at.
+    links: Vec<Link>,
+}
+
+/// The paths of the files of the current folder that begin with the prefix, in the order of their bytes.
 fn try_list<R: Files + AllocGlobal + Clone + Drop>(
     rt: &R,
     alloc: Global,
     prefix: &str,
+    seen: &mut ReachedFolders,
     passed: &mut Passed,
 ) -> Result<Texts, WalkFault> {
+    let mut listing = Listing {
+        paths: Vec::new(alloc),
+        links: Vec::new(rt.alloc()),
+    };
+    if !seen.is_reached(rt, prefix)? {
+        let link = lost_link(rt, prefix)?;
+        note_lost(rt.alloc(), &mut passed.remarks, link)?;
+        return Ok(Texts::new(alloc));
+    }
+    list_part(rt, prefix, passed, &mut listing)?;
+    if !listing.links.is_empty() {
+        list_linked(rt, prefix, passed, &mut listing)?;
+        listing.paths.sort_by(|a, b| a.as_str().cmp(b.as_str()))?;
+    }
+    Ok(Texts::from_vec(listing.paths))
+}
+
+/// Adds what stands where links lead, round by round: behind each round are the links that it came by.
+fn list_linked<R: Files + AllocGlobal + Clone + Drop>(
+    rt: &R,
+    prefix: &str,
+    passed: &mut Passed,
+    listing: &mut Listing,
+) -> Result<(), WalkFault> {
+    let mut folders = LinkedFolders::none(rt.alloc());
+    for _ in 0..u64::MAX {
+        let mut links = replace(&mut listing.links, Vec::new(rt.alloc()));
+        if links.is_empty() {
+            break;
+        }
+        links.sort_by(|a, b| a.order(b))?;
+        for link in links {
+            let path = link.path.as_str();
+            match folders.enters(rt, prefix, &link) {
+                Ok(true) => {
+                    let inside = format!(in rt.alloc(); "{path}/")?;
+                    list_part(rt, inside.as_str(), passed, listing)?;
+                }
+                Ok(false) => keep_once(&mut passed.links, passed_over(rt.alloc(), path)?)?,
+                Err(error) => return Err(WalkFault::at(rt.alloc(), path, error)),
+            }
+        }
+    }
+    Ok(())
+}
+
+/// Adds the files of the current folder that begin with the prefix, and the links to folders that it comes by.
+fn list_part<R: Files + AllocGlobal + Clone + Drop>(
+    rt: &R,
+    prefix: &str,
+    passed: &mut Passed,
+    listing: &mut Listing,
+) -> Result<(), WalkFault> {
     let part = Part {
         root: HERE,
         prefix,
@@ -158,67 +221,41 @@ fn try_list<R: Files + AllocGlobal + Clone + Drop>(
         opens: false,
         mends: false,
         notes: true,
+        follows: true,
     };
     let (items, odd) = walk_noting(rt, &part)?;
-    let link = if items.is_empty() {
-        link_above(rt, prefix)?
-    } else {
-        None
-    };
-    note_passed(rt.alloc(), &mut passed.remarks, &odd, link)?;
-    let mut paths = Texts::new(alloc);
+    note_odd(rt.alloc(), &mut passed.remarks, &odd)?;
     for item in items {
-        if item.facts.is_file() || is_linked_file(rt, item.path.as_str(), &mut passed.links)? {
-            paths.push(item.path)?;
+        if item.facts.is_file() {
+            listing.paths.push(item.path)?;
+        } else {
+            add_link(rt, item.path, listing)?;
         }
     }
-    Ok(paths)
+    Ok(())
 }
 
-/// Whether a link leads to a file. One that leads to a folder is noted.
-fn is_linked_file<R: Files + AllocGlobal>(
+/// Adds what a link leads to: a file, or a folder that is still to be looked at.
+fn add_link<R: Files + AllocGlobal>(
     rt: &R,
-    path: &str,
-    links: &mut Vec<String>,
-) -> Result<bool, WalkFault> {
-    match look_through(rt, path) {
+    path: Text,
+    listing: &mut Listing,
+) -> Result<(), WalkFault> {
+    match look_through(rt, path.as_str()) {
         Ok(Some(metadata)) if metadata.is_dir() => {
-            keep_once(links, linked(rt.alloc(), path)?)?;
-            Ok(false)
+            if let Some(link) = Link::of(rt, path)? {
+                listing.links.push(link)?;
+            }
         }
-        Ok(Some(metadata)) => Ok(metadata.is_file()),
-        Ok(None) => Ok(false),
-        Err(error) => Err(WalkFault::at(rt.alloc(), path, error)),
+        Ok(Some(metadata)) if metadata.is_file() => listing.paths.push(path)?,
+        Ok(_) => {}
+        Err(error) => return Err(WalkFault::at(rt.alloc(), path.as_str(), error)),
     }
+    Ok(())
 }
 
-/// The first link that stands in the place of a folder above all paths with this prefix, if there is one.
-fn link_above<R: Files + AllocGlobal>(rt: &R, prefix: &str) -> Result<Option<String>, WalkFault> {
-    let Some((folders, _)) = prefix.rsplit_once('/') else {
-        return Ok(None);
-    };
-    let mut whole = String::new(rt.alloc());
-    for part in folders.split('/') {
-        if !whole.is_empty() {
-            whole.push('/')?;
-        }
-        whole.push_str(part)?;
-        match look(rt, whole.as_str()) {
-            Ok(Some(metadata)) if metadata.is_dir() => {}
-            Ok(Some(metadata)) if metadata.is_symlink() => return Ok(Some(whole)),
-            _ => return Ok(None),
-        }
-    }
-    Ok(None)
-}
-
-/// Keeps what is said of names that aren't UTF-8, and of a link in the place of a folder, where there is one.
-fn note_passed(
-    alloc: Global,
-    remarks: &mut Vec<String>,
-    odd: &[String],
-    link: Option<String>,
-) -> Result<(), AllocError> {
+/// Keeps what is said of names that aren't UTF-8.
+fn note_odd(alloc: Global, remarks: &mut Vec<String>, odd: &[String]) -> Result<(), AllocError> {
     for path in odd {
         let said = format!(in alloc;
             "{}: its name isn't UTF-8, so no pattern names it",
@@ -226,15 +263,29 @@ fn note_passed(
         )?;
         keep_once(remarks, said)?;
     }
+    Ok(())
+}
+
+/// Keeps what is said of a link that leads to no folder, where there is one.
+fn note_lost(
+    alloc: Global,
+    remarks: &mut Vec<String>,
+    link: Option<String>,
+) -> Result<(), AllocError> {
     if let Some(link) = link {
-        keep_once(remarks, linked(alloc, link.as_str())?)?;
+        keep_once(
+            remarks,
+            format!(in alloc; "{} is a link that leads to no folder", link.as_str())?,
+        )?;
     }
     Ok(())
 }
 
-/// What is said of a link in the place of a folder.
-fn linked(alloc: Global, path: &str) -> Result<String, AllocError> {
-    format!(in alloc; "{path} is a link, and no folder is entered through one")
+/// What is said of a link to a folder that isn't entered.
+fn passed_over(alloc: Global, path: &str) -> Result<String, AllocError> {
+    format!(in alloc;
+        "{path} is a link to a folder that is listed elsewhere, or that holds the project, and isn't entered"
+    )
 }
 
 /// Keeps a sentence at the end of a list, once, where there is room.
@@ -268,7 +319,7 @@ impl<R: Files + AllocGlobal + Clone + Drop> Layers for FolderLayers<R> {
     }
 
     fn list(&mut self, alloc: Global, prefix: &str) -> Result<Texts, ReadFault> {
-        let paths = try_list(&self.rt, alloc, prefix, &mut self.passed);
+        let paths = try_list(&self.rt, alloc, prefix, &mut self.seen, &mut self.passed);
         self.count_listing(prefix, paths)
     }
 }

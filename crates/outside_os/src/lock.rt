@@ -31,6 +31,9 @@ pub trait Locking {
 
     /// The same, where the file is there and is a plain one with one name. Nothing is made or taken away.
     fn find_lock(&self, path: &str) -> io::Result<File>;
+
+    /// Opens the file, which is made where it is missing, and takes the exclusive lock on it, for which it waits.
+    fn wait_lock(&self, path: &str) -> io::Result<File>;
 }
 
 impl Locking for HostRuntime {
@@ -44,10 +47,27 @@ impl Locking for HostRuntime {
             _ => return Err(io::Error::from(ErrorKind::NotFound)),
         }
         let file = OpenOptions::new().write(true).open(self, path)?;
-        locked(self, path, file, "another run is at work in this folder")?.ok_or(io::Error::from(
+        lock_file(self, path, file, "another run is at work in this folder")?.ok_or(io::Error::from(
             ErrorKind::NotFound,
         ))
     }
+
+    fn wait_lock(&self, path: &str) -> io::Result<File> {
+        make_way(self, path)?;
+        let file = open_lock(self, path)?;
+        file.lock()?;
+        Ok(file)
+    }
+}
+
+/// Opens a lock's file, which is made where it is missing.
+fn open_lock<R: Files<File = File>>(rt: &R, path: &str) -> io::Result<File> {
+    OpenOptions::new()
+        .read(true)
+        .write(true)
+        .create(true)
+        .mode(0o644)
+        .open(rt, path)
 }
 
 /// Whether it is a plain file with one name.
@@ -59,13 +79,8 @@ fn is_plain(metadata: &Metadata) -> bool {
 pub fn lock_at<R: Files<File = File>>(rt: &R, path: &str, busy: &str) -> io::Result<File> {
     for _ in 0..TURNS {
         make_way(rt, path)?;
-        let file = OpenOptions::new()
-            .read(true)
-            .write(true)
-            .create(true)
-            .mode(0o644)
-            .open(rt, path)?;
-        if let Some(file) = locked(rt, path, file, busy)? {
+        let file = open_lock(rt, path)?;
+        if let Some(file) = lock_file(rt, path, file, busy)? {
             return Ok(file);
         }
     }
@@ -85,7 +100,7 @@ fn make_way<R: Files>(rt: &R, path: &str) -> io::Result<()> {
 
 /// The file with the exclusive lock on it, which ends when it and all its clones are closed; `None` where it isn't what stands
 /// at the path, so that another process may lock that.
-fn locked<R: Files>(rt: &R, path: &str, file: File, busy: &str) -> io::Result<Option<File>> {
+fn lock_file<R: Files>(rt: &R, path: &str, file: File, busy: &str) -> io::Result<Option<File>> {
     match file.try_lock() {
         Ok(()) => {}
         Err(TryLockError::WouldBlock) => {

@@ -1,8 +1,8 @@
 // What a script left, looked over once when it has ended.
 use crate::faults::is_memory;
 use crate::folder::{is_too_long, join, look};
+use crate::logs::LOG;
 use crate::place::WORK;
-use crate::runs::LOG;
 use crate::walk::{Found, Item, WalkFault, walk_output};
 use std::alloc::AllocError;
 use std::fs::{Metadata, OpenOptions};
@@ -31,7 +31,7 @@ pub struct LookedOver {
 pub fn look_over<R: Files + AllocGlobal>(rt: &R, folder: &str) -> io::Result<LookedOver> {
     let work = join(rt.alloc(), folder, WORK)?;
     match walk_output(rt, work.as_str(), MOST) {
-        Ok(Some(found)) => kept(rt, folder, found),
+        Ok(Some(found)) => keep_all(rt, folder, found),
         Ok(None) => Ok(too_large()),
         Err(fault) if is_too_long(&fault.error) => Ok(too_large()),
         Err(fault) if can_be_kept(&fault.error) => Err(fault.error),
@@ -57,7 +57,7 @@ fn can_be_kept(error: &io::Error) -> bool {
 }
 
 /// What can be kept, with what the log says of the rest.
-fn kept<R: Files + AllocGlobal>(rt: &R, folder: &str, found: Found) -> io::Result<LookedOver> {
+fn keep_all<R: Files + AllocGlobal>(rt: &R, folder: &str, found: Found) -> io::Result<LookedOver> {
     let owner = match look(rt, folder)? {
         Some(metadata) => metadata.uid(),
         None => return Err(io::Error::from(ErrorKind::NotFound)),

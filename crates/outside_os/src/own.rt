@@ -104,17 +104,6 @@ impl Identity {
     }
 }
 
-/// Moves a file to a place below `build`, whose folders are made, in place of a file or a link that stands there.
-pub fn move_own<R: Files + AllocGlobal>(
-    rt: &R,
-    from: &str,
-    folder: &str,
-    to: &str,
-) -> io::Result<()> {
-    make_own(rt, folder)?;
-    fs::rename(rt, from, to)
-}
-
 /// Removes what stands at a path whose folders are reached through no link, a folder with all that it holds.
 pub fn remove_place<R: Files + Processes + AllocGlobal + Clone + Drop>(
     rt: &R,

@@ -33,20 +33,20 @@ pub struct Place {
 
 impl Place {
     /// The first folder `build/bench/N` that no script has, of those of the bench with this number.
-    pub fn numbered<R: Files<File = File> + AllocGlobal>(rt: &R, bench: u32) -> io::Result<Self> {
+    pub fn of_number<R: Files<File = File> + AllocGlobal>(rt: &R, bench: u32) -> io::Result<Self> {
         let mut number = bench;
         for _ in 1..TRIES {
-            match Place::locked(rt, BENCHES_FOLDER, format!(in rt.alloc(); "{number}")?) {
+            match Place::with_lock(rt, BENCHES_FOLDER, format!(in rt.alloc(); "{number}")?) {
                 Err(error) if error.kind() == ErrorKind::ResourceBusy => {
                     number = number.saturating_add(STEP);
                 }
                 done => return done,
             }
         }
-        Place::locked(rt, BENCHES_FOLDER, format!(in rt.alloc(); "{number}")?)
+        Place::with_lock(rt, BENCHES_FOLDER, format!(in rt.alloc(); "{number}")?)
     }
 
-    fn locked<R: Files<File = File> + AllocGlobal>(
+    fn with_lock<R: Files<File = File> + AllocGlobal>(
         rt: &R,
         above: &str,
         name: String,

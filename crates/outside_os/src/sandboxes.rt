@@ -39,12 +39,12 @@ impl Sandboxes {
     }
 
     /// Says that a sandbox was made, and whether that holds for all benches.
-    pub(crate) fn made(&self) -> bool {
+    pub(crate) fn note_made(&self) -> bool {
         self.settle(MADE)
     }
 
     /// Says why no sandbox was made, and whether that holds for all benches.
-    pub(crate) fn refused(&self, reason: String) -> bool {
+    pub(crate) fn note_refusal(&self, reason: String) -> bool {
         let holds = self.settle(REFUSED);
         if holds {
             let _ = self.reason.try_set(reason);

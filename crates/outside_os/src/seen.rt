@@ -1,8 +1,10 @@
 // The folders above a disk's entries that needn't be looked at again.
-use crate::folder::{look, make_folder};
+use crate::folder::{look, look_through, make_folder};
 use std::alloc::Global;
 use std::collections::BTreeSet;
+use std::fs::Metadata;
 use std::io;
+use std::os::unix::fs::MetadataExt;
 use std::rt::Files;
 use tree_model::is_below;
 
@@ -11,6 +13,10 @@ use tree_model::is_below;
 #[derive(Drop)]
 pub struct SeenFolders {
     folders: BTreeSet<String>,
+
+    /// The device of the first folder that was seen, and whether a folder on another one was.
+    device: Option<u64>,
+    is_spread: bool,
 }
 
 impl SeenFolders {
@@ -18,6 +24,20 @@ impl SeenFolders {
     pub fn none(alloc: Global) -> Self {
         SeenFolders {
             folders: BTreeSet::new(alloc),
+            device: None,
+            is_spread: false,
+        }
+    }
+
+    /// Whether each folder that was seen stands on the file system of a root.
+    pub fn are_on<R: Files>(&self, rt: &R, root: &str) -> io::Result<bool> {
+        if self.is_spread {
+            return Ok(false);
+        }
+        match (look_through(rt, root)?, self.device) {
+            (Some(metadata), Some(device)) => Ok(metadata.dev() == device),
+            (Some(_), None) => Ok(true),
+            (None, _) => Ok(false),
         }
     }
 
@@ -81,6 +101,7 @@ impl SeenFolders {
         }
         match look(rt, path)? {
             Some(metadata) if metadata.is_dir() => {
+                self.note(&metadata);
                 self.folders.insert(String::from_str(rt.alloc(), path)?)?;
                 Ok(true)
             }
@@ -91,9 +112,20 @@ impl SeenFolders {
     /// Makes a folder at a path, unless one is there.
     fn make<R: Files + AllocGlobal>(&mut self, rt: &R, path: &str) -> io::Result<()> {
         if !self.folders.contains(path) {
-            make_folder(rt, path)?;
+            if let Some(metadata) = make_folder(rt, path)? {
+                self.note(&metadata);
+            }
             self.folders.insert(String::from_str(rt.alloc(), path)?)?;
         }
         Ok(())
+    }
+
+    /// Notes on which file system a folder stands.
+    fn note(&mut self, metadata: &Metadata) {
+        match self.device {
+            Some(device) if device != metadata.dev() => self.is_spread = true,
+            Some(_) => {}
+            None => self.device = Some(metadata.dev()),
+        }
     }
 }

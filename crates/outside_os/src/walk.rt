@@ -1,8 +1,8 @@
 // The files and links under a folder.
-use crate::faults::{escaped, put_escaped};
+use crate::faults::{escape, put_escaped};
 use crate::folder::{
-    FileFacts, is_absent, is_denied, is_entry, is_folder, is_too_long, join, no_memory,
-    open_folder, put_joined,
+    FileFacts, is_absent, is_denied, is_entry, is_folder, is_too_long, join, look_through,
+    no_memory, open_folder, put_joined,
 };
 use std::alloc::{AllocError, AllocFailed, Global};
 use std::fs::Metadata;
@@ -20,7 +20,8 @@ const IN_A_ROW: u32 = 8;
 /// A part of a real folder: what stands at the paths inside `root` that begin with `prefix`. The folder `hidden` of
 /// the root isn't entered. Where `opens` is set, folders that the owner may not read are opened up, and a root that is
 /// a link has nothing. Where `mends` is set, the same is done for folders that turn out to be closed, and no root is refused. A
-/// name that isn't UTF-8 is an error, or passed over and noted where `notes` is set.
+/// name that isn't UTF-8 is an error, or passed over and noted where `notes` is set. Where `follows` is set, the folder in which all paths
+/// with the prefix stand is reached through links too; no other is.
 #[derive(Clone, Copy)]
 pub struct Part<'a> {
     pub root: &'a str,
@@ -29,6 +30,7 @@ pub struct Part<'a> {
     pub opens: bool,
     pub mends: bool,
     pub notes: bool,
+    pub follows: bool,
 }
 
 impl<'a> Part<'a> {
@@ -41,11 +43,12 @@ impl<'a> Part<'a> {
             opens: false,
             mends: true,
             notes: false,
+            follows: false,
         }
     }
 
     /// All of a folder, which is opened up with the folders in it.
-    pub fn opened(root: &'a str) -> Self {
+    pub fn with_opening(root: &'a str) -> Self {
         Part {
             root,
             prefix: "",
@@ -53,6 +56,7 @@ impl<'a> Part<'a> {
             opens: true,
             mends: false,
             notes: false,
+            follows: false,
         }
     }
 }
@@ -83,7 +87,7 @@ impl WalkFault {
     /// What the system said of a place.
     pub fn at(alloc: Global, place: &str, error: io::Error) -> Self {
         WalkFault {
-            place: escaped(alloc, place.as_bytes()).ok(),
+            place: escape(alloc, place.as_bytes()).ok(),
             error,
         }
     }
@@ -213,7 +217,7 @@ pub fn walk_output<R: Files + AllocGlobal>(
     root: &str,
     max: u64,
 ) -> Result<Option<Found>, WalkFault> {
-    let mut walk = walk_all(rt, &Part::opened(root), max)?;
+    let mut walk = walk_all(rt, &Part::with_opening(root), max)?;
     if walk.items.len() as u64 > max {
         return Ok(None);
     }
@@ -292,10 +296,24 @@ fn first_folder<R: Files + AllocGlobal>(
     if hidden || !is_clean(folder) {
         return Ok(None);
     }
-    match is_folder(rt, part.root, folder) {
+    let found = if part.follows {
+        leads_to_folder(rt, part.root, folder)
+    } else {
+        is_folder(rt, part.root, folder)
+    };
+    match found {
         Ok(true) => Ok(Some(String::from_str(rt.alloc(), folder)?)),
         Ok(false) => Ok(None),
         Err(error) => Err(WalkFault::at(rt.alloc(), folder, error)),
+    }
+}
+
+/// Whether a path inside a root leads to a folder.
+fn leads_to_folder<R: Files + AllocGlobal>(rt: &R, root: &str, path: &str) -> io::Result<bool> {
+    let whole = join(rt.alloc(), root, path)?;
+    match look_through(rt, whole.as_str())? {
+        Some(metadata) => Ok(metadata.is_dir()),
+        None => Ok(false),
     }
 }
 
@@ -457,7 +475,7 @@ fn add_odd(
         return Ok(());
     }
     let shown = if part.notes { above } else { folder };
-    let mut place = escaped(alloc, shown.as_bytes())?;
+    let mut place = escape(alloc, shown.as_bytes())?;
     if !place.is_empty() {
         place.push('/')?;
     }
