@@ -47,16 +47,22 @@ impl<L> Counted<L> {
         let idle = if skips_idle { 0 } else { idle };
         spelled.saturating_add(idle)
     }
+}
 
-    /// Looks at a file, if it is one of metadata and wasn't looked at.
-    fn note(&mut self, alloc: Global, path: &str, bytes: &[u8]) -> Result<(), Mem> {
-        let is_metadata = METADATA.iter().any(|end| path.ends_with(*end));
-        if !is_metadata || self.seen.get(path).is_some() {
-            return Ok(());
-        }
-        put_name(&mut self.seen, alloc, path)?;
-        note_lines(&mut self.shown, alloc, bytes)
+/// Looks at a file, if it is one of metadata and isn't among those that were seen.
+fn look(
+    seen: &mut Names,
+    shown: &mut Shown,
+    alloc: Global,
+    path: &str,
+    bytes: &[u8],
+) -> Result<(), Mem> {
+    let is_metadata = METADATA.iter().any(|end| path.ends_with(*end));
+    if !is_metadata || seen.get(path).is_some() {
+        return Ok(());
     }
+    put_name(seen, alloc, path)?;
+    note_lines(shown, alloc, bytes)
 }
 
 impl<L: Layers> Layers for Counted<L> {
@@ -70,10 +76,13 @@ impl<L: Layers> Layers for Counted<L> {
 
     fn read(&mut self, alloc: Global, path: &str, max: u64) -> Result<Option<Bytes>, ReadFault> {
         match self.inner.read(alloc, path, max) {
-            Ok(Some(bytes)) => match self.note(alloc, path, bytes.as_slice()) {
-                Ok(()) => Ok(Some(bytes)),
-                Err(_) => Err(ReadFault::Memory),
-            },
+            Ok(Some(bytes)) => {
+                let slice = bytes.as_slice();
+                match look(&mut self.seen, &mut self.shown, alloc, path, slice) {
+                    Ok(()) => Ok(Some(bytes)),
+                    Err(_) => Err(ReadFault::Memory),
+                }
+            }
             other => other,
         }
     }

@@ -5,11 +5,13 @@
 //! refused with. `Counted` are layers that count the lines on which a line alone shows a remark, as each run tells it: that costs one
 //! look at each file.
 //!
-//! Promised: each call returns, and no file is changed. The remarks ascend, by file, line, kind and words, and none is of a kind that
-//! BB_LINT_SKIP of the configuration names; `ReadFault` comes only where the layers' count of faults rose in the call. A remark stands
-//! at a line of a file that was read, but for `not-included`, which is of a file that wasn't.
+//! Promised: each call returns. `lint`, `who_asks` and `refused_recipes` change no file (`same`), and the first two answer `ReadFault` only where
+//! the layers' count of faults rose in the call (`cause`). `Watched` and `Counted` are layers like those below them: what these tell, they
+//! tell, and they fail where these do.
 //!
-//! Not proved: which remarks there are. That is shown by runs (`tests/program/lint.sh`).
+//! By design, not proved: which remarks there are; that they ascend, each once, by file, line, kind and words; that none is of a kind that
+//! BB_LINT_SKIP of the configuration names; and that each stands at a line of a file that was read, but for `not-included`, which is of
+//! one that wasn't. Runs show it (`tests/program/lint.sh`).
 #![tactic(auto)]
 
 mod asked;

@@ -6,7 +6,6 @@ use crate::files::Files;
 use crate::recipes::ReadRecipe;
 use meta_model::{FactSet, Status};
 use project_reading::{graph_status, nothing_provides, or_status};
-use recipe_set::RecipeSet;
 use std::alloc::Global;
 use std::collections::BTreeMap;
 use target_graph::{is_elsewhere, target_name};
@@ -56,9 +55,10 @@ pub(crate) fn files_of(
     alloc: Global,
     files: &Files,
     recipes: &[ReadRecipe],
-    set: &RecipeSet,
+    facts: &FactSet,
     targets: &[Text],
 ) -> Result<Option<Names>, Status>
+    requires { length facts.now.recipes ≤ 2000 }
     ensures no_failure { mode_failed result ≡ false }
 {
     if targets.is_empty() {
@@ -66,7 +66,7 @@ pub(crate) fn files_of(
     }
     let mut made = BTreeMap::new(alloc);
     for target in targets {
-        let path = recipe_of(alloc, set.facts(), target.as_str())?;
+        let path = recipe_of(alloc, facts, target.as_str())?;
         or_status(put_files(alloc, files, recipes, path, &mut made))?;
     }
     Ok(Some(made))
