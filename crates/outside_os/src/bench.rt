@@ -131,6 +131,8 @@ impl<
     'a,
     R: Files<File = File> + Env + Processes + Clock + Telling + AllocGlobal + Clone + Drop,
 > ShBench<'a, R> {
+    ghost use Rattle.std.specs.Prelude.{◌≡◌};
+
     /// The bench of a number, without a fault so far.
     pub fn new(rt: R, number: u32, sandboxes: &'a Sandboxes) -> Self {
         let site = Site {
@@ -150,7 +152,9 @@ impl<
     }
 
     /// Clears the place of a task's work, and forgets the log that an earlier run kept of it.
-    fn begin(&mut self, recipe: &str, task: &str) -> io::Result<()> {
+    fn begin(&mut self, recipe: &str, task: &str) -> io::Result<()>
+        ensures { self.new.faults ≡ self.old.faults }
+    {
         self.log = None;
         let log = TaskLog::of(self.site.rt.alloc(), recipe, task)?;
         log.forget(&self.site.rt)?;
@@ -159,7 +163,9 @@ impl<
     }
 
     /// Runs a script, and keeps its log and shows the end of it where it failed.
-    fn run_told(&mut self, script: &str) -> io::Result<u32> {
+    fn run_told(&mut self, script: &str) -> io::Result<u32>
+        ensures { self.new.faults ≡ self.old.faults }
+    {
         let status = self.site.run(script)?;
         match &self.log {
             Some(log) if status != 0 => {

@@ -549,7 +549,7 @@ impl<'a, R: Files + Clock + Locking + Syncing + AllocGlobal + Clone + Drop> Buil
             count = count.saturating_add(1);
         }
         let spent = self.rt.monotonic()?.saturating_sub(begun);
-        let each = spent.as_micros() as u64 / count.max(1);
+        let each = u64::try_from(spent.as_micros()).unwrap_or(u64::MAX) / count.max(1);
         self.pace = Some(each);
         Ok(each)
     }
