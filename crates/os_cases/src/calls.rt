@@ -31,11 +31,10 @@ use std::cell::RefCell;
 use std::io;
 use tree_model::{Bytes, Mem, Size, is_clean};
 
-/// What the devices of a room share.
+/// What the disk of a room has besides.
 #[derive(Drop)]
-pub struct Shared {
+pub struct Beside {
     pub ahead: ReadAhead,
-    pub sandboxes: Sandboxes,
     pub syncs: Syncs,
 }
 
@@ -43,11 +42,12 @@ pub struct Shared {
 pub type LastBench<'a> = Option<(u32, ShBench<'a, HostRuntime>)>;
 
 /// What the call of a line answers.
-pub fn answer<'a>(
+pub fn answer<'a, 'b>(
     rt: &HostRuntime,
-    shared: &'a Shared,
+    beside: &'a Beside,
     disk: &mut FolderDisk<'a, Watch<'_>>,
-    bench: &mut LastBench<'a>,
+    sandboxes: &'b Sandboxes,
+    bench: &mut LastBench<'b>,
     synced: &RefCell<String>,
     line: &str,
 ) -> io::Result<String> {
@@ -65,12 +65,12 @@ pub fn answer<'a>(
         "layers" => layers_answer(rt, call),
         "disk" => disk_answer(rt.alloc(), disk, synced, call),
         "stamp" => stamp_answer(rt.alloc(), disk, call),
-        "ahead" => ahead_answer(rt, &shared.ahead, disk, call),
+        "ahead" => ahead_answer(rt, &beside.ahead, disk, call),
         "other" => {
             let watch = Watch::new(rt.clone()?, synced);
-            other_answer(rt.alloc(), watch, &shared.syncs, synced, call)
+            other_answer(rt.alloc(), watch, &beside.syncs, synced, call)
         }
-        "bench" => numbered_answer(rt, shared, bench, call),
+        "bench" => numbered_answer(rt, sandboxes, bench, call),
         "sink" => sink_answer(rt, call),
         _ => Err(no_call()),
     }
@@ -140,7 +140,7 @@ fn read_word(fault: ReadFault) -> &'static str {
 /// What the bench with a number answers.
 fn numbered_answer<'a>(
     rt: &HostRuntime,
-    shared: &'a Shared,
+    sandboxes: &'a Sandboxes,
     last: &mut LastBench<'a>,
     call: &str,
 ) -> io::Result<String> {
@@ -152,7 +152,7 @@ fn numbered_answer<'a>(
         if let Some((_, before)) = last {
             before.close();
         }
-        *last = Some((number, ShBench::new(rt.clone()?, number, &shared.sandboxes)));
+        *last = Some((number, ShBench::new(rt.clone()?, number, sandboxes)));
     }
     match last {
         Some((_, bench)) => bench_answer(rt, bench, call),

@@ -14,7 +14,7 @@ mod rooms;
 mod stamp_calls;
 mod watch;
 
-use calls::{Shared, answer};
+use calls::{Beside, answer};
 use outside_os::{FolderDisk, ReadAhead, Sandboxes, Syncs};
 use rooms::enter;
 use std::cell::RefCell;
@@ -52,17 +52,22 @@ fn run_all(rt: &HostRuntime) -> io::Result<()> {
 
 /// Makes the calls of one room on new devices.
 fn run_room(rt: &HostRuntime, lines: &str) -> io::Result<()> {
-    let synced = RefCell::new(String::new(rt.alloc()));
-    let shared = Shared {
+    let beside = Beside {
         ahead: ReadAhead::none(),
-        sandboxes: Sandboxes::unknown(),
         syncs: Syncs::none(),
     };
-    let mut disk = FolderDisk::new(Watch::new(rt.clone()?, &synced), &shared.syncs);
+    run_lines(rt, &beside, lines)
+}
+
+/// Makes the calls of these lines on new devices, with this beside them.
+fn run_lines(rt: &HostRuntime, beside: &Beside, lines: &str) -> io::Result<()> {
+    let synced = RefCell::new(String::new(rt.alloc()));
+    let mut disk = FolderDisk::new(Watch::new(rt.clone()?, &synced), &beside.syncs);
+    let sandboxes = Sandboxes::unknown();
     let mut bench = None;
     for line in lines.lines() {
         if !line.is_empty() {
-            let said = answer(rt, &shared, &mut disk, &mut bench, &synced, line)?;
+            let said = answer(rt, beside, &mut disk, &sandboxes, &mut bench, &synced, line)?;
             println!(rt; "{line} -> {said}")?;
         }
     }
