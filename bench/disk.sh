@@ -175,7 +175,7 @@ large() {
     project "$1" 4
     cat >"$1/recipes/large.bb" <<'END'
 do_build() {
-    head -c 33554432 /dev/zero > all; split -a 4 -b 2048 -d all f; rm all; echo "${WHICH}" > f0000
+    head -c 33554432 /dev/zero > all; split -a 5 -b 2048 -d all f; rm all; echo "${WHICH}" > f00000
 }
 addtask build
 WHICH = "one"
@@ -197,7 +197,7 @@ again=$took
 echo "large, again with one file changed: $((again / 1000)) ms on the disk"
 fresh() { rm -rf "$disk/hand"; }
 splits() {
-    mkdir "$1" && cd "$1" && head -c 33554432 /dev/zero >all && split -a 4 -b 2048 -d all f && rm all
+    mkdir "$1" && cd "$1" && head -c 33554432 /dev/zero >all && split -a 5 -b 2048 -d all f && rm all
 }
 least 3 splits "$disk/hand"
 script=$took
