@@ -191,9 +191,10 @@ rm -rf build/bench && ln -s ../out build/bench || exit 1
 runs -f a
 holds "a link at build/bench" test "$status" -eq 0
 recipe a 'exit 3'
-rm -rf build/bench/log && ln -s ../../out build/bench/log || exit 1
+rm -rf build/log build/failed && ln -s ../out build/log && ln -s ../out build/failed || exit 1
 runs a
-holds "a link where the log goes" test "$status" -eq 1 -a -f build/bench/log/a/do_build
+holds "a link where the log goes" test "$status" -eq 1 -a -f build/log/a/do_build
+holds "a link where what it had goes" test -f build/failed/a/do_build/script
 holds "nothing that links lead to is touched" test "$(find out | sort)" = "$(cat "$room/before")" -a "$(cat out/hello/do_build out/a/do_build/x out/0/x | sort -u)" = kept
 
 # Outputs that can't be kept, or not whole.
@@ -205,7 +206,7 @@ holds "its name is said" grep -qF "bitbake: x\\xffy can't be kept as output: its
 recipe a 'mkfifo pipe; mkdir empty; echo x > x; ln x y; echo p > p; chmod 4755 p'
 runs a
 holds "outputs of all kinds" test "$status" -eq 0
-holds "the log says what isn't kept" test "$(cat build/bench/*/log build/bench/at/*/*/log 2>/dev/null | grep -c '^bitbake: not kept of the output: ')" -eq $([ $sandbox = yes ] && echo 4 || echo 0)
+holds "the log says what isn't kept" test "$(grep -c '^bitbake: not kept of the output: ' build/log/a/do_build)" -eq 4
 recipe a 'd=aaaaaaaaaaaaaaaaaaaaaaaaaaaaaaaaaaaaaaaaaaaaaaaaaaaaaaaaaaaaaaaaaaaaaaaaaaaaaaaa; i=0; while [ $i -lt 60 ]; do mkdir $d; cd $d || exit 9; i=$((i + 1)); done; mkdir z; echo z > z/z; chmod 000 z; chmod 500 .'
 runs a
 holds "an output deeper than a path can be" test "$status" -eq 1

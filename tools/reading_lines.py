@@ -31,7 +31,7 @@ HEART = {
     "where a run may begin, and every crash": [("run_model.specs.Headline", "MayBegin"), ("run_model.specs.Build", "IsCrash")],
 }
 KIT = ("clap", "sha2")
-UNPROVED = ("outside_os", "bitbake_cli")
+UNPROVED = ("host_files", "outside_os", "sh_bench", "run_trace", "bitbake_cli")
 ROW = re.compile(r"^\| `(crates/[^`]*)` \| (\d+) \| (.*?)(; of it [^|]*)? \|$", re.M)
 CRATE = re.compile(r"^\| `(\w+)` \| (\d+) \| (.*?) \|$", re.M)
 WORD = re.compile(r"◌?[^\s(){}\[\];,.λ]+(?:\.[^\s(){}\[\];,.λ]+)*")

@@ -27,8 +27,7 @@ project talks
 recipe hello 'echo out; echo err >&2; cat; echo "$FOREIGN" > foreign'
 runs env FOREIGN=seen "$bitbake" hello
 wants "a body that talks" 0 "$done_text"
-# (without a sandbox the place goes when its output was taken)
-[ -s "$room/no_sandbox" ] || holds "its output is in the log" test "$(cat build/bench/*/log)" = 'out
+holds "its output is in the log" test "$(cat build/log/hello/do_build)" = 'out
 err'
 holds "no variable of the environment" test "$(cat build/work/hello/do_build/foreign)" = ''
 
@@ -112,7 +111,8 @@ runs "$bitbake" hello
 wants "an output beyond its limit" 1 "$plan
 failed hello:do_build too large
 fault 1 failed: hello:do_build"
-says "there is no log of it" <<'END'
+says "what is said of it" <<'END'
 bitbake: hello:do_build failed: its layout or its output is too large
 END
-holds "no log is kept" test ! -e build/bench/log
+holds "how it is tried by hand" grep -qx 'bitbake: try: cd build/failed/hello/do_build/work && sh ../script' "$room/said"
+holds "what it had" test "$(wc -c <build/failed/hello/do_build/work/big)" -eq 16777217

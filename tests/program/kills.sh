@@ -46,3 +46,62 @@ kills "a first run that is killed" "$room/nothing"
 rm -rf build && "$program" app >/dev/null 2>&1 </dev/null && cp -R build "$room/built" || exit 1
 sed -i 's/hello/goodbye/' meta/recipes-core/greet/greet_1.2.bb
 kills "a run behind an edit that is killed" "$room/built"
+
+# The same with many tasks at once, of which several are published when the run is killed: eight moments with one worker, with four and with
+# sixteen. Each recipe gives a folder of the shared state and what it makes of another one's.
+project crowded
+mkdir -p classes conf
+cat >classes/base.bbclass <<'END'
+do_install() {
+    mkdir image
+    for n in 1 2 3 4 5; do echo "$n of ${PN}" > image/$n; done
+}
+do_build() {
+    cat image/* "$DEPSDIR"/*/do_install/image/* > all
+}
+addtask install
+addtask build after do_install
+do_build[deptask] = "do_install"
+SSTATETASKS = "do_install"
+do_install[sstate-inputdirs] = "image"
+do_install[sstate-outputdirs] = "image"
+END
+all=
+for n in 1 2 3 4 5 6 7 8 9 10 11 12; do
+    all="$all r$n"
+    echo "DEPENDS = \"r$((n % 12 + 1))\"" >"recipes/r$n.bb"
+done
+
+# A run behind a killed one, and a clean one, of all targets.
+behind_all() {
+    for _ in 1 2 3 4 5 6 7 8 9 10; do
+        # shellcheck disable=SC2086
+        "$program" $all >"$room/text" 2>"$room/said" </dev/null && return 0
+        grep -q -e 'another run is at work' -e 'is still at work' "$room/said" || return 1
+        sleep 0.1
+    done
+    return 1
+}
+# shellcheck disable=SC2086
+"$program" $all >/dev/null 2>&1 </dev/null && rm -rf "$room/clean" && cp -R build/work "$room/clean" || exit 1
+for threads in 1 4 16; do
+    echo "BB_NUMBER_THREADS = \"$threads\"" >conf/bitbake.conf
+    rm -rf build
+    begun=$(date +%s%N)
+    behind_all
+    took=$((($(date +%s%N) - begun) / 1000000))
+    wrong=
+    moment=0
+    while [ "$moment" -lt 8 ]; do
+        moment=$((moment + 1))
+        rm -rf build
+        after=$(awk -v took="$took" -v moment="$moment" 'BEGIN { printf "%.4f", took * moment / 8500 }')
+        # shellcheck disable=SC2086
+        (timeout -s KILL "$after" "$program" $all >"$room/first" </dev/null; :) 2>/dev/null
+        behind_all || wrong="$wrong $moment:status"
+        diff -r "$room/clean" build/work >/dev/null || wrong="$wrong $moment:files"
+        sed -n 's/^ended //p' "$room/first" | while read -r task; do grep -qx "started $task" "$room/text" && echo "$task"; done >"$room/again"
+        [ ! -s "$room/again" ] || wrong="$wrong $moment:$(head -n 1 "$room/again")"
+    done
+    holds "many tasks that are killed with $threads threads:$wrong" test -z "$wrong"
+done

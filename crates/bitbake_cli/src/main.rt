@@ -1,7 +1,7 @@
 //! The program `bitbake`: the top call over the real things.
 //!
 //! What is decided is decided in `bitbake_top`, and what it promises is the promise of this program, whatever another thread reads
-//! ahead meanwhile; the devices stand in `outside_os`. Here the words are taken from the system and the devices made, and standard
+//! ahead meanwhile; the devices stand in `outside_os` and `sh_bench`. Here the words are taken from the system and the devices made, and standard
 //! error tells of what failed, beside the ends of logs, which the benches show: which tasks gave too much, what is wrong with the metadata
 //! and what to do, who asks for what isn't there, and what a device says of its first fault.
 //! `--lint` is a mode of this program alone: its words go to no top call (`linting`, over `recipe_lint`).
@@ -19,6 +19,7 @@ mod places;
 mod records;
 mod sentences;
 mod streams;
+mod traces;
 
 use about::tell_about;
 use ahead::{is_run, read_ahead};
@@ -26,16 +27,18 @@ use bitbake_top::bitbake;
 use build_store::Ahead;
 use failures::tell_too_large;
 use faults::{tell_fault, tell_passed};
+use host_files::{Syncs, is_memory};
 use linting::{asks_for_lint, run_lint, tell_count};
-use outside_os::{
-    FolderDisk, FolderLayers, ReadAhead, Sandboxes, ShBench, StdSink, Syncs, is_memory,
-};
+use outside_os::{FolderDisk, FolderLayers, ReadAhead, StdSink};
 use recipe_lint::Counted;
+use run_trace::{Timed, micros_now};
+use sh_bench::{Sandboxes, ShBench};
 use std::process::ExitCode;
 use std::sync::Wait;
 use std::thread::{Threads, join};
 use std::{env, io};
 use streams::closed_streams;
+use traces::keep_trace;
 use tree_model::Text;
 
 /// The number of the last bench, from 0 on. The folders of benches are made at first use.
@@ -46,6 +49,13 @@ const OUT_OF_MEMORY: u8 = 11;
 
 /// An option that the command doesn't have. It stands for words that aren't UTF-8, which have no reading either.
 const NO_WORD: &str = "--not-utf-8";
+
+/// What the devices of a run have besides.
+#[derive(Drop)]
+struct Beside {
+    syncs: Syncs,
+    sandboxes: Sandboxes,
+}
 
 /// Ends with the status of the top call over the current folder and standard output.
 fn main(rt: HostRuntime) -> ExitCode {
@@ -64,16 +74,20 @@ fn main(rt: HostRuntime) -> ExitCode {
 /// The status of the top call over the current folder. Where an earlier run left something there, a run reads that in a thread of its own
 /// meanwhile.
 fn run<R: Threads + Wait + Sync>(rt: &HostRuntime, threads: &R) -> io::Result<u8> {
+    let begun = micros_now(rt);
     let words = words_of(rt)?;
     if asks_for_lint(&words) {
         return run_lint(rt, &words);
     }
     let reading = ReadAhead::none();
     let ahead = Ahead::none();
-    let syncs = Syncs::none();
-    let mut disk = FolderDisk::new(rt.clone()?, &syncs);
+    let beside = Beside {
+        syncs: Syncs::none(),
+        sandboxes: Sandboxes::unknown(),
+    };
+    let mut disk = FolderDisk::new(rt.clone()?, &beside.syncs);
     if !is_run(rt, &words) || !disk.hold_early(&reading) {
-        return call(rt, threads, &ahead, &words, disk);
+        return call(rt, threads, &ahead, &words, &beside, disk, begun);
     }
     let ((), status) = join(
         threads,
@@ -81,7 +95,7 @@ fn run<R: Threads + Wait + Sync>(rt: &HostRuntime, threads: &R) -> io::Result<u8
         || -> io::Result<u8>
             requires unharmed { disk.faults ≡ 0 }
         {
-            let status = call(rt, threads, &ahead, &words, disk);
+            let status = call(rt, threads, &ahead, &words, &beside, disk, begun);
             reading.stop();
             status
         },
@@ -95,18 +109,19 @@ fn call<R: Threads + Wait + Sync>(
     threads: &R,
     ahead: &Ahead,
     words: &[Text],
+    beside: &Beside,
     disk: FolderDisk<'_, HostRuntime>,
+    begun: u64,
 ) -> io::Result<u8>
     requires unharmed { disk.faults ≡ 0 }
 {
-    let sandboxes = Sandboxes::unknown();
     let mut benches = Vec::new(rt.alloc());
     for number in 0..LAST_BENCH {
-        benches.push(ShBench::new(rt.clone()?, number, &sandboxes))?;
+        benches.push(ShBench::new(rt.clone()?, number, &beside.sandboxes, &beside.syncs))?;
     }
-    benches.push(ShBench::new(rt.clone()?, LAST_BENCH, &sandboxes))?;
+    benches.push(ShBench::new(rt.clone()?, LAST_BENCH, &beside.sandboxes, &beside.syncs))?;
     let layers = Counted::new(rt.alloc(), FolderLayers::new(rt.clone()?));
-    let sink = StdSink::new(rt.clone()?);
+    let sink = Timed::new(rt.alloc(), StdSink::new(rt.clone()?), rt.clone()?);
     let mut finish = bitbake(
         threads,
         rt.alloc(),
@@ -121,10 +136,13 @@ fn call<R: Threads + Wait + Sync>(
         bench.close();
     }
     finish.disk.close();
+    if finish.disk.is_held() {
+        keep_trace(rt, &finish.plans, &finish.tales, finish.sink.lines(), begun);
+    }
     tell_too_large(rt, &finish.plans, &finish.tales);
     tell_fault(rt, &finish.status);
     tell_about(rt, &finish.status);
-    tell_sandboxes(rt, &sandboxes);
+    tell_sandboxes(rt, &beside.sandboxes);
     if !finish.plans.is_empty() {
         tell_count(rt, finish.layers.count());
     }
@@ -134,7 +152,7 @@ fn call<R: Threads + Wait + Sync>(
     for bench in &finish.benches {
         tell(rt, "bench", bench.first_fault());
     }
-    tell(rt, "output", finish.sink.first_fault());
+    tell(rt, "output", finish.sink.inner.first_fault());
     Ok(finish.status.code())
 }
 

@@ -41,8 +41,8 @@ use Rattle.store_model.proofs.Listing.{hash_itself}
 use Rattle.store_model.proofs.Ordered.{each_append}
 use Rattle.store_model.proofs.Worked.{all_of, each}
 use Rattle.run_model.specs.Headline.{MayBegin, nothing}
-use Rattle.build_resume.specs.Worked.{hello_book, hello_plan}
-use Rattle.bitbake_top.specs.Worked.{chain_plan, hello_left}
+use Rattle.build_resume.specs.Worked.{hello_plan}
+use Rattle.bitbake_top.specs.Worked.{chain_plan, hello_book, hello_left}
 
 -- ---- a first run
 

@@ -215,16 +215,16 @@ module _ (gives : Gives) (reading : Reading) (book : Book) (held : Store) (plan 
   ]
 
   -- nor did it touch it, where it was in its work folder
-  untouched : IsInWork held Rows sg → MayTouch gives leaves.again held plan options tale s leaves.halted t → ⊥
+  untouched : IsInWork held Rows sg → MayTouch gives leaves.again held plan options tale s leaves.restored t → ⊥
   untouched w (inl (inl finished)) = not_ended w (inl finished)
   untouched w (inl (inr restored)) = not_restored w restored
-  untouched w (inr (same, halted)) = elim halted.begun [
-    | inl broken ↦ not_ended w (inr broken)
+  untouched w (inr halted) = elim halted.begun [
+    | inl off ↦ not_ended w (inr off.broken)
     | inr had ↦
         let more = front_book gives plan leaves.again tale 0 in
         let x = signed_at Rows (rows_of (book_after gives plan leaves.again tale)) plan.tasks t sg is_sg in
         let is : slice_get (signatures (rows_of (leaves.again ++ more.0)) plan.tasks) t ≡ Some x.0 = ap (λ (b : Book). slice_get (signatures (rows_of b) plan.tasks) t) (sym more.1) ∙ x.1 in
-        (had x.0 x.1).0 (subst (λ (b : Book). IsInWork held (rows_of b) x.0) (sym more.1) (work_over held leaves.again more.0 x.0 leaves.same is w))
+        (had.1 x.0 x.1).0 (subst (λ (b : Book). IsInWork held (rows_of b) x.0) (sym more.1) (work_over held leaves.again more.0 x.0 leaves.same is w))
   ]
 
   -- ---- and it is there in each image
@@ -287,7 +287,7 @@ module _ (gives : Gives) (reading : Reading) (book : Book) (held : Store) (plan 
       is_name : IsName o.row.unihash
       is_name = subst IsName unihash (unihash_is_name gives reading book line.0 line.1 may.valid line.2)
 
-      none_put : IsObjectOfNone gives plan leaves.again tale (MayPublish gives leaves.again held plan options tale s leaves.halted) line.1
+      none_put : IsObjectOfNone gives plan leaves.again tale (MayPublish gives leaves.again held plan options tale s leaves.restored) line.1
       none_put u task at published pn name k is = elim (cases_eq u t) [
         | inl same ↦ not_started (inr o) (subst (HasStarted tale) same published.1)
         | inr ne ↦

@@ -6,7 +6,8 @@ use Rattle.tree_model.specs.declared.entry.Entry.TheVariants.{File}
 use Rattle.outside_traits.specs.Store.{Store, put}
 use Rattle.meta_model.specs.declared.plan.Plan.{Plan}
 use Rattle.store_model.specs.Available.{stamp_path, work_folder}
-use Rattle.store_model.specs.Hello.{hello_name, hello_task, top_task}
+use Rattle.store_model.specs.Hello.{first_line, hello_name, hello_task, top_task}
+use Rattle.store_model.specs.Origins.{Book}
 use Rattle.store_model.specs.Publication.{stamp_file}
 use Rattle.build_resume.specs.Worked.{recorded_alone}
 
@@ -16,6 +17,10 @@ no_plan = record { threads = 1; targets = []; tasks = [] }
 -- the disk holds one empty file, among the records
 abbrev pub stray : Store
 stray path = if bytes_eq path (codes "rec/x") then Some (File false []) else None
+
+-- the line that the run of one task records
+abbrev pub hello_book : Book
+hello_book = first_line ∷ []
 
 -- what the run of one task leaves of an empty disk: the record, the output in the task's work folder, and the stamp that names the record
 abbrev pub hello_left : Store

@@ -5,8 +5,8 @@ ghost use Rattle.answer_model.specs.declared.asked.ReadMode.TheVariants.{Parse, 
 ghost use Rattle.answer_model.specs.declared.asked.Asked.TheVariants.{Runs, Reads, Plans, Sample};
 ghost use Rattle.answer_model.specs.Asked.{asked_of};
 ghost use Rattle.run_model.specs.Headline.{MayBegin, nothing};
-ghost use Rattle.build_resume.specs.Worked.{hello_book, hello_plan};
-ghost use Rattle.bitbake_top.specs.Worked.{chain_plan, hello_left, no_plan, stray};
+ghost use Rattle.build_resume.specs.Worked.{hello_plan};
+ghost use Rattle.bitbake_top.specs.Worked.{chain_plan, hello_book, hello_left, no_plan, stray};
 ghost use Rattle.run_workers.specs.Nothing.{nothing_given};
 ghost use Rattle.meta_model.specs.Worked.{shell};
 ghost use Rattle.store_model.specs.Hello.{chain_reading, hello_reading};

@@ -18,9 +18,9 @@ use Rattle.meta_model.specs.declared.plan.PlanTask.{PlanTask}
 use Rattle.meta_model.specs.CleanBuild.{Gives}
 use Rattle.meta_model.proofs.Bools.{either_way}
 use Rattle.store_model.specs.declared.signature.EquivRow.{EquivRow}
-use Rattle.store_model.specs.Available.{IsAvailable, IsInObject, IsInWork, object_folder, stamp_path, work_folder}
+use Rattle.store_model.specs.Available.{IsAvailable, object_folder, stamp_path, work_folder}
 use Rattle.store_model.specs.Origins.{Book, Line, rows_of}
-use Rattle.store_model.specs.Signatures.{Signed, signatures}
+use Rattle.store_model.specs.Signatures.{signatures}
 use Rattle.store_opening.specs.Opening.{Clears}
 use Rattle.store_model.specs.Opened.{IsElsewhere, IsOpened}
 use Rattle.store_model.specs.Lines.{HaveSameLines}
@@ -36,9 +36,11 @@ use Rattle.run_queue.specs.Stands.{IsAsBegun, IsPublishing}
 use Rattle.run_queue.proofs.Found.{signed_task_at}
 use Rattle.run_queue.proofs.Placing.{has_place}
 use Rattle.run_queue.proofs.Touched.{none_less}
-use Rattle.run_model.specs.Build.{IsLeftAlone, LeavesOthers, MayPublish, MayTouch}
+use Rattle.run_model.specs.Build.{HadObject, IsLeftAlone, LeavesOthers, MayPublish, MayTouch}
 use Rattle.run_model.specs.Ends.{is_faultless}
+use Rattle.run_model.specs.Seats.{BreaksLast}
 use Rattle.build_resume.specs.Outcome.{KeptTo}
+use Rattle.build_resume.proofs.BrokenOff.{broke_last}
 use Rattle.build_resume.proofs.Outcomes.{fresh_image}
 
 -- ---- work folders and objects stand apart from records, stamps and temporary files
@@ -88,7 +90,7 @@ pub opened_alone : (gives : Gives) (book : Book) (before after : Story) (plan : 
 opened_alone gives book before after plan options tale s fresh p = record {
   again = book;
   same = same_lines book;
-  halted = 0;
+  restored = 0;
   others = λ image since t task at untouched. cleared_alone book before.held image task (opening_clears before after image fresh p since);
   objects = λ image since line has none q below. (opening_clears before after image fresh p since).left q (inl (object_elsewhere line.unihash q below));
   paths = λ image since q left aside. (opening_clears before after image fresh p since).left q left;
@@ -96,7 +98,7 @@ opened_alone gives book before after plan options tale s fresh p = record {
 
 -- ---- while the run goes on
 
-module _ (o : Opening) (book : Book) (before : Store) (rows : List EquivRow) (opened : IsOpened before o.story.held rows) (same : HaveSameLines book o.book) (plan : Plan) (options : Options) (tale : List Logged) (s : Status) (story : Story) (k : KeptTo o plan options tale s story) where
+module _ (o : Opening) (book : Book) (before : Store) (rows : List EquivRow) (opened : IsOpened before o.story.held rows) (same : HaveSameLines book o.book) (plan : Plan) (options : Options) (tale : List Logged) (s : Status) (story : Story) (k : KeptTo o plan options tale s story) (left : BreaksLast k.last.tale) where
   abbrev Touched : ℕ → Type 0
   Touched = MayTouch o.gives o.book before k.last.plan k.last.options k.last.tale s k.run.halted
 
@@ -115,8 +117,7 @@ module _ (o : Opening) (book : Book) (before : Store) (rows : List EquivRow) (op
       none_some (Some f) e is = let n : Some f ≡ None = e in cc
 
   -- what was there as an object in the opened store was so before, unless something stood at `obj`
-  had_object : (t : ℕ) → WasThere o k.last t Object → (sg : Signed) → slice_get (signatures (rows_of (book_after o.gives k.last.plan o.book k.last.tale)) k.last.plan.tasks) t ≡ Some sg
-      → (IsInWork before (rows_of (book_after o.gives k.last.plan o.book k.last.tale)) sg → ⊥) × (before (codes "obj") ≡ None → IsInObject before (rows_of (book_after o.gives k.last.plan o.book k.last.tale)) k.last.options.setscene sg)
+  had_object : (t : ℕ) → WasThere o k.last t Object → HadObject o.gives o.book before k.last.plan k.last.options k.last.tale t
   had_object t was sg is =
       let Rows : List EquivRow = rows_of (book_after o.gives k.last.plan o.book k.last.tale) in
       let object = subst (λ (r : List EquivRow). slice_get (signatures r k.last.plan.tasks) t ≡ Some sg → IsAvailable o.story.held r k.last.options.setscene sg Object) k.run.rows (was sg) is in
@@ -129,7 +130,7 @@ module _ (o : Opening) (book : Book) (before : Store) (rows : List EquivRow) (op
   touched t b = elim (k.run.told t b) [
     | inl up ↦ inl up
     | inr rest ↦ elim rest [
-      | inl it ↦ inr (it.1, record { faulty = faulty it.0; begun = elim it.2 [ inl broken ↦ inl broken | inr was ↦ inr (had_object t was) ] })
+      | inl it ↦ inr (record { faulty = faulty it.0; begun = elim it.2 [ inl broken ↦ inl (broke_last k.last.tale t left broken) | inr was ↦ inr (it.1, had_object t was) ] })
       | inr never ↦ absurd never
     ]
   ]
@@ -161,7 +162,7 @@ module _ (o : Opening) (book : Book) (before : Store) (rows : List EquivRow) (op
   last_others early = record {
     again = o.book;
     same = same;
-    halted = k.run.halted;
+    restored = k.run.halted;
     others = λ image since t task at untouched. elim (k.run.images 0 image (omega arith) since) [
       | inl was ↦ cleared_alone book before image task (early image was)
       | inr left ↦ begun_alone image task (left.others t task at (λ b. untouched (touched t b)))

@@ -1,5 +1,5 @@
 -- What a run leaves of a disk on which it began, over a book.
-use Rattle.std.proofs.Common.{◌≡◌, ◌∙◌, sym, subst, refl, ℕ, ◌+◌, ◌-◌, ◌^◌, ◌<◌, false, List, [], ◌++◌, take, slice_get, Some, arith, inl, inr}
+use Rattle.std.proofs.Common.{◌≡◌, ◌∙◌, sym, subst, refl, ℕ, ◌+◌, ◌-◌, ◌^◌, ◌<◌, false, List, [], take, slice_get, Some, arith, inl, inr}
 use Rattle.std.specs.Prelude.{◌≢◌, ◌⊎◌, Contains}
 use Rattle.std.proofs.lemmas.List.Elements.{All-cons, All-nil}
 use Rattle.outside_traits.specs.Passes.{EachNow, Passes}
@@ -26,10 +26,12 @@ use Rattle.run_queue.specs.Opening.{MayRun}
 use Rattle.run_model.specs.Opening.{Opening}
 use Rattle.run_model.specs.Stands.{AllStand, HasBroken, HasFinished, HasStarted, WereThere}
 use Rattle.run_model.specs.Runs.{Runs}
+use Rattle.run_model.specs.Seats.{BreaksLast}
 use Rattle.run_model.specs.Benches.{AtSeats}
 use Rattle.run_model.specs.Build.{AllClean, FailsClean, HasRun, HasTargets, IsCrash, IsEachFailureTold, IsLeftByOpening, IsLeftByRun, LeavesOthers, RanStarted, failed_in, is_unsteady}
 use Rattle.build_resume.specs.Build.{IsEntry, Leaves}
 use Rattle.run_model.specs.Outcome.{EndsAs}
+use Rattle.run_queue.proofs.Flying.{left_by_run}
 use Rattle.build_resume.specs.Outcome.{KeptTo}
 use Rattle.build_resume.proofs.Alone.{kept_others, opened_alone, opening_clears}
 use Rattle.build_resume.proofs.Closed.{closed_started}
@@ -85,10 +87,10 @@ module _ (gives : Gives) (reading : Reading) (book : Book) (plan : Plan) (option
         }
 
     -- a crash since the run began left what the opening did, or what the run leaves
-    left_by_run : (image : Store) → IsImageSince k.last.story 0 image → IsImageSince opening.story 0 image ⊎ IsLeftByRun opening k.last.plan (k.run.lines ++ k.run.last) image
-    left_by_run image since = elim (k.run.images 0 image (omega arith) since) [
+    crash_by_run : (image : Store) → IsImageSince k.last.story 0 image → IsImageSince opening.story 0 image ⊎ IsLeftByRun opening k.last.plan k.last.tale image
+    crash_by_run image since = elim (k.run.images 0 image (omega arith) since) [
       | inl early ↦ inl early
-      | inr left ↦ inr (record { count = left.count; valid = left.valid; honest = left.honest })
+      | inr left ↦ inr (left_by_run opening k.last.plan k.last.begun k.last.tale image left)
     ]
 
     pub built_legal : HasRun gives reading book before.held plan options tale s story
@@ -101,36 +103,32 @@ module _ (gives : Gives) (reading : Reading) (book : Book) (plan : Plan) (option
       legal = as_kept (λ p x l st. IsLegalTale opening p x l) k.run.legal;
       there = as_kept (λ p x l st. WereThere opening p x l) k.run.were_there;
       started = as_kept (λ p x l st. (t : ℕ) → HasFinished l t ⊎ HasBroken l t → HasStarted l t) (closed_started k.last.plan.tasks k.last.tale k.orderly);
-      lines = k.run.lines;
-      grown = as_kept (λ p x l st. book_after gives p opening.book l ≡ opening.book ++ k.run.lines) k.run.grown;
-      last = k.run.last;
-      few_last = k.run.few_last;
-      none_last = λ is. k.run.none_last (k.faultless is);
-      recorded = λ is. as_kept (λ p x l st. EachNow st (λ image. IsValid gives reading image (opening.book ++ k.run.lines))) (k.run.durable (k.faultless is));
+      recorded = λ is. as_kept (λ p x l st. EachNow st (λ image. IsValid gives reading image (book_after gives p opening.book l)))
+          (λ image now. subst (IsValid gives reading image) (sym k.run.grown) (k.run.durable (k.faultless is) image now));
       swept = λ is. as_kept (λ p x l st. HasNoLitter st.held) (k.run.swept (k.faultless is));
       early = left_by_opening;
-      images = as_kept (λ p x l st. (image : Store) → IsImageSince st 0 image → IsImageSince opening.story 0 image ⊎ IsLeftByRun opening p (k.run.lines ++ k.run.last) image) left_by_run;
+      images = as_kept (λ p x l st. (image : Store) → IsImageSince st 0 image → IsImageSince opening.story 0 image ⊎ IsLeftByRun opening p l image) crash_by_run;
       stands = as_kept (λ p x l st. EachNow st (AllStand opening p l)) k.run.stands;
       since = as_kept
           (λ p x l st. (n : ℕ) (entry : Logged) → slice_get l n ≡ Some entry → entry.moment < 2 ^ 64 - 1 → (image : Store) → IsImageSince st entry.moment image → AllStand opening p (take (n + 1) l) image) k.run.settled;
     }
 
-    pub built_others : LeavesOthers gives book before.held plan options tale s story
-    built_others = kept_others opening book before.held rows was.opened again.same plan options tale s story k (λ image since. opening_clears before after image was.fresh was.clears since)
+    pub built_others : BreaksLast tale → LeavesOthers gives book before.held plan options tale s story
+    built_others left = kept_others opening book before.held rows was.opened again.same plan options tale s story k (subst BreaksLast (sym k.tale_is) left) (λ image since. opening_clears before after image was.fresh was.clears since)
 
     pub built_real : (t : ℕ) → Contains (failed_in tale) t → FailsClean gives plan t
     built_real = kept_real opening plan options tale s story k
 
     -- all together
-    pub built_leaves : IsStorySound story → is_unsteady s ≡ false → (runs now : List Runs) → AtSeats (RanStarted gives plan tale) runs now → Leaves gives reading book before.held plan options tale s story runs now
-    built_leaves lawful steady runs now ran = record {
+    pub built_leaves : IsStorySound story → BreaksLast tale → is_unsteady s ≡ false → (runs now : List Runs) → AtSeats (RanStarted gives plan tale) runs now → Leaves gives reading book before.held plan options tale s story runs now
+    built_leaves lawful left steady runs now ran = record {
       keeps = record {
         exact = built_exact;
         crashes = built_crashes;
         legal = All-cons (λ x. (x ≡ []) ⊎ HasRun gives reading book before.held plan options x s story) tale [] (inr built_legal) (All-nil _);
         real = All-cons (λ x. (t : ℕ) → Contains (failed_in x) t → FailsClean gives plan t) tale [] (built_real) (All-nil _);
         all_told = λ wanted failed going. All-cons (IsEachFailureTold gives plan) tale [] (all_told opening plan options tale s story k lawful entry.sound wanted (ends.went_on failed going)) (All-nil _);
-        others = All-cons (λ x. LeavesOthers gives book before.held plan options x s story) tale [] (built_others) (All-nil _);
+        others = All-cons (λ x. LeavesOthers gives book before.held plan options x s story) tale [] (built_others left) (All-nil _);
         steady = steady;
         ran = ran;
       };

@@ -6,6 +6,7 @@ pub mod Halting
 pub mod Failed
 pub mod Outcomes
 pub mod Reports
+pub mod BrokenOff
 pub mod Alone
 pub mod Begun
 pub mod Closed

@@ -1,5 +1,5 @@
 -- What a run leaves, by what its last state kept.
-use Rattle.std.proofs.Common.{◌≡◌, ◌∙◌, sym, ap, subst, refl, ℕ, ◌+◌, ◌<◌, zero, suc, arith, Bool, true, false, List, [], ◌∷◌, ◌++◌, length, take, append-nil, replicate, Some, None, Ok, Err, inl, inr}
+use Rattle.std.proofs.Common.{◌≡◌, ◌∙◌, sym, ap, subst, refl, ℕ, ◌+◌, ◌<◌, zero, suc, arith, Bool, true, false, List, [], ◌∷◌, ◌++◌, length, take, append-nil, append_assoc, replicate, Some, None, Ok, Err, inl, inr}
 use Rattle.std.specs.Prelude.{◌⊎◌, ◌≢◌, Contains, Option, Result}
 use Rattle.std.specs.List.{AllByRecursion, slice_get}
 use Rattle.std.proofs.lemmas.Bool.{false≢true}
@@ -33,10 +33,13 @@ use Rattle.store_opening.proofs.Reused.{no_collision, reuse_again}
 use Rattle.store_opening.proofs.SameLines.{other_lines}
 use Rattle.store_opening.proofs.Opened.{has_way}
 use Rattle.run_model.specs.Report.{has_failure, is_failure}
+use Rattle.run_model.specs.Books.{book_after}
+use Rattle.run_model.specs.InFlight.{book_with, lines_in_flight}
 use Rattle.run_model.specs.Opening.{Opening}
 use Rattle.run_queue.specs.Opening.{MayRun}
 use Rattle.run_model.specs.Outcome.{IsAtEnd}
 use Rattle.run_queue.proofs.Ending.{exact_at_end}
+use Rattle.run_queue.proofs.Enduring.{front_book}
 use Rattle.run_queue.proofs.Failing.{failed_is_real}
 use Rattle.run_queue.proofs.Wanted.{all_have_outputs}
 use Rattle.run_model.specs.Build.{AllClean, FailsClean, HasTargets, IsCrash, failed_in}
@@ -176,23 +179,19 @@ module _ (o : Opening) (plan : Plan) (options : Options) (tale : List Logged) (s
   kept_crash gives reading book gives_is reading_is same before image since =
       elim (k.run.images 0 image (omega arith) (subst (λ (x : Story). IsImageSince x 0 image) (sym k.story_is) since)) [
         | inl early ↦ before image early
-        | inr left ↦ record {
-          again = o.book;
-          same = same;
-          lines = take left.count (k.run.lines ++ k.run.last);
-          valid = subst (λ (r : Reading). IsValid gives r image (o.book ++ take left.count (k.run.lines ++ k.run.last))) reading_is (subst (λ (x : Gives). IsValid x o.reading image (o.book ++ take left.count (k.run.lines ++ k.run.last))) gives_is left.valid);
-          readable = front_all o.book (k.run.lines ++ k.run.last) left.count k.run.readable;
-        }
+        | inr left ↦
+            let f = front_book o.gives k.last.plan o.book (take left.count k.last.tale) 0 in
+            let after = left.after.after in
+            let fl : Book = lines_in_flight o.gives k.last.plan (book_after o.gives k.last.plan o.book (take left.count k.last.tale)) after.in_flight in
+            let same_book : book_with o k.last.plan (take left.count k.last.tale) after.in_flight ≡ o.book ++ (f.0 ++ fl) = ap (λ (b : Book). b ++ fl) f.1 ∙ append_assoc o.book f.0 fl in
+            record {
+              again = o.book;
+              same = same;
+              lines = f.0 ++ fl;
+              valid = subst (λ (r : Reading). IsValid gives r image (o.book ++ (f.0 ++ fl))) reading_is (subst (λ (x : Gives). IsValid x o.reading image (o.book ++ (f.0 ++ fl))) gives_is (subst (IsValid o.gives o.reading image) same_book after.valid));
+              readable = subst (AllByRecursion IsReadable) same_book left.after.readable;
+            }
       ]
-    where
-      front_all : (one more : Book) (n : ℕ) → AllByRecursion IsReadable (one ++ more) → AllByRecursion IsReadable (one ++ take n more)
-      front_all [] more n all = front more n all
-        where
-          front : (more : Book) (n : ℕ) → AllByRecursion IsReadable more → AllByRecursion IsReadable (take n more)
-          front more zero all = tt
-          front [] (suc n) all = tt
-          front (x ∷ more) (suc n) all = (all.0, front more n all.1)
-      front_all (x ∷ one) more n all = (all.0, front_all one more n all.1)
 
 -- ---- opening
 

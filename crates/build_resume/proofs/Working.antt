@@ -32,7 +32,7 @@ use Rattle.build_resume.proofs.Seating.{own_split}
 -- ---- entries of a seat
 
 -- the test of an entry's seat
-own_step : (n : ℕ) (e : Logged) (tale : List Logged) → e.seat ≡ n → own n (e ∷ tale) ≡ e ∷ own n tale
+pub own_step : (n : ℕ) (e : Logged) (tale : List Logged) → e.seat ≡ n → own n (e ∷ tale) ≡ e ∷ own n tale
 own_step n e tale is = elim (eqb_tells e.seat n) [
   | inl same ↦ ap (λ (b : Bool). if b then e ∷ own n tale else own n tale) same.0
   | inr other ↦ absurd (other.1 is)

@@ -9,7 +9,6 @@ use Rattle.meta_model.specs.declared.plan.Plan.{Plan}
 use Rattle.meta_model.specs.Worked.{planned, shell}
 use Rattle.store_model.specs.Available.{stamp_path}
 use Rattle.store_model.specs.Hello.{first_line, hello_name, hello_reading, hello_task}
-use Rattle.store_model.specs.Origins.{Book}
 use Rattle.store_model.specs.Recording.{with_record}
 use Rattle.store_model.specs.Publication.{stamp_file}
 use Rattle.run_model.specs.Opening.{Opening}
@@ -29,9 +28,9 @@ hello_plan = record { threads = 1; targets = 0 ∷ []; tasks = hello_task ∷ []
 abbrev pub empty_opening : Opening
 empty_opening = record { gives = shell; reading = hello_reading; story = record { held = nothing; calls = [] }; book = [] }
 
--- the line that it records
-abbrev pub hello_book : Book
-hello_book = first_line ∷ []
+-- its task was started
+abbrev pub hello_started : List Logged
+hello_started = record { event = events.Started 0 1; seat = 1; moment = 0 } ∷ []
 
 -- the disk holds the record, and no stamp
 abbrev pub recorded_alone : Store

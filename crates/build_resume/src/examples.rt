@@ -2,7 +2,7 @@
 ghost use Rattle.std.specs.Prelude.{[]};
 ghost use Rattle.meta_model.specs.Worked.{shell};
 ghost use Rattle.run_model.specs.Build.{IsEachFailureTold, IsLeftByRun};
-ghost use Rattle.build_resume.specs.Worked.{empty_opening, failing_plan, failing_tale, hello_book, hello_plan, recorded_alone, stamped_alone};
+ghost use Rattle.build_resume.specs.Worked.{empty_opening, failing_plan, failing_tale, hello_plan, hello_started, recorded_alone, stamped_alone};
 
 /// A plan whose one task fails.
 pub fn example_of_failures()
@@ -10,10 +10,12 @@ pub fn example_of_failures()
     ensures untold { IsEachFailureTold shell failing_plan [] → ⊥ }
 {}
 
-/// What a crash left of a run of one task, which records one line.
+/// What a crash left of a run of one task.
 pub fn example_of_crashes()
-    // between the record and the stamp
-    ensures recorded { IsLeftByRun empty_opening hello_plan hello_book recorded_alone }
+    // between the record and the stamp, while the task ran
+    ensures recorded { IsLeftByRun empty_opening hello_plan hello_started recorded_alone }
+    // the record of a task that never ran
+    ensures unstarted { IsLeftByRun empty_opening hello_plan [] recorded_alone → ⊥ }
     // a stamp that names no record lies
-    ensures stamped { IsLeftByRun empty_opening hello_plan hello_book stamped_alone → ⊥ }
+    ensures stamped { IsLeftByRun empty_opening hello_plan hello_started stamped_alone → ⊥ }
 {}

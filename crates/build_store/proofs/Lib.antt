@@ -1,6 +1,7 @@
 pub mod Apart
 pub mod Drafted
 pub mod Finished
+pub mod FoldersStay
 pub mod Forgotten
 pub mod Found
 pub mod Free
@@ -10,8 +11,16 @@ pub mod Phasing
 pub mod Quieting
 pub mod Restored
 pub mod Rounding
+pub mod Righting
 pub mod Rows
 pub mod Stays
 pub mod Sweeping
 pub mod Validity
 pub mod Written
+pub mod Around
+pub mod PhaseSteps
+pub mod PutStays
+pub mod Noting
+pub mod Piecing
+pub mod Staying
+pub mod Stepping

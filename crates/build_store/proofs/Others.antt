@@ -1,16 +1,13 @@
 -- A publication leaves other tasks alone.
-use Rattle.std.proofs.Common.{◌≡◌, ◌≢◌, ◌∙◌, sym, ap, subst, refl, ℕ, ◌⊎◌, inl, inr, List, [], ◌∷◌, ◌++◌, Option, Some, None, arith, append_assoc}
-use Rattle.std.specs.Prelude.{codes, IsSome}
-use Rattle.std.specs.Option.{is_some}
-use Rattle.std.proofs.lemmas.Bool.{false≢true}
+use Rattle.std.proofs.Common.{◌≡◌, ◌≢◌, ◌∙◌, sym, ap, subst, refl, ℕ, ◌⊎◌, inl, inr, List, [], ◌∷◌, ◌++◌, Option, Some, None, arith}
+use Rattle.std.specs.Prelude.{codes}
 use Rattle.tree_model.specs.declared.hash.Hash.{Hash}
 use Rattle.tree_model.specs.declared.manifest.ManifestLine.{ManifestLine}
 use Rattle.tree_model.specs.Hash.{hash_text}
 use Rattle.tree_model.specs.Path.{IsAtOrBelow, IsBelow, inside}
-use Rattle.outside_traits.specs.Store.{HoldsTree, IsApart, Store}
-use Rattle.outside_traits.proofs.Folders.{above_under, under_same}
-use Rattle.outside_traits.proofs.Held.{none_unless}
-use Rattle.meta_model.specs.CleanBuild.{Entries, Gives}
+use Rattle.outside_traits.specs.Store.{IsApart, Store}
+use Rattle.outside_traits.proofs.Folders.{under_same}
+use Rattle.meta_model.specs.CleanBuild.{Gives}
 use Rattle.store_model.specs.declared.signature.EquivRow.{EquivRow}
 use Rattle.store_model.specs.Available.{Matches, object_folder, task_folder, work_folder}
 use Rattle.store_model.specs.Origins.{Book, Line, Reading}
@@ -23,7 +20,8 @@ use Rattle.build_store.specs.Laws.{HasLinePlace, IsOfTask, KeepsOutput, OthersIn
 use Rattle.store_model.specs.Paths.{slashes}
 use Rattle.build_store.specs.Publication.{IsForeign, KeepsOthers, Publishes}
 use Rattle.store_model.specs.Publication.{Publication, stamp_at, work_at}
-use Rattle.build_store.proofs.Apart.{apart_by_count, apart_under, apart_within, below_again, same_parts}
+use Rattle.build_store.proofs.Apart.{apart_by_count, apart_under, apart_within, same_parts}
+use Rattle.build_store.proofs.FoldersStay.{in_top, tree_far}
 use Rattle.store_opening.proofs.Areas.{apart_by_first, differ, heads_differ}
 use Rattle.store_opening.proofs.Clean.{name_is_name, name_slashes}
 use Rattle.build_store.proofs.Rounding.{begins}
@@ -152,40 +150,9 @@ others_stay p line other old new of publishes gives reading book valid (inr behi
 
 -- ---- what is available
 
--- what stands above a place in a top folder is that folder or in it
-in_top : (top f q : List ℕ) → slashes top ≡ 0 → IsBelow q (inside top f) → IsAtOrBelow top q
-in_top top f q none up = by (above_under top f q up)
-  where
-    by : IsBelow q top ⊎ ((q ≡ top) ⊎ ((r : List ℕ) × (q ≡ inside top r) × IsBelow r f)) → IsAtOrBelow top q
-    by (inl over) = absurd (let e = ap slashes over.1 ∙ slashes_inside q over.0 in omega (arith, e, none))
-    by (inr (inl at)) = inl at
-    by (inr (inr w)) = inr (w.0, w.1)
-
 module _ (top f other : List ℕ) (plain : slashes top ≡ 0) (apart : IsApart f other) (held old new : Store) (same : (q : List ℕ) → IsAtOrBelow top q → IsApart (inside top f) q → new q ≡ old q) (above : (q : List ℕ) → IsBelow q (inside top f) → held q ≡ None → new q ≡ old q) where
-  far : IsApart (inside top f) (inside top other)
-  far = apart_under top f other apart
-
-  -- a tree in a folder that is apart stays
-  still_there : (tree first : Entries) → HoldsTree (inside top other) first held → HoldsTree (inside top other) tree old → HoldsTree (inside top other) tree new
-  still_there tree first then' was = record {
-    entries = λ path. same (inside (inside top other) path) (inr (inside other path, append_assoc top (47 ∷ other) (47 ∷ path))) (apart_within (inside top f) (inside top other) (inside (inside top other) path) far (inr (path, refl))) ∙ was.entries path;
-    outside = record { at = same (inside top other) (inr (other, refl)) far ∙ was.outside.at; above = λ q up. none_unless (new q) (not_held q up) };
-  }
-    where
-      not_held : (q : List ℕ) → IsBelow q (inside top other) → IsSome (new q) → ⊥
-      not_held q up some =
-          let over : IsBelow q (inside top f) → ⊥ = λ up'. some_not (above q up' (then'.outside.above q up) ∙ was.outside.above q up) in
-          some_not (same q (in_top top other q plain up) (record {
-            not_folder = λ at. far.not_under (subst (λ (p : List ℕ). IsBelow p (inside top other)) at up);
-            not_above = over;
-            not_under = λ under. far.not_under (below_again (inside top f) q (inside top other) under up);
-          }) ∙ was.outside.above q up)
-        where
-          some_not : new q ≡ None → ⊥
-          some_not none = false≢true (sym (ap is_some none) ∙ some)
-
   matches_still : (lines : List ManifestLine) → Matches held (inside top other) lines → Matches old (inside top other) lines → Matches new (inside top other) lines
-  matches_still lines then' was = record { tree = was.tree; is_tree = was.is_tree; holds = still_there was.tree then'.tree then'.holds was.holds; manifest = was.manifest }
+  matches_still lines then' was = record { tree = was.tree; is_tree = was.is_tree; holds = tree_far top f other plain apart held old new same above was.tree then'.holds.outside was.holds; manifest = was.manifest }
 
 pub others_in_work_stay : OthersInWorkStay
 others_in_work_stay of object held old new keeps place rows s place' differ' then' was =

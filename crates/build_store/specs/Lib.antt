@@ -7,3 +7,9 @@ pub mod Drafts
 pub mod Outcome
 pub mod Finding
 pub mod Laws
+pub mod Items
+pub mod Calls
+pub mod Ending
+pub mod Halves
+pub mod Noting
+pub mod Pieces

@@ -3,7 +3,8 @@ use Rattle.std.specs.Prelude.{◌≡◌, ◌≢◌, ◌⊎◌, ℕ, List, codes,
 use Rattle.std.specs.Option.{is_some}
 use Rattle.tree_model.specs.declared.entry.Entry.{Entry}
 use Rattle.tree_model.specs.declared.hash.Hash.{Hash}
-use Rattle.tree_model.specs.Path.{IsBelow}
+use Rattle.tree_model.specs.Path.{IsBelow, inside}
+use Rattle.tree_model.specs.Tree.{entry_at}
 use Rattle.outside_traits.specs.Store.{IsApart, Store}
 use Rattle.meta_model.specs.CleanBuild.{Entries}
 use Rattle.store_model.specs.Available.{object_folder}
@@ -24,6 +25,12 @@ pub record Shares (object : Option Hash) (old new : Store) : Type 0 where
 pub record SharesRound (object : Option Hash) (held old new : Store) : Type 0 where
   pub others : (q : List ℕ) → IsApartFrom object q → new q ≡ old q
   pub above : (unihash : Hash) → object ≡ Some unihash → (q : List ℕ) → IsBelow q (object_folder unihash) → held q ≡ None → new q ≡ old q
+
+-- The object becomes the tree, if there is one: the stores agree apart from its folder, and at each path under it at which this store holds
+-- what the tree has there.
+pub record SharesRight (object : Option Hash) (tree : Entries) (held old new : Store) : Type 0 where
+  pub others : (q : List ℕ) → ((unihash : Hash) → object ≡ Some unihash → IsApart (object_folder unihash) q) → new q ≡ old q
+  pub right : (unihash : Hash) → object ≡ Some unihash → (path : List ℕ) → held (inside (object_folder unihash) path) ≡ entry_at tree path → new (inside (object_folder unihash) path) ≡ old (inside (object_folder unihash) path)
 
 -- the work folder changes, and that of the object, if there is one
 pub record Lays (folder : List ℕ) (object : Option Hash) (old new : Store) : Type 0 where

@@ -3,7 +3,7 @@ use Rattle.std.specs.Prelude.{◌≡◌, ◌≢◌, ◌⊎◌, ◌≤◌, ℕ, t
 use Rattle.tree_model.specs.declared.hash.Hash.{Hash}
 use Rattle.tree_model.specs.Manifest.{manifest_lines}
 use Rattle.tree_model.specs.Path.{IsAtOrBelow, IsBelow, inside}
-use Rattle.tree_model.specs.Tree.{IsTree}
+use Rattle.tree_model.specs.Tree.{IsTree, entry_at}
 use Rattle.outside_traits.specs.Store.{HoldsTree, IsApart, Store}
 use Rattle.meta_model.specs.CleanBuild.{Entries}
 use Rattle.store_model.specs.declared.signature.EquivRow.{EquivRow}
@@ -55,6 +55,16 @@ pub record KeepsOthers (folder : List ℕ) (object : Option Hash) (held old new 
   pub objects : (q : List ℕ) → IsAtOrBelow (codes "obj") q → ((unihash : Hash) → object ≡ Some unihash → IsApart (object_folder unihash) q) → new q ≡ old q
   pub above_work : (q : List ℕ) → IsBelow q (work_at folder) → held q ≡ None → new q ≡ old q
   pub above_object : (unihash : Hash) → object ≡ Some unihash → (q : List ℕ) → IsBelow q (object_folder unihash) → held q ≡ None → new q ≡ old q
+
+-- Each path in the work folder, and in the folder of the object, if there is one, at which this store holds what the tree has there stays:
+-- what is held already isn't written again, and what isn't held isn't removed.
+pub record KeepsRight (folder : List ℕ) (object : Option Hash) (tree : Entries) (held old new : Store) : Type 0 where
+  pub work : (path : List ℕ) → held (inside (work_at folder) path) ≡ entry_at tree path → new (inside (work_at folder) path) ≡ old (inside (work_at folder) path)
+  pub shared : (unihash : Hash) → object ≡ Some unihash → (path : List ℕ) → held (inside (object_folder unihash) path) ≡ entry_at tree path → new (inside (object_folder unihash) path) ≡ old (inside (object_folder unihash) path)
+
+-- Each path in the work folder at which this store holds what the object has there stays.
+pub record KeepsCopied (folder : List ℕ) (unihash : Hash) (held old new : Store) : Type 0 where
+  pub work : (path : List ℕ) → held (inside (work_at folder) path) ≡ held (inside (object_folder unihash) path) → new (inside (work_at folder) path) ≡ old (inside (work_at folder) path)
 
 -- ---- a task that has run
 

@@ -1,5 +1,8 @@
 // What follows from what the store's calls do, each law the contract of a function that does nothing.
+ghost use Rattle.build_store.specs.Ending.{NowIsTicket, PhasesEnd, PhasesStay, RecordGoesOn, StagedAtFirst, StampGoesOn};
 ghost use Rattle.build_store.specs.Laws.{OthersInWorkStay, OthersObjectsStay, OthersStay, OthersUntouched, PublishedIsValid};
+ghost use Rattle.build_store.specs.Noting.{NotedIsHalf};
+ghost use Rattle.build_store.specs.Pieces.{FinishesIsPublishing, HalvesStay, MayBeWritten, OpensIsPublishing, OthersKeepPut, PublicationStays, StepGoesOn, WholeAtLast, WorksIsPublishing};
 
 /// At each moment of a publication a valid store is valid, with the same book or with the publication's line behind it.
 pub fn published_is_valid()
@@ -13,4 +16,39 @@ pub fn others_stay()
     ensures lines { OthersStay }
     ensures in_work { OthersInWorkStay }
     ensures objects { OthersObjectsStay }
+{}
+
+/// Each call of a publication in pieces does at each moment what a publication does, to its own task and to others.
+pub fn pieces_publish()
+    ensures opens { OpensIsPublishing }
+    ensures works { WorksIsPublishing }
+    ensures finishes { FinishesIsPublishing }
+{}
+
+/// An open publication stays as it is, whatever another one does, and so does all that it has put where it is at its end; and what it is to
+/// put stays the same while other rows come.
+pub fn open_ones_stay()
+    ensures halves { HalvesStay }
+    ensures put { OthersKeepPut }
+    ensures publication { PublicationStays }
+{}
+
+/// Opening notes what is to be done. A step does what is next, and leaves the rest; each entry may be written as its turn comes; and with
+/// nothing left the folders hold exactly the tree.
+pub fn steps_lead_on()
+    ensures noted { NotedIsHalf }
+    ensures step { StepGoesOn }
+    ensures free { MayBeWritten }
+    ensures whole { WholeAtLast }
+{}
+
+/// Then all is staged, the record is renamed, if it is new, and the stamp, each once a ticket has ended, whatever others do meanwhile; and
+/// behind the last ticket's end each crash leaves all that the stamp tells of.
+pub fn phases_lead_on()
+    ensures ticket { NowIsTicket }
+    ensures first { StagedAtFirst }
+    ensures stay { PhasesStay }
+    ensures record { RecordGoesOn }
+    ensures stamp { StampGoesOn }
+    ensures last { PhasesEnd }
 {}

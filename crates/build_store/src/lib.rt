@@ -20,6 +20,11 @@
 //! Opening reads each file under `rec/` and `stamp/`. What the files under `rec/` say another thread may have worked out before (`Known`,
 //! `Ahead`): that counts only where opening reads just these files, so whatever was left there, no clause is another.
 //!
+//! Several publications may stand half staged in one store, each put in pieces: what is kept of one that is open (`specs/Halves`), what each
+//! of its calls does (`Calls`), and what follows (`Pieces`, `Ending`) are stated and proved; no call makes one yet. Each such call is a publication
+//! at each moment (`pieces_publish`); what others do leaves an open one as it is (`open_ones_stay`); its steps lead to folders that hold
+//! exactly the tree (`steps_lead_on`), and tickets in place of syncs to a stamp that never lies (`phases_lead_on`).
+//!
 //! `known_name` gives for a PN and the bytes of a signature the name of every signature with these bytes, where it knows one; that it does
 //! isn't promised. `into_disk` gives the disk back, which in every image holds the records of all rows.
 //!
@@ -45,7 +50,9 @@ mod store;
 
 pub use fault::StoreFault;
 pub use kept::KeptSig;
-pub use laws::{others_stay, published_is_valid};
+pub use laws::{
+    open_ones_stay, others_stay, phases_lead_on, pieces_publish, published_is_valid, steps_lead_on,
+};
 pub use refused::OpenRefused;
 pub use store::{Store, open_store};
 pub use store_opening::{Ahead, Known, opened_has_way, opened_is_valid, opened_stays, reuse_again};

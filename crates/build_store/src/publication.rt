@@ -5,12 +5,12 @@ ghost use Rattle.tree_model.specs.declared.hash.Hash.{Hash as AHash};
 ghost use Rattle.outside_traits.specs.Answers.{IsSettled};
 ghost use Rattle.outside_traits.specs.Fault.{Counts, disk_failed};
 ghost use Rattle.outside_traits.specs.Passes.{EachNow, Passes, Same};
-ghost use Rattle.outside_traits.specs.Store.{AgreesApart, AgreesRound, ChangesAt, HoldsTree, Moves};
+ghost use Rattle.outside_traits.specs.Store.{AgreesApart, AgreesRound, ChangesAt, HoldsTree, LaysTree, Moves};
 ghost use Rattle.stamp_store.specs.Stamp.{IsFolder, staged_path};
 ghost use Rattle.store_opening.specs.Paths.{IsLaidOut, staged_record_path};
 ghost use Rattle.store_model.specs.Paths.{record_path, slashes};
-ghost use Rattle.build_store.specs.Phases.{AddsStaged, AddsStagedFile, IsFileOf, IsStagedFile, IsStoredFile, Lays, Settles, Shares, SharesRound, Stages, put_of};
-ghost use Rattle.build_store.specs.Publication.{AreShort, HoldsObject, IsPublished, KeepsOthers, Publishes, SameObjects};
+ghost use Rattle.build_store.specs.Phases.{AddsStaged, AddsStagedFile, IsFileOf, IsStagedFile, IsStoredFile, Lays, Settles, Shares, SharesRight, SharesRound, Stages, put_of};
+ghost use Rattle.build_store.specs.Publication.{AreShort, HoldsObject, IsPublished, KeepsOthers, KeepsRight, Publishes, SameObjects};
 ghost use Rattle.store_model.specs.Opened.{HasNoLitter};
 ghost use Rattle.store_model.specs.Publication.{stamp_file, work_at};
 ghost use Rattle.store_opening.specs.Named.{IsName};
@@ -23,7 +23,7 @@ use std::alloc::Global;
 use store_opening::{record_path, work_at};
 use tree_model::{Entry, Hash, Tree};
 
-/// Makes a task's work folder the tree.
+/// Makes a task's work folder the tree. What is held of it already isn't written again.
 fn lay_work<D: Disk>(
     alloc: Global,
     disk: &mut D,
@@ -37,6 +37,8 @@ fn lay_work<D: Disk>(
     ensures others { D.tells → Passes (D.story disk.old) (D.story disk.new) (AgreesApart (work_at folder.now)) }
     ensures round { D.tells → Passes (D.story disk.old) (D.story disk.new)
         (AgreesRound (work_at folder.now) (D.story disk.old).held) }
+    ensures lays { D.tells → Passes (D.story disk.old) (D.story disk.new)
+        (LaysTree (work_at folder.now) tree.now (D.story disk.old).held) }
     ensures cause { Counts (D.faults disk.old) (D.faults disk.new) (disk_failed result) }
 {
     let work = work_at(alloc, folder)?;
@@ -60,6 +62,8 @@ fn lay_object<D: Disk>(
     ensures others { D.tells → Passes (D.story disk.old) (D.story disk.new) (Shares object.now) }
     ensures round { D.tells → Passes (D.story disk.old) (D.story disk.new)
         (SharesRound object.now (D.story disk.old).held) }
+    ensures right { D.tells → Passes (D.story disk.old) (D.story disk.new)
+        (SharesRight object.now tree.now (D.story disk.old).held) }
     ensures cause { Counts (D.faults disk.old) (D.faults disk.new) (disk_failed result) }
 {
     match object {
@@ -90,6 +94,8 @@ fn lay<D: Disk>(
     ensures others { D.tells → Passes (D.story disk.old) (D.story disk.new) (Lays folder.now object.now) }
     ensures round { D.tells → Passes (D.story disk.old) (D.story disk.new)
         (KeepsOthers folder.now object.now (D.story disk.old).held) }
+    ensures right { D.tells → Passes (D.story disk.old) (D.story disk.new)
+        (KeepsRight folder.now object.now tree.now (D.story disk.old).held) }
     ensures cause { Counts (D.faults disk.old) (D.faults disk.new) (disk_failed result) }
 {
     lay_work(alloc, disk, folder, tree)?;
@@ -211,7 +217,8 @@ fn settle_record<D: Disk>(
 
 /// Puts a tree: its work folder, the object and the record, where there are such, and last the stamp, which names the record.
 ///
-/// At each moment the stamp is gone, or all that it tells of is there, or nothing was touched yet.
+/// At each moment the stamp is gone, or all that it tells of is there, or nothing was touched yet. What is held of the tree already isn't
+/// written again.
 pub(crate) fn put<D: Disk>(
     alloc: Global,
     disk: &mut D,
@@ -239,6 +246,8 @@ pub(crate) fn put<D: Disk>(
     ensures laid_out { D.tells → IsLaidOut (D.story disk.new).held }
     ensures round { D.tells → Passes (D.story disk.old) (D.story disk.new)
         (KeepsOthers folder.now object.now (D.story disk.old).held) }
+    ensures right { D.tells → Passes (D.story disk.old) (D.story disk.new)
+        (KeepsRight folder.now object.now tree.now (D.story disk.old).held) }
     ensures cause { Counts (D.faults disk.old) (D.faults disk.new) (disk_failed result) }
 {
     invalidate(alloc, disk, folder)?;

@@ -15,7 +15,7 @@ ghost use Rattle.build_store.specs.Faults.{IsOutside, IsRefusal, OnDifference, O
 ghost use Rattle.store_opening.specs.Named.{IsName};
 ghost use Rattle.store_opening.specs.Paths.{HasPlace, IsLaidOut};
 ghost use Rattle.build_store.specs.Phases.{IsFileOf, put_of};
-ghost use Rattle.build_store.specs.Publication.{AreShort, HoldsObject, IsAgreed, IsPublished, KeepsOthers, Publishes, SameObjects, line_for, object_for, publication, rows_with, unihash_for};
+ghost use Rattle.build_store.specs.Publication.{AreShort, HoldsObject, IsAgreed, IsPublished, KeepsOthers, KeepsRight, Publishes, SameObjects, line_for, object_for, publication, rows_with, unihash_for};
 ghost use Rattle.store_opening.specs.Sound.{IsKept};
 ghost use Rattle.store_model.specs.Opened.{HasNoLitter};
 ghost use Rattle.store_model.specs.Readable.{IsReadable, IsRow};
@@ -64,6 +64,8 @@ pub(crate) fn put_task<D: Disk>(
     ensures refused { IfErr result IsOutside }
     ensures round { D.tells → Passes (D.story disk.old) (D.story disk.new)
         (KeepsOthers (task_folder task.now) object.now (D.story disk.old).held) }
+    ensures right { D.tells → Passes (D.story disk.old) (D.story disk.new)
+        (KeepsRight (task_folder task.now) object.now tree.now (D.story disk.old).held) }
     ensures cause { Counts (D.faults disk.old) (D.faults disk.new) (store_failed result) }
 {
     let folder = task_folder(alloc, task)?;
@@ -142,6 +144,9 @@ fn put_draft<D: Disk>(
     ensures round { D.tells → Passes (D.story disk.old) (D.story disk.new)
         (KeepsOthers (task_folder task.now) (object_for index.old (signed_by task.now sig.now) tree.now)
         (D.story disk.old).held) }
+    ensures right { D.tells → Passes (D.story disk.old) (D.story disk.new)
+        (KeepsRight (task_folder task.now) (object_for index.old (signed_by task.now sig.now) tree.now) tree.now
+        (D.story disk.old).held) }
     ensures cause { Counts (D.faults disk.old) (D.faults disk.new) (store_failed result) }
 {
     let _entries = tree.entries();
@@ -200,6 +205,9 @@ pub(crate) fn publish<D: Disk>(
     ensures keeps { D.tells → IsKept index.new (D.story disk.new) }
     ensures round { D.tells → Passes (D.story disk.old) (D.story disk.new)
         (KeepsOthers (task_folder task.now) (object_for index.old (signed_by task.now sig.now) tree.now)
+        (D.story disk.old).held) }
+    ensures right { D.tells → Passes (D.story disk.old) (D.story disk.new)
+        (KeepsRight (task_folder task.now) (object_for index.old (signed_by task.now sig.now) tree.now) tree.now
         (D.story disk.old).held) }
     ensures cause { Counts (D.faults disk.old) (D.faults disk.new) (store_failed result) }
 {

@@ -1,5 +1,5 @@
 // Restoring outputs from objects.
-ghost use Rattle.std.specs.Prelude.{◌≡◌, ◌≤◌, IfErr, IfNone, IfOk, IfSome, MatchBool, None, OnOk};
+ghost use Rattle.std.specs.Prelude.{◌≡◌, ◌≤◌, IfErr, IfNone, IfOk, IfSome, MatchBool, None, OnOk, Some};
 ghost use Rattle.std.specs.Bool.{OnFalse};
 ghost use Rattle.std.specs.List.{AllByRecursion};
 ghost use Rattle.tree_model.specs.Tree.{IsTree};
@@ -9,12 +9,13 @@ ghost use Rattle.sstate_objects.specs.Matching.{IsMatching};
 ghost use Rattle.store_model.specs.Available.{Matches, object_folder, task_folder};
 ghost use Rattle.store_model.specs.Spelled.{IsSpelled};
 ghost use Rattle.store_model.specs.Spelling.{name_of, signature_bytes};
-ghost use Rattle.store_model.specs.Rows.{IsClear};
+ghost use Rattle.store_model.specs.Rows.{IsClear, row_at};
+ghost use Rattle.store_model.specs.declared.signature.EquivRow.{EquivRow as ARow};
 ghost use Rattle.build_store.specs.Faults.{IsClash, IsOutside, store_failed};
 ghost use Rattle.build_store.specs.Finding.{IsOtherOrOutside};
 ghost use Rattle.build_store.specs.Restoring.{IsPutBack, PutsBack};
 ghost use Rattle.store_opening.specs.Paths.{HasPlace, IsLaidOut};
-ghost use Rattle.build_store.specs.Publication.{AreShort, HasNoObject, IsRestored, KeepsOthers, Restores};
+ghost use Rattle.build_store.specs.Publication.{AreShort, HasNoObject, IsRestored, KeepsCopied, KeepsOthers, Restores};
 ghost use Rattle.store_model.specs.Opened.{HasNoLitter};
 ghost use Rattle.store_model.specs.Readable.{HasShortPaths, IsRow};
 ghost use Rattle.store_opening.specs.Sound.{IsKept};
@@ -86,6 +87,8 @@ fn restore_by<D: Disk>(
     ensures refused { IfErr result IsOutside }
     ensures round { D.tells → Passes (D.story disk.old) (D.story disk.new)
         (KeepsOthers (task_folder task.now) None (D.story disk.old).held) }
+    ensures right { D.tells → Passes (D.story disk.old) (D.story disk.new)
+        (KeepsCopied (task_folder task.now) row.now.unihash (D.story disk.old).held) }
     ensures cause { Counts (D.faults disk.old) (D.faults disk.new) (store_failed result) }
 {
     match object_of(alloc, disk, row) {
@@ -124,6 +127,8 @@ fn restore_at<D: Disk>(
     ensures refused { IfErr result (IsOtherOrOutside row.now sig.now) }
     ensures round { D.tells → Passes (D.story disk.old) (D.story disk.new)
         (KeepsOthers (task_folder task.now) None (D.story disk.old).held) }
+    ensures right { D.tells → Passes (D.story disk.old) (D.story disk.new)
+        (KeepsCopied (task_folder task.now) row.now.unihash (D.story disk.old).held) }
     ensures cause { Counts (D.faults disk.old) (D.faults disk.new) (store_failed result) }
 {
     compare_row(alloc, row, sig)?;
@@ -156,6 +161,9 @@ pub(crate) fn restore<D: Disk>(
     ensures keeps { D.tells → IsKept index.now (D.story disk.new) }
     ensures round { D.tells → Passes (D.story disk.old) (D.story disk.new)
         (KeepsOthers (task_folder task.now) None (D.story disk.old).held) }
+    ensures right { D.tells → (row : ARow) → row_at index.now (name_of sig.now) ≡ Some row
+        → Passes (D.story disk.old) (D.story disk.new)
+        (KeepsCopied (task_folder task.now) row.unihash (D.story disk.old).held) }
     ensures cause { Counts (D.faults disk.old) (D.faults disk.new) (store_failed result) }
 {
     let own = name_of_sig(alloc, sig)?;

@@ -1,5 +1,5 @@
 // The store of a run over a disk.
-ghost use Rattle.std.specs.Prelude.{◌≡◌, ◌≤◌, ◌-◌, ◌^◌, ◌⊎◌, [], min, false, IfOk, IfErr, None, OnOk, OnErr, MatchBool, length, IfSome};
+ghost use Rattle.std.specs.Prelude.{◌≡◌, ◌≤◌, ◌-◌, ◌^◌, ◌⊎◌, [], min, false, IfOk, IfErr, None, Some, OnOk, OnErr, MatchBool, length, IfSome};
 ghost use Rattle.std.specs.Bool.{OnFalse};
 ghost use Rattle.std.specs.Option.{option_map};
 ghost use Rattle.tree_model.specs.Manifest.{manifest_lines};
@@ -8,6 +8,7 @@ ghost use Rattle.outside_traits.specs.Passes.{EachNow, Passes, Same};
 ghost use Rattle.outside_traits.specs.Story.{IsFresh, moment as moment_of};
 ghost use Rattle.store_model.specs.Available.{IsAvailable, task_folder, work_folder};
 ghost use Rattle.store_model.specs.Rows.{row_at, IsClear};
+ghost use Rattle.store_model.specs.declared.signature.EquivRow.{EquivRow as ARow};
 ghost use Rattle.store_model.specs.Spelled.{IsSpelled};
 ghost use Rattle.store_model.specs.Spelling.{name_of, signature_bytes};
 ghost use Rattle.sig_gen.specs.Sound.{IsNameBy};
@@ -17,7 +18,7 @@ ghost use Rattle.store_opening.specs.Opening.{Clears};
 ghost use Rattle.store_model.specs.Opened.{HasNoLitter, IsOpened};
 ghost use Rattle.build_store.specs.Outcome.{disk_of, open_failed};
 ghost use Rattle.store_opening.specs.Paths.{HasPlace};
-ghost use Rattle.build_store.specs.Publication.{AreShort, HasNoObject, HoldsObject, IsAgreed, IsPublished, IsRestored, KeepsOthers, Publishes, Restores, SameObjects, line_for, object_for, publication, rows_with, unihash_for};
+ghost use Rattle.build_store.specs.Publication.{AreShort, HasNoObject, HoldsObject, IsAgreed, IsPublished, IsRestored, KeepsCopied, KeepsOthers, KeepsRight, Publishes, Restores, SameObjects, line_for, object_for, publication, rows_with, unihash_for};
 ghost use Rattle.store_model.specs.Readable.{HoldsRecords, IsReadable};
 ghost use Rattle.build_store.specs.View.{IsSignatureOf, IsWanting, SameBooks, kept_with, kept_without, signed_by};
 
@@ -162,7 +163,7 @@ impl<D: Disk> Store<D> {
     /// stored or its object doesn't match; then nothing changes.
     ///
     /// `Collision` comes exactly where the row of the signature's name has another signature. After want of memory the stamp may be gone
-    /// and the work folder changed.
+    /// and the work folder changed. Whatever it answers, no path of the work folder changes at which it holds what the object has there.
     pub fn restore(
         &mut self,
         alloc: Global,
@@ -189,6 +190,9 @@ impl<D: Disk> Store<D> {
             (Restores (D.story self.old.disk).held self.old.rows (signed_by task.now sig.now)) }
         ensures others { D.tells → Passes (D.story self.old.disk) (D.story self.new.disk)
             (KeepsOthers (task_folder task.now) None (D.story self.old.disk).held) }
+        ensures right { D.tells → (row : ARow) → row_at self.old.rows (name_of sig.now) ≡ Some row
+            → Passes (D.story self.old.disk) (D.story self.new.disk)
+            (KeepsCopied (task_folder task.now) row.unihash (D.story self.old.disk).held) }
         ensures cause { Counts (D.faults self.old.disk) (D.faults self.new.disk) (store_failed result) }
     {
         restore(alloc, &mut self.disk, &self.index, task, sig)
@@ -200,7 +204,8 @@ impl<D: Disk> Store<D> {
     /// `Collision` comes exactly where the row of the signature's name has another signature, `Unsteady` exactly where it has the
     /// signature and another manifest; then nothing changes. After want of memory the stamp may be gone, the task's folders changed and
     /// the record stored; the rows are as before, and the signature is kept, if the disk was touched. Unless the disk is as it was, the
-    /// task's record is one that can be read again.
+    /// task's record is one that can be read again. Whatever it answers, no path of the work folder or the object changes at which what the
+    /// tree has there was held: an entry that is held isn't written again.
     pub fn publish(
         &mut self,
         alloc: Global,
@@ -240,6 +245,9 @@ impl<D: Disk> Store<D> {
             ⊎ (self.new.disk ≡ self.old.disk) }
         ensures others { D.tells → Passes (D.story self.old.disk) (D.story self.new.disk)
             (KeepsOthers (task_folder task.now) (object_for self.old.rows (signed_by task.now sig.now) tree.now)
+            (D.story self.old.disk).held) }
+        ensures right { D.tells → Passes (D.story self.old.disk) (D.story self.new.disk)
+            (KeepsRight (task_folder task.now) (object_for self.old.rows (signed_by task.now sig.now) tree.now) tree.now
             (D.story self.old.disk).held) }
         ensures cause { Counts (D.faults self.old.disk) (D.faults self.new.disk) (store_failed result) }
     {

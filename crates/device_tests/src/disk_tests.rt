@@ -2,7 +2,7 @@
 ghost use Rattle.std.specs.Prelude.{◌≡◌, ◌≤◌, All, IfOk, IsTrue};
 ghost use Rattle.tree_model.specs.Path.{IsClean, inside};
 
-use crate::samples::{named, tree_files};
+use crate::samples::{named, tree_file, tree_files};
 use outside_mem::{FaultyDisk, MemDisk};
 use outside_traits::{Disk, DiskFault, put_tree, read_tree};
 use std::alloc::Global;
@@ -17,7 +17,8 @@ fn sample(alloc: Global) -> Result<MemDisk, TreeFault> {
     )
 }
 
-fn tree(alloc: Global) -> Result<Tree, TreeFault> {
+/// A tree of two files.
+pub fn tree(alloc: Global) -> Result<Tree, TreeFault> {
     Tree::from_entries(tree_files(alloc, "b/c", "a")?)
 }
 
@@ -32,7 +33,7 @@ fn joined(alloc: Global, folder: &str, path: &str) -> Result<Text, Mem>
 }
 
 /// Whether each path of the tree is clean behind the folder.
-fn fits(alloc: Global, folder: &str, tree: &Tree) -> Result<bool, Mem>
+pub fn fits(alloc: Global, folder: &str, tree: &Tree) -> Result<bool, Mem>
     ensures { IfOk result (λ fits. IsTrue fits → All (λ e. IsClean (inside folder.now e.0)) tree.now) }
 {
     for (path, _) in tree.entries() {
@@ -121,6 +122,42 @@ fn images_of_a_disk(rt: HostRuntime) -> Result<(), Fail> {
     }
     disk.sync()?;
     assert_eq!(rt; disk.image(1)?.held().len(), 3);
+    Ok(())
+}
+
+/// The tree of `tree`, but that the first file has another text.
+fn edited(alloc: Global) -> Result<Tree, TreeFault> {
+    let mut files = Vec::new(alloc);
+    files.push(tree_file(alloc, "a", "other\n")?)?;
+    files.push(tree_file(alloc, "b/c", "text\n")?)?;
+    Tree::from_entries(files)
+}
+
+/// How many of the held paths a crash may take now: in this image all that was written or removed since the last sync is gone.
+fn unsynced(disk: &MemDisk) -> Result<usize, Mem> {
+    let left = disk.image(1)?;
+    Ok(disk.held().len().saturating_sub(left.held().len()))
+}
+
+/// Of a tree that is held nothing is written. Two paths that may be in the way are read, the folder is listed, and its two files are read.
+/// Where one of them differs, that one is written.
+#[test]
+fn what_is_held_is_not_written(rt: HostRuntime) -> Result<(), Fail> {
+    let alloc = rt.alloc();
+    let tree = tree(alloc)?;
+    let edited = edited(alloc)?;
+    let mut disk = sample(alloc)?;
+    assert!(rt; fits(alloc, "work/hello", &tree)?);
+    assert!(rt; fits(alloc, "work/hello", &edited)?);
+    put_tree(alloc, &mut disk, "work/hello", &tree)?;
+    disk.sync()?;
+    assert_eq!(rt; disk.moment(), 7);
+    put_tree(alloc, &mut disk, "work/hello", &tree)?;
+    assert_eq!(rt; disk.moment(), 12);
+    assert_eq!(rt; unsynced(&disk)?, 0);
+    put_tree(alloc, &mut disk, "work/hello", &edited)?;
+    assert_eq!(rt; disk.moment(), 18);
+    assert_eq!(rt; unsynced(&disk)?, 1);
     Ok(())
 }
 

@@ -14,3 +14,5 @@ mod layers_tests;
 mod samples;
 #[cfg(test)]
 mod sink_tests;
+#[cfg(test)]
+mod ticket_tests;

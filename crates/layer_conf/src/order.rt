@@ -5,7 +5,7 @@ ghost use Rattle.load_model.specs.Paths.{slash, path_named};
 ghost use Rattle.load_model.specs.Layers as meant;
 ghost use Rattle.layer_conf.specs.Places.{length_in, place_in};
 
-use path_words::path_named;
+use path_words::{path_named, without_ending};
 use std::alloc::Global;
 use tree_model::{Mem, Text, Texts};
 
@@ -16,6 +16,17 @@ pub(crate) fn layer_file(alloc: Global, layer: &str) -> Result<Option<Text>, Mem
     let mut path = Text::from_str(alloc, layer)?;
     path.push_str("/conf/layer.conf")?;
     path_named(alloc, path.as_str())
+}
+
+/// The layers that these words of BBLAYERS name.
+pub(crate) fn layers_named(alloc: Global, words: &[Text]) -> Result<Texts, Mem>
+    ensures { IfOk result (λ made. made ≡ map meant.layer_named words.now) }
+{
+    let mut made = Texts::new(alloc);
+    for word in words {
+        made.push(Text::from_str(alloc, without_ending("/", word.as_str()))?)?;
+    }
+    Ok(made)
 }
 
 /// The folders that layers name.

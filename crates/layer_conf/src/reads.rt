@@ -1,5 +1,5 @@
 // The configuration.
-ghost use Rattle.std.specs.Prelude.{◌≡◌, ◌++◌, ◌∷◌, [], Ok, Some, IfOk, IfErr, OnOk};
+ghost use Rattle.std.specs.Prelude.{◌≡◌, ◌++◌, ◌∷◌, [], Ok, Some, IfOk, IfErr, OnOk, map};
 ghost use Rattle.meta_model.specs.declared.entry.EntryLine.TheVariants.{Set};
 ghost use Rattle.outside_traits.specs.Fault.{Counts};
 ghost use Rattle.outside_traits.specs.Store.{SameFiles};
@@ -7,10 +7,10 @@ ghost use Rattle.load_model.specs.Loading.{sources_of};
 ghost use Rattle.load_model.specs.Layers as meant;
 ghost use Rattle.layer_conf.specs.Faults.{IsLayerFault, layers_failed};
 ghost use Rattle.layer_conf.specs.Config.{configured_meant};
-ghost use Rattle.load_model.specs.Layers.{layered_from, layered_over};
+ghost use Rattle.load_model.specs.Layers.{layer_named, layered_from, layered_over};
 
 use crate::fault::{LayerFault, data_told, load_told, no_such_layer};
-use crate::order::layer_file;
+use crate::order::{layer_file, layers_named};
 use class_inherit::Reading;
 use datastore::Datastore;
 use meta_model::{EntryLine, Kind, Op};
@@ -24,7 +24,7 @@ use tree_model::{Mem, Text, Texts};
 pub struct Config {
     /// Its entries, with names that hold references as they are written.
     pub store: Datastore,
-    /// The layers as BBLAYERS writes them.
+    /// The layers as BBLAYERS names them.
     pub layers: Texts,
     /// The paths of the recipe files, in byte order.
     pub recipes: Texts,
@@ -251,6 +251,26 @@ fn with_layers<L: Layers>(
     }
 }
 
+/// The configuration behind `conf/bblayers.conf`, once the words of BBLAYERS are known.
+fn with_words<L: Layers>(
+    alloc: Global,
+    layers: &mut L,
+    first: Reading,
+    words: &[Text],
+) -> Result<Configured, LayerFault>
+    ensures ok { IfOk result (λ made. L.tells → layered_over (sources_of (L.files layers.old)) first
+        (map layer_named words.now) ≡ Ok (configured_meant made)) }
+    ensures err { IfErr result (λ fault. L.tells → IsLayerFault fault
+        (layered_over (sources_of (L.files layers.old)) first (map layer_named words.now))) }
+    ensures same { SameFiles L.files layers.old layers.new }
+    ensures cause { Counts (L.faults layers.old) (L.faults layers.new) (layers_failed result) }
+{
+    match layers_named(alloc, words) {
+        Ok(named) => with_layers(alloc, layers, first, named),
+        Err(_) => Err(LayerFault::Memory),
+    }
+}
+
 /// The configuration behind `conf/bblayers.conf`.
 fn layered<L: Layers>(
     alloc: Global,
@@ -265,7 +285,7 @@ fn layered<L: Layers>(
     ensures cause { Counts (L.faults layers.old) (L.faults layers.new) (layers_failed result) }
 {
     match words_of(alloc, first.store(), "BBLAYERS") {
-        Ok(words) => with_layers(alloc, layers, first, words),
+        Ok(words) => with_words(alloc, layers, first, words.as_slice()),
         Err(fault) => Err(data_told(fault)),
     }
 }

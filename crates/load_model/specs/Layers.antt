@@ -11,7 +11,7 @@ use Rattle.meta_model.specs.declared.statement.Statement.TheVariants.{Assign, Fl
 use Rattle.meta_model.specs.Text.{begins_with, words, in_byte_order, open_bracket}
 use Rattle.meta_model.specs.Refusal.{Refusal}
 use Rattle.meta_model.specs.Active.{value}
-use Rattle.load_model.specs.Paths.{slash, path_named, has_ending}
+use Rattle.load_model.specs.Paths.{slash, path_named, has_ending, without_ending}
 use Rattle.load_model.specs.Patterns.{names_path}
 use Rattle.load_model.specs.LoadRefusal.{LoadRefusal, ◌>>=◌, refused_as}
 use Rattle.load_model.specs.Loading.{Contents, Sources, Loaded, entries, searched_entries}
@@ -44,7 +44,11 @@ with_put part new zero (c ∷ text) = elim (begins_with part (c ∷ text)) [
   | false ↦ c ∷ with_put part new zero text
 ]
 
--- In the files of a layer's configuration `${LAYERDIR}` stands for the layer as BBLAYERS writes it: in quoted texts, and in
+-- The layer that a word of BBLAYERS names: a slash at the end is left out (own rule).
+abbrev pub layer_named : List ℕ → List ℕ
+layer_named word = without_ending (slash ∷ []) word
+
+-- In the files of a layer's configuration `${LAYERDIR}` stands for the layer as BBLAYERS names it: in quoted texts, and in
 -- the texts of `include` and `require` (BitBake User Manual, "Variables Glossary", LAYERDIR; that it is put in where the file
 -- is read, and in no names, are own rules).
 abbrev pub with_folder : List ℕ → List ℕ → List ℕ
@@ -91,7 +95,7 @@ starting_with lines = record { lines = lines; classes = [] }
 abbrev pub bitbake_conf : Sources → Bool → Loaded → Result Loaded LayerRefusal
 bitbake_conf sources must loaded = refused_as load (searched_entries sources Conf must (codes "conf/bitbake.conf") loaded)
 
--- the entries of the configuration, and the layers as BBLAYERS writes them
+-- the entries of the configuration, and the layers as BBLAYERS names them
 pub record Configured : Type 0 where
   pub lines : List EntryLine
   pub layers : List (List ℕ)
@@ -105,7 +109,7 @@ layered_over sources first layers = do
 
 -- the configuration behind its first file
 abbrev pub layered_from : Sources → Loaded → Result Configured LayerRefusal
-layered_from sources first = refused_as no_list (words_of first.lines (codes "BBLAYERS")) >>= λ layers. layered_over sources first layers
+layered_from sources first = refused_as no_list (words_of first.lines (codes "BBLAYERS")) >>= λ words. layered_over sources first (map layer_named words)
 
 -- With layers: `conf/bblayers.conf`, then each layer's `conf/layer.conf` in the order of BBLAYERS, then `conf/bitbake.conf`,
 -- which has to be there (BitBake User Manual, "Execution", section "Parsing the Base Configuration Metadata").

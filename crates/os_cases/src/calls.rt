@@ -6,8 +6,9 @@
 //                                   disk write KIND PATH TEXT  bench K run SCRIPT
 //   sink TEXT                       disk remove PATH           bench K take ENTRIES LARGEST BYTES
 //                                   disk rename FROM TO
-//   other CALL                      disk sync
+//   other CALL                      disk sync                  bench K wait
 //                                   disk moment
+//                                   disk end MOMENT DONE
 //                                   disk close
 //
 //   ahead hold                      ahead read                 ahead records
@@ -17,37 +18,40 @@
 // `ahead hold` lets the disk take its lock before its first call, and says whether it has it; `ahead read` reads ahead for it,
 // and `ahead records` answers these files under `rec/` with what they hold, or nothing where they weren't read or a link stands
 // among them. `other` makes a call of the disk on another object over the same folder, and says what that says of its first
-// fault. Calls of one bench behind one another are made on one object; a call of another bench begins with a new one. KIND is
-// `file`, `program` or `link`. `disk sync` answers what was synced, each file and folder by its path, or `all`. Where the room has a
-// file `no-sync`, the disk has no sync of all, and where it has `failing-sync`, that fails.
+// fault. Calls of one bench behind one another are made on one object; a call of another bench begins with a new one. `bench K
+// wait` waits for a sync, and says whether it went well. KIND is `file`, `program` or `link`. `disk sync`, and `disk end`, which ends
+// the wait for a sync that began at a moment and went well where DONE is `yes`, answer what was synced, each file and folder by its
+// path, or `all`. Where the room has a file `no-sync`, the disk has no sync of all, and where it has `failing-sync`, that fails.
 use crate::answers::{entry_of, of_a_line, of_files, of_paths, of_tree, of_word, on_a_line};
 use crate::disk_calls::{disk_answer, other_answer};
 use crate::rooms::{no_call, shell};
 use crate::stamp_calls::stamp_answer;
 use crate::watch::Watch;
-use outside_os::{FolderDisk, FolderLayers, ReadAhead, Sandboxes, ShBench, StdSink, Syncs};
+use host_files::Syncs;
+use outside_os::{FolderDisk, FolderLayers, ReadAhead, StdSink};
 use outside_traits::{Bench, BenchFault, Layers, ReadFault, Sink, Taken};
+use sh_bench::{Sandboxes, ShBench};
 use std::cell::RefCell;
 use std::io;
 use tree_model::{Bytes, Mem, Size, is_clean};
 
-/// What the disk of a room has besides.
+/// What the devices of a room have besides.
 #[derive(Drop)]
 pub struct Beside {
     pub ahead: ReadAhead,
     pub syncs: Syncs,
+    pub sandboxes: Sandboxes,
 }
 
 /// The bench of the last call that was one of a bench, with its number.
 pub type LastBench<'a> = Option<(u32, ShBench<'a, HostRuntime>)>;
 
 /// What the call of a line answers.
-pub fn answer<'a, 'b>(
+pub fn answer<'a>(
     rt: &HostRuntime,
     beside: &'a Beside,
     disk: &mut FolderDisk<'a, Watch<'_>>,
-    sandboxes: &'b Sandboxes,
-    bench: &mut LastBench<'b>,
+    bench: &mut LastBench<'a>,
     synced: &RefCell<String>,
     line: &str,
 ) -> io::Result<String> {
@@ -70,7 +74,7 @@ pub fn answer<'a, 'b>(
             let watch = Watch::new(rt.clone()?, synced);
             other_answer(rt.alloc(), watch, &beside.syncs, synced, call)
         }
-        "bench" => numbered_answer(rt, sandboxes, bench, call),
+        "bench" => numbered_answer(rt, beside, bench, call),
         "sink" => sink_answer(rt, call),
         _ => Err(no_call()),
     }
@@ -140,7 +144,7 @@ fn read_word(fault: ReadFault) -> &'static str {
 /// What the bench with a number answers.
 fn numbered_answer<'a>(
     rt: &HostRuntime,
-    sandboxes: &'a Sandboxes,
+    beside: &'a Beside,
     last: &mut LastBench<'a>,
     call: &str,
 ) -> io::Result<String> {
@@ -152,7 +156,8 @@ fn numbered_answer<'a>(
         if let Some((_, before)) = last {
             before.close();
         }
-        *last = Some((number, ShBench::new(rt.clone()?, number, sandboxes)));
+        let bench = ShBench::new(rt.clone()?, number, &beside.sandboxes, &beside.syncs);
+        *last = Some((number, bench));
     }
     match last {
         Some((_, bench)) => bench_answer(rt, bench, call),
@@ -177,6 +182,8 @@ fn bench_answer(
             }
         }
         "take" => take_answer(rt, bench, rest),
+        "wait" if bench.wait_synced() => Ok(of_word(rt.alloc(), "synced")?),
+        "wait" => Ok(of_word(rt.alloc(), "not synced")?),
         _ => Err(no_call()),
     }
 }

@@ -2,7 +2,8 @@
 use crate::answers::{entry_of, of_a_line, of_entry, of_paths, of_word};
 use crate::rooms::no_call;
 use crate::watch::Watch;
-use outside_os::{FolderDisk, Syncs};
+use host_files::Syncs;
+use outside_os::FolderDisk;
 use outside_traits::{Disk, DiskFault};
 use std::alloc::Global;
 use std::cell::RefCell;
@@ -28,11 +29,27 @@ pub fn disk_answer(
             Ok(()) => take_synced(alloc, synced),
             Err(fault) => disk_word(alloc, Err(fault)),
         },
+        "end" => end_answer(alloc, disk, synced, rest),
         "close" => {
             disk.close();
             Ok(of_word(alloc, "closed")?)
         }
         _ => Err(no_call()),
+    }
+}
+
+/// What the end of a wait answers: what was synced by it.
+fn end_answer(
+    alloc: Global,
+    disk: &mut FolderDisk<'_, Watch<'_>>,
+    synced: &RefCell<String>,
+    rest: &str,
+) -> io::Result<String> {
+    let (moment, word) = rest.split_once(' ').unwrap_or((rest, ""));
+    let moment = moment.parse::<u64>().map_err(|_| no_call())?;
+    match disk.end_sync(moment, word == "yes") {
+        Ok(()) => take_synced(alloc, synced),
+        Err(fault) => disk_word(alloc, Err(fault)),
     }
 }
 

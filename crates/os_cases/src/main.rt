@@ -15,8 +15,10 @@ mod stamp_calls;
 mod watch;
 
 use calls::{Beside, answer};
-use outside_os::{FolderDisk, ReadAhead, Sandboxes, Syncs};
+use host_files::Syncs;
+use outside_os::{FolderDisk, ReadAhead};
 use rooms::enter;
+use sh_bench::Sandboxes;
 use std::cell::RefCell;
 use std::process::ExitCode;
 use std::{env, fs, io};
@@ -55,6 +57,7 @@ fn run_room(rt: &HostRuntime, lines: &str) -> io::Result<()> {
     let beside = Beside {
         ahead: ReadAhead::none(),
         syncs: Syncs::none(),
+        sandboxes: Sandboxes::unknown(),
     };
     run_lines(rt, &beside, lines)
 }
@@ -63,11 +66,10 @@ fn run_room(rt: &HostRuntime, lines: &str) -> io::Result<()> {
 fn run_lines(rt: &HostRuntime, beside: &Beside, lines: &str) -> io::Result<()> {
     let synced = RefCell::new(String::new(rt.alloc()));
     let mut disk = FolderDisk::new(Watch::new(rt.clone()?, &synced), &beside.syncs);
-    let sandboxes = Sandboxes::unknown();
     let mut bench = None;
     for line in lines.lines() {
         if !line.is_empty() {
-            let said = answer(rt, beside, &mut disk, &sandboxes, &mut bench, &synced, line)?;
+            let said = answer(rt, beside, &mut disk, &mut bench, &synced, line)?;
             println!(rt; "{line} -> {said}")?;
         }
     }

@@ -1,5 +1,5 @@
 // The system's files, where each sync of a file or folder is written down.
-use outside_os::{Locking, Syncing};
+use host_files::{Locking, Syncing};
 use std::alloc::{Allocator, Global};
 use std::cell::RefCell;
 use std::fs::{File, Metadata, OpenFile, OpenOptions, Permissions};

@@ -1,5 +1,5 @@
 -- The story of a disk in memory after one call more.
-use Rattle.std.proofs.Common.{◌≡◌, ◌≢◌, inl, inr, subst, false, Result, Ok, Err, OnOk, OnErr, None, List, [], ◌∷◌, ◌++◌, ℕ, Option, reverse, sym, ap, ◌∙◌, ◌-◌}
+use Rattle.std.proofs.Common.{◌≡◌, ◌≢◌, inl, inr, subst, false, Result, Ok, Err, OnOk, OnErr, None, List, [], ◌∷◌, ◌++◌, ℕ, Option, reverse, sym, ap, ◌∙◌}
 use Rattle.std.specs.Result.{is_err}
 use Rattle.std.proofs.lemmas.Bool.{false≢true}
 use Rattle.std.proofs.lemmas.List.{reverse-append}

@@ -67,6 +67,10 @@ table_place table = table.place
 abbrev pub table_plan : ScriptTable → FaultPlan
 table_plan table = table.plan
 
+-- which waits of a table answer that the system hasn't written
+abbrev pub table_waits : ScriptTable → FaultPlan
+table_waits table = table.waits
+
 -- how often a table failed
 abbrev pub table_faults : ScriptTable → ℕ
 table_faults table = table.faults

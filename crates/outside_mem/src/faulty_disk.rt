@@ -1,9 +1,10 @@
 // A disk in memory of which calls fail.
 ghost use Rattle.std.specs.Prelude.{◌≡◌, ◌≤◌, ◌-◌, length, nat_eq, true, false};
 ghost use Rattle.tree_model.specs.Path.{IsClean};
-ghost use Rattle.outside_traits.specs.Answers.{IsSettled, Lists, Reads, Removes, Renames, Syncs, Writes};
+ghost use Rattle.outside_traits.specs.Answers.{Ends, IsSettled, Lists, Reads, Removes, Renames, Syncs, Writes};
 ghost use Rattle.outside_traits.specs.Fault.{Counts, disk_failed};
 ghost use Rattle.outside_traits.specs.Store.{IsFree};
+ghost use Rattle.outside_traits.specs.Story.{moment as moment_of};
 ghost use Rattle.outside_mem.specs.Spends.{Spends};
 
 use crate::MemDisk;
@@ -178,6 +179,19 @@ impl Disk for FaultyDisk {
             return Err(self.fault());
         }
         self.disk.sync()
+    }
+
+    fn end_sync(&mut self, moment: u64, done: bool) -> Result<(), DiskFault>
+        requires past { moment ≤ moment_of (story_of (disk_of self.old)) }
+        ensures told { Ends moment (story_of (disk_of self.old)) (story_of (disk_of self.new)) result }
+        ensures cause { Counts (disk_faults self.old) (disk_faults self.new) (disk_failed result) }
+        ensures spends { Spends self.old self.new result }
+    {
+        if self.is_to_fail() {
+            self.disk.note_look()?;
+            return Err(self.fault());
+        }
+        self.disk.end_sync(moment, done)
     }
 
     fn moment(&self) -> u64 {

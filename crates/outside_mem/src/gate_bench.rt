@@ -196,4 +196,12 @@ impl<B: Bench> Bench for GateBench<B> {
         let answer = self.bench.take(alloc, max);
         self.count(answer)
     }
+
+    fn wait_synced(&mut self) -> bool
+        ensures place { B.tells → B.place (gated self.new) ≡ B.place (gated self.old) }
+        ensures gives { B.gives (gated self.new) ≡ B.gives (gated self.old) }
+        ensures faults { gate_faults self.new ≡ gate_faults self.old }
+    {
+        self.bench.wait_synced()
+    }
 }

@@ -4,7 +4,7 @@ ghost use Rattle.std.specs.Str.{bytes_eq};
 ghost use Rattle.tree_model.specs.Path.{IsClean};
 ghost use Rattle.tree_model.specs.Tree.{entry_at};
 ghost use Rattle.outside_traits.specs.Store.{IsFree};
-ghost use Rattle.outside_traits.specs.Story.{looked, synced, put_at, moved};
+ghost use Rattle.outside_traits.specs.Story.{looked, synced, ended, put_at, moved};
 ghost use Rattle.outside_mem.specs.Kept.{story_by};
 
 use outside_traits::Call;
@@ -65,6 +65,14 @@ pub(crate) fn keep_sync(tree: &Tree, calls: &mut Vec<Call>) -> Result<(), Mem>
     ensures err { OnErr result (story_by tree.now calls.new.items ≡ story_by tree.now calls.old.items) }
 {
     Ok(calls.push(Call::Synced)?)
+}
+
+/// Keeps the end of a ticket.
+pub(crate) fn keep_ended(tree: &Tree, calls: &mut Vec<Call>, moment: u64) -> Result<(), Mem>
+    ensures ok { OnOk result (story_by tree.now calls.new.items ≡ ended moment (story_by tree.now calls.old.items)) }
+    ensures err { OnErr result (story_by tree.now calls.new.items ≡ story_by tree.now calls.old.items) }
+{
+    Ok(calls.push(Call::Ended { moment })?)
 }
 
 /// Keeps a write or a removal that failed, after which the path holds what it held.

@@ -80,6 +80,13 @@ impl Bench for MemBench {
     {
         Ok(self.place.take(&max))
     }
+
+    fn wait_synced(&mut self) -> bool
+        ensures synced { result ≡ true }
+        ensures place { mem_place self.new ≡ mem_place self.old }
+    {
+        true
+    }
 }
 
 /// The tree of one file `out` with the digest.

@@ -3,11 +3,11 @@ ghost use Rattle.std.specs.Prelude.{◌≡◌, ◌≤◌, IfOk, IfErr};
 ghost use Rattle.tree_model.specs.Tree.{IsTree, entry_at};
 ghost use Rattle.tree_model.specs.Refusal.{IsRefusal};
 ghost use Rattle.outside_traits.specs.Story.{IsFresh, IsImage, IsSound};
-ghost use Rattle.outside_mem.specs.Kept.{story_by};
+ghost use Rattle.outside_mem.specs.Kept.{IsDamaged, IsPicked, story_by, touched_since};
 
 use crate::kept::{
-    copy_of, keep_failed_move, keep_failed_put, keep_look, keep_move, keep_put, keep_removal,
-    keep_sync,
+    copy_of, keep_ended, keep_failed_move, keep_failed_put, keep_look, keep_move, keep_put,
+    keep_removal, keep_sync,
 };
 use crate::leavings::{damage, touched_paths};
 use outside_traits::{Call, Disk, DiskFault};
@@ -52,11 +52,15 @@ impl MemDisk {
     }
 
     /// A fresh disk that holds what a crash now may leave. The number picks one of all that may be left: with 0 the
-    /// paths that were written since the last sync or rename are as they are held, with 1 they are gone, and with 2
-    /// their files are cut in the middle. Of a greater number the two bits from the path's number on pick that for each
-    /// such path: 1 and 2 as above, 0 and 3 leave it as it is held.
+    /// paths that were written since the newest moment that is durable, or since a rename behind it, are as they are held,
+    /// with 1 they are gone, and with 2 their files are cut in the middle. Of a greater number the two bits from the path's
+    /// number on pick that for each such path: 1 and 2 as above, 0 and 3 leave it as it is held.
     pub fn image(&self, pick: u64) -> Result<MemDisk, Mem>
         ensures image { IfOk result (λ disk. IsImage (story_of self.now) (story_of disk).held) }
+        ensures damaged { IfOk result (λ disk. IsDamaged (touched_since (story_of self.now)) (story_of self.now).held
+            (story_of disk).held) }
+        ensures picked { IfOk result (λ disk. IsPicked pick (touched_since (story_of self.now)) (story_of self.now).held
+            (story_of disk).held) }
         ensures fresh { IfOk result (λ disk. IsFresh (story_of disk)) }
     {
         let touched = touched_paths(self.alloc, self.calls.as_slice())?;
@@ -76,7 +80,7 @@ impl MemDisk {
     ghost use Rattle.outside_traits.specs.Story.{looked, put_at, moved};
     ghost use Rattle.outside_mem.specs.Told.{story_of};
 
-    /// Keeps a read, a list or a sync that failed.
+    /// Keeps a read, a list, a sync or the end of a ticket that failed.
     pub(crate) fn note_look(&mut self) -> Result<(), Mem>
         ensures ok { OnOk result (story_of self.new ≡ looked (story_of self.old)) }
         ensures err { OnErr result (story_of self.new ≡ story_of self.old) }
@@ -143,6 +147,10 @@ impl Disk for MemDisk {
 
     fn sync(&mut self) -> Result<(), DiskFault> {
         Ok(keep_sync(&self.tree, &mut self.calls)?)
+    }
+
+    fn end_sync(&mut self, moment: u64, _done: bool) -> Result<(), DiskFault> {
+        Ok(keep_ended(&self.tree, &mut self.calls, moment)?)
     }
 
     fn moment(&self) -> u64 {

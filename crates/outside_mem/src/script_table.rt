@@ -1,5 +1,5 @@
 // A bench in memory, that looks scripts up in a table.
-ghost use Rattle.std.specs.Prelude.{◌≡◌, IfOk, IsTrue, IsSome, [], codes, true, None};
+ghost use Rattle.std.specs.Prelude.{◌≡◌, IfOk, IsTrue, IsSome, [], codes, not, true, None};
 ghost use Rattle.std.specs.Option.{option_copied};
 ghost use Rattle.tree_model.specs.Folder.{picked};
 ghost use Rattle.tree_model.specs.Overlay.{overlaid};
@@ -33,6 +33,7 @@ pub struct Rule {
 pub struct ScriptTable {
     rules: Vec<Rule>,
     plan: FaultPlan,
+    waits: FaultPlan,
     faults: u64,
     place: Place,
 }
@@ -40,28 +41,41 @@ pub struct ScriptTable {
 impl ScriptTable {
     ghost use Rattle.outside_mem.specs.Plan.{fresh_plan};
     ghost use Rattle.outside_mem.specs.Scripts.{gives_by};
-    ghost use Rattle.outside_mem.specs.Told.{table_faults, table_gives, table_place, table_plan};
+    ghost use Rattle.outside_mem.specs.Told.{table_faults, table_gives, table_place, table_plan, table_waits};
 
     /// A bench on which nothing is laid and nothing ran. Its calls with the numbers of `fail`, from 1, fail: each call
-    /// of `clear`, `put`, `run` and `take` counts.
+    /// of `clear`, `put`, `run` and `take` counts. What it waits for is always written.
     pub fn new(alloc: Global, rules: Vec<Rule>, fail: Vec<u64>) -> ScriptTable
         ensures gives { table_gives result ≡ gives_by rules.items }
         ensures place { table_place result ≡ record { laid = []; cleared = true; output = None; runs = [] } }
         ensures plan { table_plan result ≡ fresh_plan fail }
+        ensures waits { (table_waits result).numbers.items ≡ [] }
         ensures fresh { table_faults result ≡ 0 }
     {
         ScriptTable {
             rules,
             plan: FaultPlan::new(fail),
+            waits: FaultPlan::new(Vec::new(alloc)),
             faults: 0,
             place: Place::new(alloc),
         }
+    }
+
+    /// Its waits with these numbers, from 1, answer from now on that the system hasn't written what was called.
+    pub fn fail_waits(&mut self, numbers: Vec<u64>)
+        ensures waits { table_waits self.new ≡ fresh_plan numbers }
+        ensures gives { table_gives self.new ≡ table_gives self.old }
+        ensures place { table_place self.new ≡ table_place self.old }
+        ensures plan { table_plan self.new ≡ table_plan self.old }
+        ensures faults { table_faults self.new ≡ table_faults self.old }
+    {
+        self.waits = FaultPlan::new(numbers);
     }
 }
 
 impl Bench for ScriptTable {
     ghost use Rattle.outside_mem.specs.Plan.{Follows};
-    ghost use Rattle.outside_mem.specs.Told.{table_faults, table_gives, table_place, table_plan};
+    ghost use Rattle.outside_mem.specs.Told.{table_faults, table_gives, table_place, table_plan, table_waits};
 
     ghost tells = { Unit {0} };
 
@@ -76,6 +90,7 @@ impl Bench for ScriptTable {
         ensures gives { table_gives self.new ≡ table_gives self.old }
         ensures cause { Counts (table_faults self.old) (table_faults self.new) (bench_failed result) }
         ensures plan { Follows (table_plan self.old) (table_plan self.new) (bench_failed result) }
+        ensures waits { table_waits self.new ≡ table_waits self.old }
     {
         if self.plan.next_fails() {
             count_fault(&mut self.faults);
@@ -93,6 +108,7 @@ impl Bench for ScriptTable {
         ensures gives { table_gives self.new ≡ table_gives self.old }
         ensures cause { Counts (table_faults self.old) (table_faults self.new) (bench_failed result) }
         ensures plan { Follows (table_plan self.old) (table_plan self.new) (bench_failed result) }
+        ensures waits { table_waits self.new ≡ table_waits self.old }
     {
         if self.plan.next_fails() {
             count_fault(&mut self.faults);
@@ -107,6 +123,7 @@ impl Bench for ScriptTable {
         ensures gives { table_gives self.new ≡ table_gives self.old }
         ensures cause { Counts (table_faults self.old) (table_faults self.new) (bench_failed result) }
         ensures plan { Follows (table_plan self.old) (table_plan self.new) (bench_failed result) }
+        ensures waits { table_waits self.new ≡ table_waits self.old }
     {
         if self.plan.next_fails() {
             count_fault(&mut self.faults);
@@ -123,12 +140,23 @@ impl Bench for ScriptTable {
         ensures gives { table_gives self.new ≡ table_gives self.old }
         ensures cause { Counts (table_faults self.old) (table_faults self.new) (bench_failed result) }
         ensures plan { Follows (table_plan self.old) (table_plan self.new) (bench_failed result) }
+        ensures waits { table_waits self.new ≡ table_waits self.old }
     {
         if self.plan.next_fails() {
             count_fault(&mut self.faults);
             return Err(BenchFault::Failed);
         }
         Ok(self.place.take(&max))
+    }
+
+    fn wait_synced(&mut self) -> bool
+        ensures place { table_place self.new ≡ table_place self.old }
+        ensures gives { table_gives self.new ≡ table_gives self.old }
+        ensures faults { table_faults self.new ≡ table_faults self.old }
+        ensures plan { table_plan self.new ≡ table_plan self.old }
+        ensures waits { Follows (table_waits self.old) (table_waits self.new) (not result) }
+    {
+        !self.waits.next_fails()
     }
 }
 

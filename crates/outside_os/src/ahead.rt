@@ -1,9 +1,8 @@
 // What is read of a disk before its first call.
 use crate::disk::{ROOT, part_of};
-use crate::folder::put_joined;
 use crate::limits::{RECORDS, STAMPS, is_beyond};
 use crate::listed::Listing;
-use crate::walk::list_items;
+use host_files::{list_items, put_joined};
 use std::alloc::Global;
 use std::io;
 use std::rt::Files;

@@ -2,18 +2,15 @@
 ghost use Rattle.std.specs.Prelude.{[], None};
 
 use crate::ahead::ReadAhead;
-use crate::faults::{FirstFault, is_memory, one_more};
-use crate::folder::{
-    FileFacts, entry_of, is_denied, is_empty, is_entry, join, lay_entry, look, look_through,
-    move_entry, open_above, open_up, put_joined, read_unchanged,
-};
 use crate::limits::{is_beyond, no_entry_of_the_store};
 use crate::listed::{Listed, Listing, Seen};
-use crate::lock::{BENCHES_FOLDER, LOCK, Locking};
-use crate::own::make_own;
 use crate::seen::SeenFolders;
-use crate::syncs::{Syncing, Syncs};
-use crate::walk::{Part, WalkFault, walk_part};
+use host_files::{
+    BENCHES_FOLDER, FileFacts, FirstFault, LOCK, Locking, Part, Syncing, Syncs, WalkFault,
+    entry_of, is_denied, is_empty, is_entry, is_memory, join, lay_entry, look, look_through,
+    make_own, move_entry, one_more, open_above, open_up, put_joined, read_unchanged, remove_folder,
+    walk_part,
+};
 use outside_traits::{Disk, DiskFault};
 use std::alloc::{AllocError, Global};
 use std::collections::{BTreeMap, BTreeSet};
@@ -27,8 +24,8 @@ use tree_model::{Entry, Texts, is_below, is_clean};
 /// The folder that is the disk.
 pub const ROOT: &str = "build";
 
-/// The folder in it that the benches have: no part of the disk.
-const BENCHES: &str = "bench";
+/// The folders in it that the benches have: no part of the disk.
+const APART: &[&str] = &["bench", "failed", "log"];
 
 /// The folder above the root, where the root's own name stands.
 const HERE: &str = ".";
@@ -39,10 +36,10 @@ const UNSYNCED: &str = "build/bench/unsynced";
 /// How many changed files and folders are made durable one by one, whatever that takes.
 const FEW: usize = 8;
 
-/// From how many microseconds on a sync of one file after the other is taken to cost more than one of all.
+/// How many microseconds a sync of all is taken to cost, where none was made yet.
 const LONG: u64 = 4000;
 
-/// The files and links of the folder `build` of the current folder, without those in its folder `bench`.
+/// The files and links of the folder `build` of the current folder, without those in its folders `bench`, `failed` and `log`.
 ///
 /// Nothing stands below a link, so no call reaches through one. A folder without files or links is nothing: where
 /// one stands in the way of an entry it goes, and with the last entry of a folder the folder itself goes. What is
@@ -55,8 +52,8 @@ const LONG: u64 = 4000;
 /// until it changes anything. Where somebody removes such a folder by hand, a write into it is a fault; where somebody
 /// makes a listed file longer, its first bytes are read.
 ///
-/// Many changed files and folders are made durable at once, by a sync of the file system of `build`, where syncs of a few of them
-/// took long, all folders that were come by stand on that one, and the machine has a program for it; else each by itself.
+/// Many changed files and folders are made durable at once, by a sync of the file system of `build`, where by what the last syncs took each
+/// by itself would take longer, all folders that were come by stand on that one, and the machine has a program for it; else each by itself.
 #[derive(Drop)]
 pub struct FolderDisk<'a, R> {
     folder: BuildFolder<'a, R>,
@@ -81,15 +78,17 @@ struct BuildFolder<'a, R> {
     /// Whether this object has changed anything, which a file says for a later process.
     is_marked: bool,
 
-    /// The files and folders that were changed and aren't known to be durable, by their paths from the current folder, and whether
-    /// each is a folder.
-    changed: BTreeMap<String, bool>,
+    /// The files and folders that were changed and aren't known to be durable, by their paths from the current folder.
+    changed: BTreeMap<String, Change>,
 
     /// The folders that are known to be durable, and their names with them.
     settled: BTreeSet<String>,
 
     /// How many microseconds the last sync of files and folders by themselves took for each, if there was one.
     pace: Option<u64>,
+
+    /// How many microseconds the last sync of all took, if there was one.
+    pace_of_all: Option<u64>,
 
     /// The folders that aren't looked at again.
     seen: SeenFolders,
@@ -102,6 +101,13 @@ struct BuildFolder<'a, R> {
 
     /// The path, from the current folder, of what is read there.
     whole: String,
+}
+
+/// What was changed at a path: a folder or a file, and by which of the calls last.
+#[derive(Clone, Copy)]
+struct Change {
+    is_folder: bool,
+    moment: u64,
 }
 
 impl<'a, R: AllocGlobal> FolderDisk<'a, R> {
@@ -127,6 +133,7 @@ impl<'a, R: AllocGlobal> FolderDisk<'a, R> {
                 changed,
                 settled,
                 pace: None,
+                pace_of_all: None,
                 seen,
                 listed,
                 ahead: None,
@@ -140,6 +147,11 @@ impl<'a, R: AllocGlobal> FolderDisk<'a, R> {
     /// What is said of the first fault.
     pub fn first_fault(&self) -> Option<&str> {
         self.first.as_str()
+    }
+
+    /// Whether this object has the lock of a run.
+    pub fn is_held(&self) -> bool {
+        self.folder.lock.is_some()
     }
 
     /// Counts a call at a path of the disk, and the fault where a call of the system failed.
@@ -296,6 +308,11 @@ impl<R: Files + Clock + Locking + Syncing + AllocGlobal + Clone + Drop> Disk for
         self.count("sync", "", done)
     }
 
+    fn end_sync(&mut self, moment: u64, done: bool) -> Result<(), DiskFault> {
+        let ended = self.folder.end_sync(moment, done);
+        self.count("sync", "", ended)
+    }
+
     fn moment(&self) -> u64 {
         self.folder.calls
     }
@@ -337,7 +354,7 @@ impl<'a, R: Files + Clock + Locking + Syncing + AllocGlobal + Clone + Drop> Buil
     /// The place, from the current folder, of a path at which an entry can stand: a clean one, outside the benches, that
     /// has only folders above it.
     fn open_place(&mut self, path: &str) -> io::Result<Option<String>> {
-        if !is_clean(path) || is_below(BENCHES, path) {
+        if !is_clean(path) || is_apart(path) {
             return Ok(None);
         }
         if !self.seen.is_reached(&self.rt, ROOT, path)? {
@@ -422,7 +439,7 @@ impl<'a, R: Files + Clock + Locking + Syncing + AllocGlobal + Clone + Drop> Buil
 
     fn write(&mut self, path: &str, entry: &Entry) -> io::Result<()> {
         self.begin_change()?;
-        if is_below(BENCHES, path) {
+        if is_apart(path) {
             return Err(io::Error::from(ErrorKind::InvalidInput));
         }
         let whole = join(self.rt.alloc(), ROOT, path)?;
@@ -438,7 +455,7 @@ impl<'a, R: Files + Clock + Locking + Syncing + AllocGlobal + Clone + Drop> Buil
     fn rename(&mut self, from: &str, to: &str) -> io::Result<()> {
         self.begin_change()?;
         let source = match self.open_place(from)? {
-            Some(source) if !is_below(BENCHES, to) => source,
+            Some(source) if !is_apart(to) => source,
             _ => return Err(io::Error::from(ErrorKind::InvalidInput)),
         };
         let target = join(self.rt.alloc(), ROOT, to)?;
@@ -452,12 +469,13 @@ impl<'a, R: Files + Clock + Locking + Syncing + AllocGlobal + Clone + Drop> Buil
     }
 
     fn remove(&mut self, path: &str) -> io::Result<()> {
-        self.begin_change()?;
+        self.hold()?;
         let Some(whole) = self.open_place(path)? else {
             return Ok(());
         };
         match look(&self.rt, whole.as_str())? {
             Some(metadata) if is_entry(&metadata) => {
+                self.begin_change()?;
                 self.note_above(whole.as_str())?;
                 fs::remove_file(&self.rt, whole.as_str())?;
                 self.remove_empty_above(whole.as_str())
@@ -494,9 +512,9 @@ impl<'a, R: Files + Clock + Locking + Syncing + AllocGlobal + Clone + Drop> Buil
         if self.changed.len() > FEW
             && self.is_one_system()?
             && self.is_slow()?
-            && self.syncs.wait(&self.rt)
+            && self.wait_for_all()?
         {
-            return self.settle();
+            return self.settle(u64::MAX);
         }
         self.sync_each()
     }
@@ -507,7 +525,25 @@ impl<'a, R: Files + Clock + Locking + Syncing + AllocGlobal + Clone + Drop> Buil
             Some(each) => each,
             None => self.sync_first(FEW)?,
         };
-        Ok(each.saturating_mul(self.changed.len() as u64) > LONG)
+        Ok(each.saturating_mul(self.changed.len() as u64) > self.pace_of_all.unwrap_or(LONG))
+    }
+
+    /// Waits for a sync of all, and says whether it went well.
+    fn wait_for_all(&mut self) -> io::Result<bool> {
+        let begun = self.rt.monotonic()?;
+        let is_synced = self.syncs.wait(&self.rt);
+        let spent = self.rt.monotonic()?.saturating_sub(begun);
+        self.pace_of_all = Some(u64::try_from(spent.as_micros()).unwrap_or(u64::MAX));
+        Ok(is_synced)
+    }
+
+    /// Makes durable what was changed up to a moment, if it is so by a sync that was waited for; else all.
+    fn end_sync(&mut self, moment: u64, done: bool) -> io::Result<()> {
+        self.hold()?;
+        if done && self.is_one_system()? {
+            return self.settle(moment);
+        }
+        self.sync_each()
     }
 
     /// Whether all that is to be synced stands on one file system.
@@ -515,15 +551,15 @@ impl<'a, R: Files + Clock + Locking + Syncing + AllocGlobal + Clone + Drop> Buil
         self.seen.are_on(&self.rt, ROOT)
     }
 
-    /// Notes that all is durable that was changed.
-    fn settle(&mut self) -> io::Result<()> {
-        for (path, is_folder) in &self.changed {
-            if *is_folder {
+    /// Notes that all is durable that was changed up to a moment.
+    fn settle(&mut self, moment: u64) -> io::Result<()> {
+        for (path, change) in &self.changed {
+            if change.is_folder && change.moment <= moment {
                 self.settled
                     .insert(String::from_str(self.rt.alloc(), path.as_str())?)?;
             }
         }
-        self.changed.clear();
+        self.changed.retain(|_, change| change.moment > moment);
         Ok(())
     }
 
@@ -558,11 +594,10 @@ impl<'a, R: Files + Clock + Locking + Syncing + AllocGlobal + Clone + Drop> Buil
     fn remove_empty_above(&mut self, path: &str) -> io::Result<()> {
         let mut folder = above(path);
         for _ in 0..u64::MAX {
-            if folder == ROOT || !is_empty(&self.rt, folder) {
+            if folder == ROOT || !self.remove_if_empty(folder)? {
                 break;
             }
             self.note_above(folder)?;
-            self.remove_empty(folder)?;
             self.settled.remove(folder);
             self.changed.remove(folder);
             self.seen.forget_empty(folder);
@@ -571,27 +606,33 @@ impl<'a, R: Files + Clock + Locking + Syncing + AllocGlobal + Clone + Drop> Buil
         Ok(())
     }
 
-    /// Removes an empty folder. The folders above it are opened up first, where need be.
-    fn remove_empty(&self, folder: &str) -> io::Result<()> {
-        match fs::remove_dir(&self.rt, folder) {
+    /// Removes a folder where nothing stands in it, and says whether it did. It is tried and not looked up first, so that it costs the same
+    /// however much stands in the folder. The folders above it are opened up, where need be.
+    fn remove_if_empty(&self, folder: &str) -> io::Result<bool> {
+        match remove_folder(&self.rt, folder) {
             Err(error) if is_denied(&error) => {
+                if !is_empty(&self.rt, folder) {
+                    return Ok(false);
+                }
                 open_above(&self.rt, ROOT, inside_root(folder))?;
-                fs::remove_dir(&self.rt, folder)
+                remove_folder(&self.rt, folder)
             }
             done => done,
         }
     }
 
-    /// Notes a file or a folder as changed, and says whether it wasn't noted as changed before.
+    /// Notes a file or a folder as changed by the call that is being made, and says whether it wasn't noted as changed before.
     fn note(&mut self, path: &str, is_folder: bool) -> Result<bool, AllocError> {
+        let moment = self.calls.saturating_add(1);
+        let change = Change { is_folder, moment };
         match self.changed.get_mut(path) {
             Some(before) => {
-                *before = is_folder;
+                *before = change;
                 Ok(false)
             }
             None => {
                 self.changed
-                    .insert(String::from_str(self.rt.alloc(), path)?, is_folder)?;
+                    .insert(String::from_str(self.rt.alloc(), path)?, change)?;
                 Ok(true)
             }
         }
@@ -636,12 +677,17 @@ pub fn part_of(prefix: &str) -> Part<'_> {
     Part {
         root: ROOT,
         prefix,
-        hidden: BENCHES,
+        hidden: APART,
         opens: false,
         mends: true,
         notes: false,
         follows: false,
     }
+}
+
+/// Whether a path is one in a folder that is no part of the disk.
+fn is_apart(path: &str) -> bool {
+    APART.iter().any(|name| is_below(*name, path))
 }
 
 /// The path inside the root of a place below it.

@@ -1,10 +1,10 @@
 // The current folder, without `build`.
 ghost use Rattle.std.specs.Prelude.{None};
 
-use crate::faults::{FirstFault, is_memory, one_more};
-use crate::folder::{look_through, read_bytes};
 use crate::linked::{BUILT, Link, LinkedFolders, ReachedFolders, lost_link};
-use crate::walk::{Part, WalkFault, walk_noting};
+use host_files::{
+    FirstFault, Part, WalkFault, is_memory, look_through, one_more, read_bytes, walk_noting,
+};
 use outside_traits::{Layers, ReadFault};
 use std::alloc::{AllocError, Global};
 use std::io;
@@ -14,6 +14,9 @@ use tree_model::{Bytes, Text, Texts, is_below, is_clean};
 
 /// The current folder, which is the root of the layers.
 const HERE: &str = ".";
+
+/// The folders in it that aren't entered.
+const HIDDEN: &[&str] = &[BUILT];
 
 /// The most sentences that are kept of one kind.
 const MOST_REMARKS: usize = 20;
@@ -217,7 +220,7 @@ fn list_part<R: Files + AllocGlobal + Clone + Drop>(
     let part = Part {
         root: HERE,
         prefix,
-        hidden: BUILT,
+        hidden: HIDDEN,
         opens: false,
         mends: false,
         notes: true,

@@ -1,5 +1,5 @@
 // What is too long for the formats of a disk, which its size tells before a byte is read.
-use crate::folder::FileFacts;
+use host_files::FileFacts;
 use std::alloc::Global;
 use std::io;
 use tree_model::{Bytes, Entry};

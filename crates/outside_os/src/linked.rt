@@ -1,6 +1,5 @@
 // Links to folders among the layers: which of them a listing enters, and what is reached through them.
-use crate::folder::{is_absent, look, look_through};
-use crate::own::Identity;
+use host_files::{Identity, is_absent, look, look_through};
 use std::alloc::Global;
 use std::cmp::Ordering;
 use std::collections::BTreeSet;

@@ -1,5 +1,5 @@
 // What a listing of a disk saw, until it is read.
-use crate::folder::{FileFacts, entry_of, no_memory, read_onto};
+use host_files::{FileFacts, entry_of, no_memory, read_onto};
 use std::alloc::{AllocError, Global};
 use std::io;
 use std::rt::Files;

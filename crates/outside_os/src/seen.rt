@@ -1,5 +1,5 @@
 // The folders above a disk's entries that needn't be looked at again.
-use crate::folder::{look, look_through, make_folder};
+use host_files::{look, look_through, make_folder};
 use std::alloc::Global;
 use std::collections::BTreeSet;
 use std::fs::Metadata;

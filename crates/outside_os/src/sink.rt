@@ -1,7 +1,7 @@
 // Standard output.
 ghost use Rattle.std.specs.Prelude.{[]};
 
-use crate::faults::{FirstFault, one_more};
+use host_files::{FirstFault, one_more};
 use outside_traits::{Sink, SinkFault};
 use std::io;
 use std::io::{ErrorKind, Write};

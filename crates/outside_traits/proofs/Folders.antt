@@ -1,22 +1,20 @@
 -- Paths round a folder, and what is held there.
-use Rattle.std.proofs.Common.{◌≡◌, ◌⊎◌, inl, inr, ⊎_elim, ℕ, ◌+◌, ◌<◌, List, [], ◌∷◌, ◌++◌, length, get_or, Some, None, Result, refl, sym, ◌∙◌, ap, subst, arith, append_assoc, length-append}
+use Rattle.std.proofs.Common.{◌≡◌, ◌⊎◌, inl, inr, ⊎_elim, ℕ, List, [], ◌∷◌, ◌++◌, length, Some, None, Result, refl, sym, ◌∙◌, ap, subst, arith, append_assoc, length-append}
 use Rattle.std.specs.Prelude.{IsSome, Option}
 use Rattle.std.specs.Option.{is_some}
-use Rattle.std.proofs.lemmas.List.{get_or_default}
-use Rattle.std.proofs.lemmas.Bool.{cases_eq, false≢true}
+use Rattle.std.proofs.lemmas.Bool.{false≢true}
 use Rattle.tree_model.specs.declared.entry.Entry.{Entry}
 use Rattle.outside_traits.specs.declared.fault.DiskFault.{DiskFault}
 use Rattle.tree_model.specs.Path.{IsBelow, inside}
-use Rattle.tree_model.specs.Tree.{IsTree}
-use Rattle.outside_traits.specs.Store.{Store, IsFree, IsApart, IsAround, AgreesApart, AgreesRound, IsOpen, ChangesAt}
+use Rattle.tree_model.specs.Tree.{IsTree, entry_at}
+use Rattle.outside_traits.specs.Store.{Store, IsFree, IsApart, IsAround, AgreesApart, AgreesRound, IsOpen, ChangesAt, LaysTree, MakesWay, PutsEntry}
 use Rattle.outside_traits.specs.Story.{Story}
-use Rattle.outside_traits.specs.Answers.{Writes, Removes}
-use Rattle.outside_traits.specs.Passes.{Clears, Passes}
+use Rattle.outside_traits.specs.Passes.{Clears, Passes, Same}
 use Rattle.outside_traits.proofs.Puts.{path_cases}
 use Rattle.outside_traits.proofs.Runs.{passes_none, passes_so, passes_then}
-use Rattle.outside_traits.proofs.Calls.{same_so, writes_passes, removes_passes}
+use Rattle.outside_traits.proofs.Calls.{same_so}
 use Rattle.outside_traits.proofs.Held.{none_unless}
-use Rattle.outside_traits.proofs.Laid.{HoldsFirst, tree_distinct, tree_level}
+use Rattle.outside_traits.proofs.Laid.{paths_level}
 
 -- what stands above a path under the folder
 pub above_under : (folder p q : List ℕ) → IsBelow q (inside folder p) → IsBelow q folder ⊎ ((q ≡ folder) ⊎ ((r : List ℕ) × (q ≡ inside folder r) × IsBelow r p))
@@ -61,95 +59,126 @@ AgreesRound-changes folder p h i j below change = record {
   around = λ q near none. change.others q (not_around folder p q below near);
 }
 
-pub near_folder : (folder : List ℕ) → IsApart folder folder → ⊥
-near_folder folder far = far.not_folder refl
-
-pub near_above : (folder p : List ℕ) → IsBelow p folder → IsApart folder p → ⊥
-near_above folder p below far = far.not_above below
-
--- a run that changes nothing apart from the folder, and nothing above it where nothing was held
-abbrev pub Stays : List ℕ → Story → Story → Type 0
-Stays folder a b = Passes a b (AgreesRound folder a.held)
-
-pub stays_none : (folder : List ℕ) (a : Story) → Stays folder a a
-stays_none folder a = passes_none a (AgreesRound folder a.held) (AgreesRound-same folder a.held)
-
-pub stays_again : (folder : List ℕ) {a b c : Story} → Stays folder a b → Stays folder b c → Stays folder a c
-stays_again folder {a} {b} {c} first second = passes_then (AgreesRound folder a.held) first second (λ i j r. r)
-    (λ i j k r s. record {
-      apart = λ q far. s.apart q far ∙ r.apart q far;
-      around = λ q near none. s.around q near (first.held.around q near none ∙ none) ∙ r.around q near none;
-    })
-
--- what stands apart stays
-pub stays_apart : (folder : List ℕ) {a b : Story} → Stays folder a b → Passes a b (AgreesApart folder)
-stays_apart folder {a} run = passes_so (AgreesApart folder) run (apart_of_round folder a.held)
+-- what is apart from a folder is neither the folder nor above it
+apart_not_around : (folder q : List ℕ) → IsApart folder q → IsAround folder q → ⊥
+apart_not_around folder q far (inl at) = far.not_folder at
+apart_not_around folder q far (inr up) = far.not_above up
 
 pub some_none : {o : Option Entry} (e : Entry) → o ≡ Some e → o ≡ None → ⊥
 some_none e some none = false≢true (sym (ap is_some none) ∙ ap is_some some)
 
+-- ---- way is made for a folder
+
+pub MakesWay-same : (folder : List ℕ) (h i : Store) → MakesWay folder h i i
+MakesWay-same folder h i = record { others = λ q far. refl; around = λ q near none. refl }
+
+-- a run that changes no more than what was held at the folder and above it
+abbrev pub Ways : List ℕ → Story → Story → Type 0
+Ways folder a b = Passes a b (MakesWay folder a.held)
+
+pub ways_none : (folder : List ℕ) (a : Story) → Ways folder a a
+ways_none folder a = passes_none a (MakesWay folder a.held) (MakesWay-same folder a.held)
+
+pub ways_again : (folder : List ℕ) {a b c : Story} → Ways folder a b → Ways folder b c → Ways folder a c
+ways_again folder {a} {b} {c} first second = passes_then (MakesWay folder a.held) first second (λ i j r. r)
+    (λ i j k r s. record {
+      others = λ q far. s.others q far ∙ r.others q far;
+      around = λ q near none. s.around q near (first.held.around q near none ∙ none) ∙ r.around q near none;
+    })
+
 -- what the path held was removed, at the folder or above it
-cleared : {folder p : List ℕ} {b c : Story} {T : Type 0} {r : Result T DiskFault} (o : Option Entry) → b.held p ≡ o → (IsApart folder p → ⊥) → Clears p b c r → Stays folder b c
-cleared {folder} {p} {b} {c} None is near did = same_so (AgreesRound folder b.held) (AgreesRound-same folder b.held) (did.untouched is)
-cleared {folder} {p} {b} {c} (Some e) is near did = passes_so (AgreesRound folder b.held) did.changes
+cleared : {folder p : List ℕ} {b c : Story} {T : Type 0} {r : Result T DiskFault} (o : Option Entry) → b.held p ≡ o → IsAround folder p → Clears p b c r → Ways folder b c
+cleared {folder} {p} {b} {c} None is near did = same_so (MakesWay folder b.held) (MakesWay-same folder b.held) (did.untouched is)
+cleared {folder} {p} {b} {c} (Some e) is near did = passes_so (MakesWay folder b.held) did.changes
     (λ i j change. record {
-      apart = λ q far. change.others q (λ same. near (subst (IsApart folder) same far));
+      others = λ q far. change.others q (λ same. far (subst (IsAround folder) (sym same) near));
       around = λ q round none. change.others q (λ same. some_none e is (ap b.held (sym same) ∙ none));
     })
 
-pub stays_clears : {folder p : List ℕ} {a b c : Story} {T : Type 0} {r : Result T DiskFault} → (IsApart folder p → ⊥) → Stays folder a b → Clears p b c r → Stays folder a c
-stays_clears {folder} {p} {a} {b} near run did = stays_again folder run (cleared (b.held p) refl near did)
+pub ways_clears : {folder p : List ℕ} {a b c : Story} {T : Type 0} {r : Result T DiskFault} → IsAround folder p → Ways folder a b → Clears p b c r → Ways folder a c
+ways_clears {folder} {p} {a} {b} near run did = ways_again folder run (cleared (b.held p) refl near did)
 
-pub stays_removes : {folder p : List ℕ} {a b c : Story} {T : Type 0} {r : Result T DiskFault} → IsBelow folder p → Stays folder a b → Removes p b c r → Stays folder a c
-stays_removes {folder} {p} {a} {b} below run did = stays_again folder run (passes_so (AgreesRound folder b.held) (removes_passes did) (λ i j change. AgreesRound-changes folder p b.held i j below change))
+-- ---- a folder becomes a tree
 
-pub stays_writes : {folder p : List ℕ} {e : Entry} {a b c : Story} {T : Type 0} {r : Result T DiskFault} → IsBelow folder p → Stays folder a b → Writes p e b c r → Stays folder a c
-stays_writes {folder} {p} {a = a} {b = b} below run did = stays_again folder run (passes_so (AgreesRound folder b.held) (writes_passes did) (λ i j change. AgreesRound-changes folder p b.held i j below change))
+module _ (folder : List ℕ) (tree : List (List ℕ × Entry)) where
+  pub LaysTree-same : (h i : Store) → LaysTree folder tree h i i
+  LaysTree-same h i = record { round = AgreesRound-same folder h i; right = λ path is. refl }
 
--- a folder that is open stays so, where nothing comes to stand at it or above it
+  LaysTree-way : (h i j : Store) → MakesWay folder h i j → LaysTree folder tree h i j
+  LaysTree-way h i j way = record {
+    round = record { apart = λ q far. way.others q (apart_not_around folder q far); around = way.around };
+    right = λ path is. way.others (inside folder path) (λ near. not_around folder (inside folder path) (inside folder path) (path, refl) near refl);
+  }
+
+  -- a path that isn't right changes
+  pub LaysTree-changes : (path : List ℕ) (h i j : Store) → (h (inside folder path) ≡ entry_at tree path → ⊥) → ChangesAt (inside folder path) i j → LaysTree folder tree h i j
+  LaysTree-changes path h i j wrong change = record { round = AgreesRound-changes folder (inside folder path) h i j (path, refl) change; right = right }
+    where
+      right : (q : List ℕ) → h (inside folder q) ≡ entry_at tree q → j (inside folder q) ≡ i (inside folder q)
+      right q is = change.others (inside folder q) (λ same. wrong (ap h (sym same) ∙ is ∙ ap (entry_at tree) (under_same folder q path same)))
+
+  -- an entry of the tree comes to stand
+  pub LaysTree-puts : (path : List ℕ) (entry : Entry) (h g i j : Store) → entry_at tree path ≡ Some entry → g (inside folder path) ≡ h (inside folder path) → PutsEntry (inside folder path) entry g i j → LaysTree folder tree h i j
+  LaysTree-puts path entry h g i j at as_was put = record {
+    round = AgreesRound-changes folder (inside folder path) h i j (path, refl) (record { others = put.others });
+    right = right;
+  }
+    where
+      right : (q : List ℕ) → h (inside folder q) ≡ entry_at tree q → j (inside folder q) ≡ i (inside folder q)
+      right q is = elim (path_cases (inside folder q) (inside folder path)) [
+        | inl same ↦ ap j same ∙ put.right (as_was ∙ ap h (sym same) ∙ is ∙ ap (entry_at tree) (under_same folder q path same) ∙ at) ∙ ap i (sym same)
+        | inr ne ↦ put.others (inside folder q) ne
+      ]
+
+  LaysTree-join : (a b i j k : Store) → LaysTree folder tree a a b → LaysTree folder tree a i j → LaysTree folder tree b j k → LaysTree folder tree a i k
+  LaysTree-join a b i j k held first second = record {
+    round = record {
+      apart = λ q far. second.round.apart q far ∙ first.round.apart q far;
+      around = λ q near none. second.round.around q near (held.round.around q near none ∙ none) ∙ first.round.around q near none;
+    };
+    right = λ path is. second.right path (held.right path is ∙ is) ∙ first.right path is;
+  }
+
+  -- what is right before the run stays
+  abbrev pub Lays : Story → Story → Type 0
+  Lays a b = Passes a b (LaysTree folder tree a.held)
+
+  pub lays_same : {a b : Story} → Passes a b Same → Lays a b
+  lays_same {a} run = same_so (LaysTree folder tree a.held) (LaysTree-same a.held) run
+
+  pub lays_way : {a b : Story} → Ways folder a b → Lays a b
+  lays_way {a} run = passes_so (LaysTree folder tree a.held) run (LaysTree-way a.held)
+
+  pub lays_then : {a b c : Story} → Lays a b → Lays b c → Lays a c
+  lays_then {a} {b} {c} first second = passes_then (LaysTree folder tree a.held) first second (λ i j r. r) (λ i j k r s. LaysTree-join a.held b.held i j k first.held r s)
+
+  -- and then something is done by which it stays too
+  pub lays_more : {a b c : Story} {S : Store → Store → Type 0} → ((j k : Store) → S j k → LaysTree folder tree a.held j k) → Lays a b → Passes b c S → Lays a c
+  lays_more {a} {b} {c} {S} does first second = passes_then (LaysTree folder tree a.held) first second (λ i j r. r)
+      (λ i j k r s. let t = does j k s in record {
+        round = record {
+          apart = λ q far. t.round.apart q far ∙ r.round.apart q far;
+          around = λ q near none. t.round.around q near none ∙ r.round.around q near none;
+        };
+        right = λ path is. t.right path is ∙ r.right path is;
+      })
+
+  pub lays_round : {a b : Story} → Lays a b → Passes a b (AgreesRound folder a.held)
+  lays_round {a} run = passes_so (AgreesRound folder a.held) run (λ i j lays. lays.round)
+
+  pub lays_apart : {a b : Story} → Lays a b → Passes a b (AgreesApart folder)
+  lays_apart {a} run = passes_so (AgreesApart folder) run (λ i j lays. apart_of_round folder a.held i j lays.round)
+
+  -- where what is held under the folder is held at paths of the tree, each of these may be written
+  pub free_within : (h : Store) (path : List ℕ) → IsTree tree → IsOpen folder h → ((q : List ℕ) → IsSome (h (inside folder q)) → IsSome (entry_at tree q)) → IsSome (entry_at tree path) → IsFree h (inside folder path)
+  free_within h path is_tree open_at within here = record {
+    above = λ q up. ⊎_elim (λ a. open_at.above q a) (λ other. ⊎_elim (λ same. ap h same ∙ open_at.at) (λ w. ap h w.1 ∙ none_unless (h (inside folder w.0)) (λ some. paths_level tree w.0 path is_tree (within w.0 some) here w.2)) other) (above_under folder path q up);
+    below = λ q down. ap h (down.1 ∙ append_assoc folder (47 ∷ path) (47 ∷ down.0))
+        ∙ none_unless (h (inside folder (inside path down.0))) (λ some. paths_level tree path (inside path down.0) is_tree here (within (inside path down.0) some) (down.0, refl));
+  }
+
 pub open_changes : (folder p : List ℕ) (i j : Store) → IsBelow folder p → ChangesAt p i j → IsOpen folder i → IsOpen folder j
 open_changes folder p i j below change was = record {
   at = change.others folder (not_around folder p folder below (inl refl)) ∙ was.at;
   above = λ q up. change.others q (not_around folder p q below (inr up)) ∙ was.above q up;
 }
-
-module _ (folder : List ℕ) (tree : List (List ℕ × Entry)) (n : ℕ) (fits : n < length tree) (is_tree : IsTree tree) (h : Store) (first : HoldsFirst n folder tree h) (open_at : IsOpen folder h) (item : List ℕ × Entry) (is_item : item ≡ get_or tree n item) where
-  not_first : (q : List ℕ) → ((k : ℕ) → k < n → (get_or tree k item).0 ≡ q → ⊥) → h (inside folder q) ≡ None
-  not_first q far = none_unless (h (inside folder q)) (λ some. let w = first.only q some in far w.0 w.1 (w.2 item))
-
-  -- the next path is free
-  pub next_free : IsFree h (inside folder item.0)
-  next_free = record {
-    above = λ q up. ⊎_elim (λ a. open_at.above q a) (λ other. ⊎_elim (λ same. ap h same ∙ open_at.at) (λ w. ap h w.1 ∙ not_first w.0 (far_above w.0 w.2)) other) (above_under folder item.0 q up);
-    below = λ q down. ap h (down.1 ∙ append_assoc folder (47 ∷ item.0) (47 ∷ down.0)) ∙ not_first (item.0 ++ 47 ∷ down.0) (far_below down.0);
-  }
-    where
-      far_above : (r : List ℕ) → IsBelow r item.0 → (k : ℕ) → k < n → (get_or tree k item).0 ≡ r → ⊥
-      far_above r up k lt same = tree_level tree k n item is_tree (omega arith) fits
-          (subst (λ (x : List ℕ × Entry). IsBelow (get_or tree k item).0 x.0) is_item (subst (λ (s : List ℕ). IsBelow s item.0) (sym same) up))
-
-      far_below : (r : List ℕ) (k : ℕ) → k < n → (get_or tree k item).0 ≡ item.0 ++ 47 ∷ r → ⊥
-      far_below r k lt same = tree_level tree n k item is_tree fits (omega arith)
-          (subst (λ (x : List ℕ × Entry). IsBelow x.0 (get_or tree k item).0) is_item (r, same))
-
-  -- and then one entry more is held
-  pub next_held : (h' : Store) → ChangesAt (inside folder item.0) h h' → h' (inside folder item.0) ≡ Some item.1 → HoldsFirst (n + 1) folder tree h'
-  next_held h' change now = record { each = each; only = only }
-    where
-      each : (k : ℕ) (d : List ℕ × Entry) → k < n + 1 → h' (inside folder (get_or tree k d).0) ≡ Some (get_or tree k d).1
-      each k d lt = elim (cases_eq k n) [
-        | inl same ↦
-            let at_k : get_or tree k d ≡ item = ap (λ (m : ℕ). get_or tree m d) same ∙ get_or_default tree n d item fits ∙ sym is_item in
-            ap (λ (x : List ℕ × Entry). h' (inside folder x.0)) at_k ∙ now ∙ ap (λ (x : List ℕ × Entry). Some x.1) (sym at_k)
-        | inr other ↦
-            let before : k < n = omega arith in
-            change.others (inside folder (get_or tree k d).0) (λ same. tree_distinct tree k n d is_tree before fits
-            (under_same folder (get_or tree k d).0 item.0 same ∙ ap (λ (x : List ℕ × Entry). x.0) (is_item ∙ get_or_default tree n item d fits)))
-            ∙ first.each k d before
-      ]
-
-      only : (q : List ℕ) → IsSome (h' (inside folder q)) → (k : ℕ) × (k < n + 1) × ((d : List ℕ × Entry) → (get_or tree k d).0 ≡ q)
-      only q some = elim (path_cases (inside folder q) (inside folder item.0)) [
-        | inl same ↦ (n, omega arith, λ d. ap (λ (x : List ℕ × Entry). x.0) (get_or_default tree n d item fits ∙ sym is_item) ∙ sym (under_same folder q item.0 same))
-        | inr ne ↦ let w = first.only q (subst IsSome (change.others (inside folder q) ne) some) in (w.0, omega (arith, w.1), w.2)
-      ]

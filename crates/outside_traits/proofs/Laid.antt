@@ -31,6 +31,19 @@ differs a b before same =
 pub tree_distinct : (tree : List (List ℕ × Entry)) (i j : ℕ) (d : List ℕ × Entry) → IsTree tree → i < j → j < length tree → (get_or tree i d).0 ≢ (get_or tree j d).0
 tree_distinct tree i j d is_tree lt fits = differs _ _ (is_tree.ordered i j d lt fits)
 
+order_cases : (a b : ℕ) → a ≢ b → (a < b) ⊎ (b < a)
+order_cases zero zero ne = absurd (ne refl)
+order_cases zero (suc b) ne = inl (omega arith)
+order_cases (suc a) zero ne = inr (omega arith)
+order_cases (suc a) (suc b) ne = elim (order_cases a b (λ e. ne (ap suc e))) [ inl lt ↦ inl (omega arith) | inr gt ↦ inr (omega arith) ]
+
+-- two places of a tree have two paths
+pub tree_apart : (tree : List (List ℕ × Entry)) (i j : ℕ) (d : List ℕ × Entry) → IsTree tree → i ≢ j → i < length tree → j < length tree → (get_or tree i d).0 ≢ (get_or tree j d).0
+tree_apart tree i j d is_tree ne i_fits j_fits same = elim (order_cases i j ne) [
+  | inl lt ↦ tree_distinct tree i j d is_tree lt j_fits same
+  | inr gt ↦ tree_distinct tree j i d is_tree gt i_fits (sym same)
+]
+
 below_itself : (p : List ℕ) → IsBelow p p → ⊥
 below_itself p below = let e = ap length below.1 ∙ length-append p (47 ∷ below.0) in omega arith
 
@@ -43,19 +56,13 @@ tree_level tree i j d is_tree i_fits j_fits below = elim (cases_eq i j) [
     | inr gt ↦ (is_tree.ordered j i d gt i_fits).not_below below
   ]
 ]
-  where
-    order_cases : (a b : ℕ) → a ≢ b → (a < b) ⊎ (b < a)
-    order_cases zero zero ne = absurd (ne refl)
-    order_cases zero (suc b) ne = inl (omega arith)
-    order_cases (suc a) zero ne = inr (omega arith)
-    order_cases (suc a) (suc b) ne = elim (order_cases a b (λ e. ne (ap suc e))) [ inl lt ↦ inl (omega arith) | inr gt ↦ inr (omega arith) ]
 
 -- what the search finds behind a test of the first entry
 abbrev found_after : List (List ℕ × Entry) → List ℕ → List ℕ × Entry → Bool → Option Entry
 found_after xs p x b = option_map (λ (e : List ℕ × Entry). e.1) (cond b (Some x) (find (λ e. bytes_eq e.0 p) xs))
 
 -- each entry of a list without a path twice is found at its path
-pub found_at : (tree : List (List ℕ × Entry)) (k : ℕ) (d : List ℕ × Entry) → ((i j : ℕ) → i < j → j < length tree → (get_or tree i d).0 ≢ (get_or tree j d).0) → k < length tree → entry_at tree (get_or tree k d).0 ≡ Some (get_or tree k d).1
+found_at : (tree : List (List ℕ × Entry)) (k : ℕ) (d : List ℕ × Entry) → ((i j : ℕ) → i < j → j < length tree → (get_or tree i d).0 ≢ (get_or tree j d).0) → k < length tree → entry_at tree (get_or tree k d).0 ≡ Some (get_or tree k d).1
 found_at [] k d distinct lt = absurd (omega arith)
 found_at (x ∷ xs) zero d distinct lt = ap (found_after xs x.0 x) ((bytes_eq-Decides x.0 x.0).1 refl)
 found_at (x ∷ xs) (suc k) d distinct lt = elim (bool_cases (bytes_eq x.0 (get_or xs k d).0)) [
@@ -73,6 +80,18 @@ found_in (x ∷ xs) q some = elim (bool_cases (bytes_eq x.0 q)) [
       (suc rest.0, omega (arith, rest.1), rest.2)
 ]
 
+-- of two paths that a tree has none lies below the other
+pub paths_level : (tree : List (List ℕ × Entry)) (p q : List ℕ) → IsTree tree → IsSome (entry_at tree p) → IsSome (entry_at tree q) → IsBelow p q → ⊥
+paths_level tree p q is_tree at_p at_q below =
+    let d : List ℕ × Entry = ([], Link []) in
+    let u = found_in tree p at_p in
+    let v = found_in tree q at_q in
+    tree_level tree u.0 v.0 d is_tree u.1 v.1 (subst (λ (x : List ℕ). IsBelow x (get_or tree v.0 d).0) (sym (u.2 d)) (subst (λ (y : List ℕ). IsBelow p y) (sym (v.2 d)) below))
+
+-- an entry of a tree is found at its path
+pub tree_found : (tree : List (List ℕ × Entry)) (k : ℕ) (d : List ℕ × Entry) → IsTree tree → k < length tree → entry_at tree (get_or tree k d).0 ≡ Some (get_or tree k d).1
+tree_found tree k d is_tree lt = found_at tree k d (λ i j less fits. tree_distinct tree i j d is_tree less fits) lt
+
 -- two answers of look-ups agree where each is there whenever the other is
 agree : (o p : Option Entry) → (IsSome o → o ≡ p) → (IsSome p → IsSome o) → o ≡ p
 agree (Some e) p held back = held refl
@@ -89,7 +108,7 @@ holds_entries folder tree held is_tree first = entries
     found : (k : ℕ) (q : List ℕ) → k < length tree → (get_or tree k d).0 ≡ q → held (inside folder q) ≡ entry_at tree q
     found k q lt is =
         ap (λ (p : List ℕ). held (inside folder p)) (sym is) ∙ first.each k d lt
-        ∙ sym (ap (entry_at tree) (sym is) ∙ found_at tree k d (λ i j less fits. tree_distinct tree i j d is_tree less fits) lt)
+        ∙ sym (ap (entry_at tree) (sym is) ∙ tree_found tree k d is_tree lt)
 
     entries : (q : List ℕ) → held (inside folder q) ≡ entry_at tree q
     entries q = agree (held (inside folder q)) (entry_at tree q)

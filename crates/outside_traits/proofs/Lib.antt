@@ -4,7 +4,11 @@ pub mod Runs
 pub mod Calls
 pub mod Sound
 pub mod Held
+pub mod Listing
 pub mod Laid
 pub mod Folders
 pub mod Steps
 pub mod Readings
+pub mod Durable
+pub mod Syncing
+pub mod Phasing

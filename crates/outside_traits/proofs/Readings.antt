@@ -1,5 +1,5 @@
 -- What is read of a folder is a tree.
-use Rattle.std.proofs.Common.{◌≡◌, inl, inr, ℕ, zero, suc, ◌+◌, ◌<◌, Bool, true, false, cond, List, [], ◌∷◌, ◌++◌, length, get_or, Option, Some, None, Result, Ok, Err, refl, sym, ◌∙◌, ap, subst, arith, append_assoc}
+use Rattle.std.proofs.Common.{◌≡◌, inl, inr, ℕ, zero, suc, ◌+◌, ◌<◌, Bool, true, false, cond, List, [], ◌∷◌, ◌++◌, length, get_or, Option, Some, None, Result, Ok, Err, refl, sym, ◌∙◌, ap, subst, arith, append_assoc, length-append}
 use Rattle.std.specs.Prelude.{Any, IfOk, IsSome, Contains, IsPermutation, find, option_map}
 use Rattle.std.specs.Option.{is_some}
 use Rattle.std.specs.Str.{bytes_eq}
@@ -9,10 +9,11 @@ use Rattle.std.specs.declared.cmp.Ordering.TheVariants.{Less}
 use Rattle.std.specs.Cmp.Lexicographic.{slice_cmp}
 use Rattle.std.specs.List.{AllByRecursion}
 use Rattle.std.specs.List.Sorted.{IsStrictlySortedBy}
-use Rattle.std.proofs.lemmas.Bool.{false≢true}
-use Rattle.std.proofs.lemmas.List.{get_or_default}
+use Rattle.std.proofs.lemmas.Bool.{false≢true, cases_eq}
+use Rattle.std.proofs.lemmas.List.{get_or_default, get_or_append_left}
 use Rattle.std.proofs.lemmas.List.Sorted.{Contains-permutation, IsPermutation-sym}
 use Rattle.std.proofs.lemmas.Slice.Eq.{bytes_eq-Decides}
+use Rattle.std.proofs.Math.Seq.{get_or-append_seam}
 use Rattle.tree_model.specs.declared.entry.Entry.{Entry}
 use Rattle.tree_model.specs.declared.entry.Entry.TheVariants.{Link}
 use Rattle.tree_model.specs.declared.tree.Size.{Size}
@@ -97,6 +98,30 @@ strictly_at c (x ∷ xs) zero zero d sorted less fits = absurd (omega arith)
 strictly_at c (x ∷ xs) zero (suc j) d sorted less fits = each_at (λ y. c x y ≡ Less) xs j d sorted.0 (omega arith)
 strictly_at c (x ∷ xs) (suc i) zero d sorted less fits = absurd (omega arith)
 strictly_at c (x ∷ xs) (suc i) (suc j) d sorted less fits = strictly_at c xs i j d sorted.1 (omega arith) (omega arith)
+
+-- one entry more is read
+pub stands_more : {prefix : List ℕ} {paths : List (List ℕ)} {n : ℕ} {held : Store} {entries : List (List ℕ × Entry)} (path rest : List ℕ) (e : Entry) → n < length paths → path ≡ get_or paths n [] → path ≡ prefix ++ rest → held path ≡ Some e
+    → Stands prefix paths n held entries → Stands prefix paths (n + 1) held (entries ++ (rest, e) ∷ [])
+stands_more {prefix} {paths} {n} {held} {entries} path rest e fits at is holds so_far = record {
+  count = length-append entries ((rest, e) ∷ []) ∙ ap (λ (m : ℕ). m + 1) so_far.count;
+  paths_are = λ k d p less. elim (cases_eq k n) [
+    | inl same ↦ path_at k p same ∙ is ∙ ap (λ (x : List ℕ × Entry). prefix ++ x.0) (sym (last_at k d same))
+    | inr other ↦ so_far.paths_are k d p (omega arith) ∙ ap (λ (x : List ℕ × Entry). prefix ++ x.0) (sym (earlier_at k d (omega arith)))
+  ];
+  are_held = λ k d p less. elim (cases_eq k n) [
+    | inl same ↦ ap held (path_at k p same) ∙ holds ∙ ap (λ (x : List ℕ × Entry). Some x.1) (sym (last_at k d same))
+    | inr other ↦ so_far.are_held k d p (omega arith) ∙ ap (λ (x : List ℕ × Entry). Some x.1) (sym (earlier_at k d (omega arith)))
+  ];
+}
+  where
+    path_at : (k : ℕ) (p : List ℕ) → k ≡ n → get_or paths k p ≡ path
+    path_at k p same = ap (λ (m : ℕ). get_or paths m p) same ∙ get_or_default paths n p [] fits ∙ sym at
+
+    last_at : (k : ℕ) (d : List ℕ × Entry) → k ≡ n → get_or (entries ++ (rest, e) ∷ []) k d ≡ (rest, e)
+    last_at k d same = ap (λ (m : ℕ). get_or (entries ++ (rest, e) ∷ []) m d) (same ∙ sym so_far.count) ∙ get_or-append_seam entries (rest, e) [] d
+
+    earlier_at : (k : ℕ) (d : List ℕ × Entry) → k < n → get_or (entries ++ (rest, e) ∷ []) k d ≡ get_or entries k d
+    earlier_at k d less = get_or_append_left entries ((rest, e) ∷ []) d k (omega (arith, so_far.count))
 
 -- what all listed paths hold is the tree that is held under the folder
 module _ (folder prefix : List ℕ) (paths : List (List ℕ)) (held : Store) (entries : List (List ℕ × Entry)) (prefix_is : prefix ≡ inside folder []) (listing : IsListing prefix held paths) (content : IsContent held) (stands : Stands prefix paths (length paths) held entries) where

@@ -3,12 +3,12 @@ use Rattle.std.proofs.Common.{◌≡◌, inl, inr, ℕ, zero, suc, List, ◌∷�
 use Rattle.std.specs.Prelude.{IsSome}
 use Rattle.std.specs.Option.{is_some}
 use Rattle.outside_traits.specs.declared.call.Call.{Call}
-use Rattle.outside_traits.specs.declared.call.Call.TheVariants.{Looked, Synced, Put, Moved}
+use Rattle.outside_traits.specs.declared.call.Call.TheVariants.{Looked, Synced, Ended, Put, Moved}
 use Rattle.std.proofs.lemmas.Bool.{false≢true}
 use Rattle.tree_model.specs.declared.entry.Entry.{Entry}
 use Rattle.tree_model.specs.Path.{IsBelow, IsClean}
 use Rattle.outside_traits.specs.Store.{Store, IsTreelike, IsFree, put}
-use Rattle.outside_traits.specs.Story.{Story, IsContent, before, held_before, IsSound, looked, synced, put_at, moved}
+use Rattle.outside_traits.specs.Story.{Story, IsContent, before, held_before, IsSound, looked, synced, ended, put_at, moved}
 use Rattle.outside_traits.proofs.Puts.{put-same, put-other, put-own, puts-own, put-undone, moved-undone, path_cases}
 
 none_some : {o : Option Entry} → o ≡ None → IsSome o → ⊥
@@ -63,6 +63,9 @@ sound_looked s sound = sound_on s s.held Looked refl (sound.content 0) sound
 
 pub sound_synced : (s : Story) → IsSound s → IsSound (synced s)
 sound_synced s sound = sound_on s s.held Synced refl (sound.content 0) sound
+
+pub sound_ended : (s : Story) (k : ℕ) → IsSound s → IsSound (ended k s)
+sound_ended s k sound = sound_on s s.held (Ended k) refl (sound.content 0) sound
 
 pub sound_put : (s : Story) (p : List ℕ) (x : Option Entry) → IsClean p → IsFree s.held p → IsSound s → IsSound (put_at p x s)
 sound_put s p x clean free sound = sound_on s (put s.held p x) (Put p (s.held p)) (put-undone s.held p x) (content_with s.held p x clean free (sound.content 0)) sound

@@ -4,7 +4,7 @@ use Rattle.tree_model.specs.declared.entry.Entry.{Entry}
 use Rattle.outside_traits.specs.declared.fault.DiskFault.{DiskFault}
 use Rattle.outside_traits.specs.declared.fault.DiskFault.TheVariants.{Failed, Memory}
 use Rattle.outside_traits.specs.Store.{Store, IsListing}
-use Rattle.outside_traits.specs.Story.{Story, IsImage, looked, synced, put_at, moved}
+use Rattle.outside_traits.specs.Story.{Story, IsImage, looked, synced, ended, put_at, moved}
 
 -- what holds at each answer
 abbrev pub Answers : {T : Type 0} → Result T DiskFault → (T → Type 0) → Type 0 → Type 0 → Type 0
@@ -39,7 +39,7 @@ pub record Renames (from to : List ℕ) (old new : Story) {T : Type 0} (result :
       ((x y : Option Entry) × HalfMoved from to old.held x y × (new ≡ moved from to x y old))
       (new ≡ old)
 
--- the path is held, and unchanged since the last sync: each crash now leaves it as it is held
+-- the path is held, and each crash now leaves it as it is held
 pub record IsSettled (path : List ℕ) (story : Story) : Type 0 where
   pub held : IsSome (story.held path)
   pub kept : (image : Store) → IsImage story image → image path ≡ story.held path
@@ -47,3 +47,7 @@ pub record IsSettled (path : List ℕ) (story : Story) : Type 0 where
 -- a sync changes nothing that is held
 pub record Syncs (old new : Story) {T : Type 0} (result : Result T DiskFault) : Type 0 where
   pub answers : Answers result (λ _. new ≡ synced old) (new ≡ looked old) (new ≡ old)
+
+-- the end of a ticket of the moment k changes nothing that is held
+pub record Ends (k : ℕ) (old new : Story) {T : Type 0} (result : Result T DiskFault) : Type 0 where
+  pub answers : Answers result (λ _. new ≡ ended k old) (new ≡ looked old) (new ≡ old)

@@ -2,6 +2,9 @@ pub mod Answers
 pub mod Bench
 pub mod Fault
 pub mod Passes
+pub mod Phases
 pub mod Reading
 pub mod Store
 pub mod Story
+pub mod Syncs
+pub mod Tickets

@@ -2,7 +2,7 @@
 use Rattle.std.specs.Prelude.{◌≡◌, ◌⊎◌, ◌≤◌, ℕ, List, None, Result, OnOk}
 use Rattle.outside_traits.specs.declared.fault.DiskFault.{DiskFault}
 use Rattle.outside_traits.specs.Store.{Store, ChangesAt}
-use Rattle.outside_traits.specs.Story.{Story, moment, IsImage, IsImageSince}
+use Rattle.outside_traits.specs.Story.{Story, moment, IsImage, IsImageAbove, IsImageSince}
 
 -- nothing changes
 abbrev pub Same : Store → Store → Type 0
@@ -18,6 +18,8 @@ pub record Passes (old new : Story) (R : Store → Store → Type 0) : Type 0 wh
   -- each image since a moment that isn't after the run's beginning
   pub since : (t : ℕ) (image : Store) → t ≤ moment old → IsImageSince new t image
       → IsImageSince old t image ⊎ ((earlier : Store) × IsImage old earlier × R earlier image)
+  -- each image now, where besides a moment that isn't after the run's beginning is durable
+  pub above : (k : ℕ) (image : Store) → k ≤ moment old → IsImageAbove new k image → (earlier : Store) × IsImageAbove old k earlier × R earlier image
 
 -- each image now has the property
 abbrev pub EachNow : Story → (Store → Type 0) → Type 0

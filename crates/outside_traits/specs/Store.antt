@@ -1,5 +1,5 @@
 -- What a device holds, as a function from paths, and how one store differs from another.
-use Rattle.std.specs.Prelude.{◌≡◌, ◌≢◌, ◌⊎◌, ℕ, List, Option, None, IsSome, Contains, if◌then◌else◌}
+use Rattle.std.specs.Prelude.{◌≡◌, ◌≢◌, ◌⊎◌, ℕ, List, Option, Some, None, IsSome, Contains, if◌then◌else◌}
 use Rattle.std.specs.Ordering.{nat_cmp}
 use Rattle.std.specs.List.Sorted.{IsStrictlySortedBy}
 use Rattle.std.specs.Cmp.Lexicographic.{slice_cmp}
@@ -65,6 +65,22 @@ pub record AgreesRound (folder : List ℕ) (held old new : Store) : Type 0 where
   pub apart : (q : List ℕ) → IsApart folder q → new q ≡ old q
   pub around : (q : List ℕ) → IsAround folder q → held q ≡ None → new q ≡ old q
 
+-- What is in the way of a folder goes: the stores agree but on the folder's path and those above it at which this store holds something.
+pub record MakesWay (folder : List ℕ) (held old new : Store) : Type 0 where
+  pub others : (q : List ℕ) → (IsAround folder q → ⊥) → new q ≡ old q
+  pub around : (q : List ℕ) → IsAround folder q → held q ≡ None → new q ≡ old q
+
+-- The entry comes to stand at the path: the stores differ at that path alone, and not there either where this store holds the entry there.
+pub record PutsEntry (path : List ℕ) (entry : Entry) (held old new : Store) : Type 0 where
+  pub others : (q : List ℕ) → q ≢ path → new q ≡ old q
+  pub right : held path ≡ Some entry → new path ≡ old path
+
+-- The folder becomes the tree: the stores agree round the folder, and besides at each path under it at which this store holds what the tree
+-- has there. What is held already isn't written again, and what isn't held isn't removed.
+pub record LaysTree (folder : List ℕ) (tree : List (List ℕ × Entry)) (held old new : Store) : Type 0 where
+  pub round : AgreesRound folder held old new
+  pub right : (path : List ℕ) → held (inside folder path) ≡ entry_at tree path → new (inside folder path) ≡ old (inside folder path)
+
 -- nothing is held at the folder or above it
 pub record IsOpen (folder : List ℕ) (held : Store) : Type 0 where
   pub at : held folder ≡ None
@@ -73,4 +89,12 @@ pub record IsOpen (folder : List ℕ) (held : Store) : Type 0 where
 -- exactly the tree is held under the folder, and nothing at the folder or above it
 pub record HoldsTree (folder : List ℕ) (tree : List (List ℕ × Entry)) (held : Store) : Type 0 where
   pub entries : (path : List ℕ) → held (inside folder path) ≡ entry_at tree path
+  pub outside : IsOpen folder held
+
+-- What is held under the folder is held at paths that the tree has too, and each of these is listed; and nothing is held at the folder or
+-- above it. The list ascends by its bytes.
+pub record IsCleared (folder : List ℕ) (tree : List (List ℕ × Entry)) (listed : List (List ℕ)) (held : Store) : Type 0 where
+  pub ascending : IsStrictlySortedBy (slice_cmp nat_cmp) listed
+  pub within : (path : List ℕ) → IsSome (held (inside folder path)) → IsSome (entry_at tree path)
+  pub are_listed : (path : List ℕ) → IsSome (held (inside folder path)) → Contains listed (inside folder path)
   pub outside : IsOpen folder held

@@ -67,4 +67,11 @@ pub trait Bench {
         ensures told { tells → Takes max (place self.old) (place self.new) result }
         ensures gives { gives self.new ≡ gives self.old }
         ensures cause { Counts (faults self.old) (faults self.new) (bench_failed result) };
+
+    /// Waits until the system has written what was called so far to its disk, and says whether it has. It is no use of the bench,
+    /// and no fault of it where the system hasn't. `Disk::end_sync` is told the answer; no clause speaks of it.
+    fn wait_synced(&mut self) -> bool
+        ensures place { tells → place self.new ≡ place self.old }
+        ensures gives { gives self.new ≡ gives self.old }
+        ensures faults { faults self.new ≡ faults self.old };
 }

@@ -5,11 +5,16 @@ use tree_model::{Entry, Text};
 /// may leave. A call that was refused for want of memory is none of them. (Own rule.)
 #[derive(Debug, Drop)]
 pub enum Call {
-    /// A read or a list, or a sync that failed.
+    /// A read or a list, or a sync or the end of a ticket that failed.
     Looked,
 
     /// A sync that answered Ok.
     Synced,
+
+    /// The end of a ticket that answered Ok: all that was called up to this moment is durable.
+    Ended {
+        moment: u64,
+    },
 
     /// A write or a removal at the path, which answered Ok or failed; `was` is what the path held before.
     Put {

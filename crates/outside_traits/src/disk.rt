@@ -3,7 +3,7 @@ ghost use Rattle.std.specs.Prelude.{◌≡◌, ◌≤◌, ◌^◌, ◌-◌, min,
 ghost use Rattle.tree_model.specs.Path.{IsClean};
 ghost use Rattle.outside_traits.specs.Store.{IsFree};
 ghost use Rattle.outside_traits.specs.Story.{Story, IsSound, moment as moment_of};
-ghost use Rattle.outside_traits.specs.Answers.{Reads, Lists, Writes, Renames, Removes, Syncs, IsSettled};
+ghost use Rattle.outside_traits.specs.Answers.{Reads, Lists, Writes, Renames, Removes, Syncs, Ends, IsSettled};
 ghost use Rattle.outside_traits.specs.Fault.{Counts, disk_failed};
 
 use crate::DiskFault;
@@ -44,8 +44,8 @@ pub trait Disk {
         ensures cause { Counts (faults self.old) (faults self.new) (disk_failed result) };
 
     /// Moves the entry of `from` to `to`, in place of one that is held there. What moves must be on the disk for good:
-    /// held, and unchanged since the last sync that answered Ok. A crash leaves `to` with its whole old or its whole new
-    /// entry. After `Failed` too; and `from` with its entry or nothing.
+    /// held, and as it is held whatever a crash leaves now. A crash leaves `to` with its whole old or its whole new entry.
+    /// After `Failed` too; and `from` with its entry or nothing.
     fn rename(&mut self, from: &str, to: &str) -> Result<(), DiskFault>
         requires settled { tells → IsSettled from.now (story self.old) }
         requires clean { IsClean to.now }
@@ -68,6 +68,14 @@ pub trait Disk {
     /// Makes all that is held durable: after Ok a crash leaves just that.
     fn sync(&mut self) -> Result<(), DiskFault>
         ensures told { tells → Syncs (story self.old) (story self.new) result }
+        ensures cause { Counts (faults self.old) (faults self.new) (disk_failed result) };
+
+    /// Ends a ticket: makes durable all that was called up to a moment that isn't after now. What was called since may be
+    /// durable or not. `done` says that the system has synced what the disk stands on, and began it no sooner than at that
+    /// moment; where it has not, the disk does what `sync` does.
+    fn end_sync(&mut self, moment: u64, done: bool) -> Result<(), DiskFault>
+        requires past { tells → moment ≤ moment_of (story self.old) }
+        ensures told { tells → Ends moment (story self.old) (story self.new) result }
         ensures cause { Counts (faults self.old) (faults self.new) (disk_failed result) };
 
     /// The present moment, how many calls were answered, as far as a `u64` goes. Asking for it is no call. A disk that

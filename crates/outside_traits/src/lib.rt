@@ -9,13 +9,16 @@
 //! call over a disk says by a `Passes` what it did to what is held and to all that a crash may leave, whatever it
 //! answered.
 //!
-//! `put_tree` makes a folder of any disk exactly a tree, and `read_tree` reads one.
+//! `put_tree` makes a folder of any disk exactly a tree, and writes no entry that is held there already; `read_tree` reads
+//! one.
 #![tactic(auto)]
 
 mod bench;
 mod call;
 mod disk;
 mod fault;
+mod filling;
+mod laws;
 mod layers;
 mod reading;
 mod sink;
@@ -25,7 +28,9 @@ pub use bench::{Bench, Taken};
 pub use call::Call;
 pub use disk::Disk;
 pub use fault::{BenchFault, DiskFault, ReadFault, SinkFault};
+pub use filling::put_entry;
+pub use laws::{durable_stays, ends_narrow, phases_lead_on, renames_are_whole, tickets_are_syncs};
 pub use layers::Layers;
 pub use reading::read_tree;
 pub use sink::Sink;
-pub use trees::put_tree;
+pub use trees::{clear_above, put_tree};

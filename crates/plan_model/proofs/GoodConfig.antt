@@ -7,7 +7,7 @@ use Rattle.meta_model.specs.declared.statement.Statement.{Statement}
 use Rattle.meta_model.specs.declared.statement.Statement.TheVariants.{Assign, Flag, Export, Unset, UnsetFlag, Include, Require, Inherit, Function, ExportFunctions, AddTask, DelTask}
 use Rattle.load_model.specs.LoadRefusal.{◌>>=◌, refused_as}
 use Rattle.load_model.specs.Loading.{Sources, Contents, Loaded, sources_of, entries, searched_entries}
-use Rattle.load_model.specs.Layers.{LayerRefusal, no_such_layer, load, no_list, built_in, flat_files, statement_in_layer, contents_in_layer, sources_in_layer, layer_file, layer_at, layers_after, words_of, starting_with, bitbake_conf, Configured, layered, flat, configured, patterns_over, lists_over, with_lists, Config, config}
+use Rattle.load_model.specs.Layers.{LayerRefusal, no_such_layer, load, no_list, built_in, flat_files, statement_in_layer, contents_in_layer, sources_in_layer, layer_named, layer_file, layer_at, layers_after, words_of, starting_with, bitbake_conf, Configured, layered, flat, configured, patterns_over, lists_over, with_lists, Config, config}
 use Rattle.plan_model.specs.Names.{AddsGoodTasks, HaveGoodTasks, AddGoodTasks}
 use Rattle.plan_model.specs.Sound.{ProjectHasGoodNames}
 use Rattle.plan_model.proofs.Planning.{ok_parts, ok_as, same_ok}
@@ -69,15 +69,17 @@ module _ (sources : Sources) (adds : AddGoodTasks sources) where
       let fourth = λ (layers : List (List ℕ)) (last : Loaded). let r : Result Configured LayerRefusal = Ok (record { lines = last.lines; layers = layers }) in r in
       let third = λ (layers : List (List ℕ)) (all : Loaded). bitbake_conf sources true all >>= fourth layers in
       let second = λ (first : Loaded) (layers : List (List ℕ)). layers_after sources layers first >>= third layers in
-      let one = λ (first : Loaded). refused_as no_list (words_of first.lines (codes "BBLAYERS")) >>= second first in
+      let named = λ (first : Loaded) (words : List (List ℕ)). second first (map layer_named words) in
+      let one = λ (first : Loaded). refused_as no_list (words_of first.lines (codes "BBLAYERS")) >>= named first in
       let start = starting_with built_in in
       let first = ok_parts (refused_as load (entries sources Conf (codes "conf/bblayers.conf") start)) one made e in
-      let layers = ok_parts (refused_as no_list (words_of first.0.lines (codes "BBLAYERS"))) (second first.0) made first.2 in
-      let all = ok_parts (layers_after sources layers.0 first.0) (third layers.0) made layers.2 in
-      let last = ok_parts (bitbake_conf sources true all.0) (fourth layers.0) made all.2 in
+      let words = ok_parts (refused_as no_list (words_of first.0.lines (codes "BBLAYERS"))) (named first.0) made first.2 in
+      let layers = map layer_named words.0 in
+      let all = ok_parts (layers_after sources layers first.0) (third layers) made words.2 in
+      let last = ok_parts (bitbake_conf sources true all.0) (fourth layers) made all.2 in
       let a = entries_good sources adds Conf (codes "conf/bblayers.conf") start first.0 (record { each = (tt, (tt, (tt, (tt, tt)))) }) (ok_as load (entries sources Conf (codes "conf/bblayers.conf") start) first.0 first.1) in
-      let b = layers_good layers.0 first.0 all.0 a all.1 in
-      subst (λ (c : Configured). HaveGoodTasks c.lines) (same_ok {E = LayerRefusal} (record { lines = last.0.lines; layers = layers.0 }) made last.2) (conf_good true all.0 last.0 b last.1)
+      let b = layers_good layers first.0 all.0 a all.1 in
+      subst (λ (c : Configured). HaveGoodTasks c.lines) (same_ok {E = LayerRefusal} (record { lines = last.0.lines; layers = layers }) made last.2) (conf_good true all.0 last.0 b last.1)
 
   flat_good : (made : Configured) → flat sources ≡ Ok made → HaveGoodTasks made.lines
   flat_good made e =

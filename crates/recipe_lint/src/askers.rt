@@ -5,7 +5,7 @@ ghost use Rattle.project_reading.specs.Answered.{mode_failed};
 
 use crate::asked::{Ask, asks_of, words_of};
 use crate::files::Files;
-use crate::recipes::read_alone;
+use crate::recipes::read_some;
 use crate::watched::Watched;
 use layer_conf::Config;
 use meta_model::{FactSet, Status};
@@ -77,11 +77,19 @@ fn told<L: Layers>(
     for ask in asks {
         if let Some(recipe) = facts.recipes.as_slice().get(ask.recipe) {
             layers.files.begin(alloc);
-            read_alone(alloc, layers, config, &recipe.file, appends.as_slice())?;
+            let one = or_status(one_text(alloc, &recipe.file))?;
+            read_some(alloc, layers, config, one.as_slice(), appends.as_slice())?;
             let asker = asker_of(alloc, &mut layers.files, facts, ask, recipe.file.as_str());
             or_status(put(&mut made, asker))?;
         }
     }
+    Ok(made)
+}
+
+/// A list of one text.
+fn one_text(alloc: Global, text: &Text) -> Result<Texts, Mem> {
+    let mut made = Texts::new(alloc);
+    made.push(text.copy()?)?;
     Ok(made)
 }
 

@@ -10,7 +10,7 @@ use crate::own::{Own, check_own};
 use crate::watched::Watched;
 use datastore::{DataFault, Datastore};
 use layer_conf::Config;
-use meta_model::{RecipeFacts, Status};
+use meta_model::{RecipeFacts, Status, as_texts};
 use outside_traits::Layers;
 use project_reading::{or_status, read_recipes};
 use recipe_set::{RecipeSet, has_any};
@@ -41,11 +41,11 @@ pub(crate) struct AllRecipes {
     pub(crate) tasks: Names,
 }
 
-/// The appends that belong to a recipe, in their order.
-fn appends_for(alloc: Global, recipe: &str, appends: &[Text]) -> Result<Texts, Mem> {
+/// The appends that belong to one of some recipes, in their order.
+fn appends_for(alloc: Global, recipes: &[Text], appends: &[Text]) -> Result<Texts, Mem> {
     let mut made = Texts::new(alloc);
     for one in appends.chunks(1) {
-        if has_any(recipe, one) {
+        if recipes.iter().any(|recipe| has_any(recipe.as_str(), one)) {
             for append in one {
                 made.push(append.copy()?)?;
             }
@@ -174,8 +174,8 @@ pub(crate) fn read_each<L: Layers>(
     };
     let recipes = std::mem::replace(&mut config.recipes, Texts::new(alloc));
     let appends = std::mem::replace(&mut config.appends, Texts::new(alloc));
-    for recipe in recipes.as_slice() {
-        match read_alone(alloc, layers, config, recipe, appends.as_slice()) {
+    for recipe in recipes.as_slice().chunks(1) {
+        match read_some(alloc, layers, config, recipe, appends.as_slice()) {
             Ok(set) => or_status(take_set(alloc, &mut layers.files, &set, &mut all, notes))?,
             Err(status) => {
                 passed_over(status)?;
@@ -186,25 +186,18 @@ pub(crate) fn read_each<L: Layers>(
     Ok(all)
 }
 
-/// Reads one recipe of a configuration by itself; the configuration's lists are used up.
-pub(crate) fn read_alone<L: Layers>(
+/// Reads some recipes of a configuration by themselves; the configuration's lists are used up.
+pub(crate) fn read_some<L: Layers>(
     alloc: Global,
     layers: &mut L,
     config: &mut Config,
-    recipe: &Text,
+    recipes: &[Text],
     appends: &[Text],
 ) -> Result<RecipeSet, Status>
     ensures same { SameFiles L.files layers.old layers.new }
     ensures cause { Counts (L.faults layers.old) (L.faults layers.new) (mode_failed result) }
 {
-    config.appends = or_status(appends_for(alloc, recipe.as_str(), appends))?;
-    config.recipes = or_status(one_text(alloc, recipe))?;
+    config.appends = or_status(appends_for(alloc, recipes, appends))?;
+    config.recipes = or_status(as_texts(alloc, recipes))?;
     read_recipes(alloc, layers, config)
-}
-
-/// A list of one text.
-fn one_text(alloc: Global, text: &Text) -> Result<Texts, Mem> {
-    let mut made = Texts::new(alloc);
-    made.push(text.copy()?)?;
-    Ok(made)
 }

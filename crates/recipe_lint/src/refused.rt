@@ -1,13 +1,16 @@
 // The recipes that are refused beside the first.
 ghost use Rattle.outside_traits.specs.Store.{SameFiles};
 
-use crate::recipes::read_alone;
+use crate::recipes::read_some;
 use layer_conf::Config;
 use meta_model::Status;
 use outside_traits::Layers;
 use project_reading::{or_status, read_config};
 use std::alloc::Global;
 use tree_model::{Mem, Text, Texts};
+
+/// How many recipes are read at once: each reading costs what the configuration does.
+const AT_ONCE: usize = 32;
 
 /// Whether two texts' lists are the same.
 fn are_same(some: &[Text], others: &[Text]) -> bool {
@@ -67,7 +70,28 @@ fn put(list: &mut Vec<Status>, first: &Status, status: Status) -> Result<(), Mem
     Ok(())
 }
 
-/// The faults of recipes by themselves.
+/// Puts the faults of some recipes by themselves at the end.
+fn put_faults<L: Layers>(
+    list: &mut Vec<Status>,
+    alloc: Global,
+    layers: &mut L,
+    config: &mut Config,
+    first: &Status,
+    recipes: &[Text],
+    appends: &[Text],
+) -> Result<(), Status>
+    ensures same { SameFiles L.files layers.old layers.new }
+{
+    for recipe in recipes.chunks(1) {
+        match read_some(alloc, layers, config, recipe, appends) {
+            Err(status) => or_status(put(list, first, status))?,
+            Ok(_) => {}
+        }
+    }
+    Ok(())
+}
+
+/// The faults of recipes by themselves. Reading some at once shows whether one of them has a fault.
 fn faults_of<L: Layers>(
     alloc: Global,
     layers: &mut L,
@@ -79,10 +103,17 @@ fn faults_of<L: Layers>(
     let recipes = std::mem::replace(&mut config.recipes, Texts::new(alloc));
     let appends = std::mem::replace(&mut config.appends, Texts::new(alloc));
     let mut made = Vec::new(alloc);
-    for recipe in recipes.as_slice() {
-        match read_alone(alloc, layers, config, recipe, appends.as_slice()) {
-            Err(status) => or_status(put(&mut made, first, status))?,
-            Ok(_) => {}
+    for some in recipes.as_slice().chunks(AT_ONCE) {
+        if read_some(alloc, layers, config, some, appends.as_slice()).is_err() {
+            put_faults(
+                &mut made,
+                alloc,
+                layers,
+                config,
+                first,
+                some,
+                appends.as_slice(),
+            )?;
         }
     }
     Ok(made)

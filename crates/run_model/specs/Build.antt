@@ -1,5 +1,5 @@
 -- What a run of a plan leaves.
-use Rattle.std.specs.Prelude.{◌≡◌, ◌≢◌, ◌⊎◌, ◌<◌, ◌≤◌, ◌+◌, ◌-◌, ◌^◌, ℕ, Bool, true, false, List, [], ◌∷◌, ◌++◌, codes, length, take, Contains, Option, None, Some, Ok, Err}
+use Rattle.std.specs.Prelude.{◌≡◌, ◌≢◌, ◌⊎◌, ◌<◌, ◌+◌, ◌-◌, ◌^◌, ℕ, Bool, true, false, List, [], ◌∷◌, ◌++◌, codes, take, Contains, Option, None, Some, Ok, Err}
 use Rattle.std.specs.List.{slice_get, AllByRecursion}
 use Rattle.sha2.specs.Sha256.{sha256}
 use Rattle.tree_model.specs.Path.{IsAtOrBelow}
@@ -35,6 +35,7 @@ use Rattle.run_model.specs.Seats.{own}
 use Rattle.run_model.specs.Seats as worked
 use Rattle.run_model.specs.Benches.{AtSeats, broken_at, started_by}
 use Rattle.run_model.specs.Ends.{is_faultless}
+use Rattle.run_model.specs.InFlight.{IsValidAfter}
 
 -- *Exact outputs*: for each target what a crash now leaves holds in its work folder exactly its clean output.
 abbrev pub HasTargets : Gives → Plan → Store → Type 0
@@ -44,8 +45,8 @@ HasTargets gives plan image = (t : ℕ) (task : PlanTask) (built : Built) → Co
 abbrev pub AllClean : Gives → Plan → Type 0
 AllClean gives plan = (t : ℕ) (built : Built) → slice_get (clean_build gives plan.tasks) t ≡ Some built → (tree : Entries) × (built.outcome ≡ Ok tree)
 
--- *Every crash leaves a valid store*: its book has the lines of the entry's, and behind them others (those that the run recorded: `HasRun`);
--- all of them can be read again.
+-- *Every crash leaves a valid store*: its book has the lines of the entry's, and behind them others (those that the run recorded, and some of
+-- tasks that ran: `HasRun`); all of them can be read again.
 pub record IsCrash (gives : Gives) (reading : Reading) (book : Book) (image : Store) : Type 0 where
   pub again : Book
   pub same : HaveSameLines book again
@@ -59,17 +60,18 @@ pub record IsLeftByOpening (opening : Opening) (held image : Store) : Type 0 whe
   pub valid : IsValid opening.gives opening.reading image opening.book
   pub left : (q : List ℕ) → IsLeft held q → image q ≡ held q
 
--- A crash behind the opening left the store valid with the first of these lines behind the opening's, and no stamp of a task of the plan lies:
--- its stamp and its work folder are as they were opened, or it has no stamp, or what its stamp tells of is there.
-pub record IsLeftByRun (opening : Opening) (plan : Plan) (lines : Book) (image : Store) : Type 0 where
+-- A crash behind the opening left the store valid with the book after some first events of the tale, and with the lines of some tasks that ran
+-- then, one for each worker at most; and no stamp of a task of the plan lies: its stamp and its work folder are as they were opened, or it has
+-- no stamp, or what its stamp tells of is there.
+pub record IsLeftByRun (opening : Opening) (plan : Plan) (tale : List Logged) (image : Store) : Type 0 where
   pub count : ℕ
-  pub valid : IsValid opening.gives opening.reading image (opening.book ++ take count lines)
+  pub after : IsValidAfter opening plan (take count tale) image
   pub honest : (t : ℕ) (task : PlanTask) → slice_get plan.tasks t ≡ Some task → IsHonest opening.story.held image task
 
 -- A tale that is legal over the store as it was opened, with the lines of the entry's book in its own order. Behind these the run recorded
--- the lines of what ended, and where it met a fault one more at most. Each settled task stands to the end, and since the moment of its event.
--- What was found, restored and started was there so, or missing; what ended or broke off was started; and where the run met no fault it leaves
--- no litter.
+-- the lines of what ended; a crash may have left besides lines of tasks that ran, but none at the end where the run met no fault. Each settled
+-- task stands to the end, and since the moment of its event. What was found, restored and started was there so, or missing; what ended or broke
+-- off was started; and where the run met no fault it leaves no litter.
 pub record HasRun (gives : Gives) (reading : Reading) (book : Book) (held : Store) (plan : Plan) (options : Options) (tale : List Logged) (s : Status) (now : Story) : Type 0 where
   pub opening : Opening
   pub same_gives : opening.gives ≡ gives
@@ -79,15 +81,10 @@ pub record HasRun (gives : Gives) (reading : Reading) (book : Book) (held : Stor
   pub legal : IsLegalTale opening plan options tale
   pub there : WereThere opening plan options tale
   pub started : (t : ℕ) → HasFinished tale t ⊎ HasBroken tale t → HasStarted tale t
-  pub lines : Book
-  pub grown : book_after gives plan opening.book tale ≡ opening.book ++ lines
-  pub last : Book
-  pub few_last : length last ≤ 1
-  pub none_last : is_faultless s ≡ true → last ≡ []
-  pub recorded : is_faultless s ≡ true → EachNow now (λ image. IsValid gives reading image (opening.book ++ lines))
+  pub recorded : is_faultless s ≡ true → EachNow now (λ image. IsValid gives reading image (book_after gives plan opening.book tale))
   pub swept : is_faultless s ≡ true → HasNoLitter now.held
   pub early : (image : Store) → IsImageSince opening.story 0 image → IsLeftByOpening opening held image
-  pub images : (image : Store) → IsImageSince now 0 image → IsImageSince opening.story 0 image ⊎ IsLeftByRun opening plan (lines ++ last) image
+  pub images : (image : Store) → IsImageSince now 0 image → IsImageSince opening.story 0 image ⊎ IsLeftByRun opening plan tale image
   pub stands : EachNow now (AllStand opening plan tale)
   pub since : (k : ℕ) (entry : Logged) → slice_get tale k ≡ Some entry → entry.moment < 2 ^ 64 - 1 → (image : Store) → IsImageSince now entry.moment image → AllStand opening plan (take (k + 1) tale) image
 
@@ -126,20 +123,32 @@ pub record IsLeftAlone (book : Book) (held image : Store) (of : PlanTask) : Type
   pub objects : (line : Line) → HasLine book line → line.sig.pn ≡ of.id.pn → line.sig.task ≡ of.id.task → (q : List ℕ) → IsAtOrBelow (object_folder line.unihash) q → image q ≡ held q
   pub stamp : IsLeft held (stamp_path of) → image (stamp_path of) ≡ held (stamp_path of)
 
--- The run was halted while it published or restored the task: it met a fault, so its status isn't one of those that come without; and the tale
--- breaks the task off by that, or the task had an object to be restored from, by its signature over the lines of the book and those that the
--- tale puts behind them: its output wasn't in its work folder, and it had the object, unless something stood at `obj`, which opening takes away.
-pub record WasHalted (gives : Gives) (book : Book) (held : Store) (plan : Plan) (options : Options) (tale : List Logged) (s : Status) (t : ℕ) : Type 0 where
-  pub faulty : is_faultless s ≡ false
-  pub begun : HasBroken tale t ⊎ ((sg : Signed) → slice_get (signatures (rows_of (book_after gives plan book tale)) plan.tasks) t ≡ Some sg → (IsInWork held (rows_of (book_after gives plan book tale)) sg → ⊥) × (held (codes "obj") ≡ None → IsInObject held (rows_of (book_after gives plan book tale)) options.setscene sg))
+-- The tale breaks the task off, by a fault or for want of memory, and that is the last entry of its seat: there is one such task for each worker
+-- at most.
+pub record IsBrokenOff (tale : List Logged) (t : ℕ) : Type 0 where
+  pub broken : HasBroken tale t
+  pub seat : ℕ
+  pub last : broken_at seat tale ≡ Some t
 
--- The run may have touched the task: it ended in the tale, or the tale restores it, or it is the one at which the run was halted.
+-- The task had an object to be restored from, by its signature over the lines of the book and those that the tale puts behind them: its output
+-- wasn't in its work folder, and it had the object, unless something stood at `obj`, which opening takes away.
+abbrev pub HadObject : Gives → Book → Store → Plan → Options → List Logged → ℕ → Type 0
+HadObject gives book held plan options tale t = (sg : Signed) → slice_get (signatures (rows_of (book_after gives plan book tale)) plan.tasks) t ≡ Some sg →
+    (IsInWork held (rows_of (book_after gives plan book tale)) sg → ⊥) × (held (codes "obj") ≡ None → IsInObject held (rows_of (book_after gives plan book tale)) options.setscene sg)
+
+-- The run was halted while it published or restored the task: it met a fault, so its status isn't one of those that come without; and the tale
+-- breaks the task off, or it is the one that was being restored, and had an object.
+pub record WasHalted (gives : Gives) (book : Book) (held : Store) (plan : Plan) (options : Options) (tale : List Logged) (s : Status) (restored t : ℕ) : Type 0 where
+  pub faulty : is_faultless s ≡ false
+  pub begun : IsBrokenOff tale t ⊎ ((t ≡ restored) × HadObject gives book held plan options tale t)
+
+-- The run may have touched the task: it ended in the tale, or the tale restores it, or it is one at which the run was halted.
 abbrev pub MayTouch : Gives → Book → Store → Plan → Options → List Logged → Status → ℕ → ℕ → Type 0
-MayTouch gives book held plan options tale s halted t = IsPlaced tale t ⊎ ((t ≡ halted) × WasHalted gives book held plan options tale s t)
+MayTouch gives book held plan options tale s restored t = IsPlaced tale t ⊎ WasHalted gives book held plan options tale s restored t
 
 -- ... and that by publishing its output, since the tale starts it
 abbrev pub MayPublish : Gives → Book → Store → Plan → Options → List Logged → Status → ℕ → ℕ → Type 0
-MayPublish gives book held plan options tale s halted t = MayTouch gives book held plan options tale s halted t × HasStarted tale t
+MayPublish gives book held plan options tale s restored t = MayTouch gives book held plan options tale s restored t × HasStarted tale t
 
 -- Whatever a crash leaves since the run began, all else is left alone: each task of the plan that the run can't have touched, with the objects
 -- of the book's lines of it; the object of each line of the book, unless a task of the line's PN and name was published with the line's unihash;
@@ -150,10 +159,10 @@ MayPublish gives book held plan options tale s halted t = MayTouch gives book he
 pub record LeavesOthers (gives : Gives) (book : Book) (held : Store) (plan : Plan) (options : Options) (tale : List Logged) (s : Status) (story : Story) : Type 0 where
   pub again : Book
   pub same : HaveSameLines book again
-  pub halted : ℕ
-  pub others : (image : Store) → IsImageSince story 0 image → (t : ℕ) (task : PlanTask) → slice_get plan.tasks t ≡ Some task → (MayTouch gives again held plan options tale s halted t → ⊥) → IsLeftAlone book held image task
-  pub objects : (image : Store) → IsImageSince story 0 image → (line : Line) → HasLine book line → IsObjectOfNone gives plan again tale (MayPublish gives again held plan options tale s halted) line → (q : List ℕ) → IsAtOrBelow (object_folder line.unihash) q → image q ≡ held q
-  pub paths : (image : Store) → IsImageSince story 0 image → (q : List ℕ) → IsLeft held q → IsAside held plan (MayTouch gives again held plan options tale s halted) (MayPublish gives again held plan options tale s halted) q → image q ≡ held q
+  pub restored : ℕ
+  pub others : (image : Store) → IsImageSince story 0 image → (t : ℕ) (task : PlanTask) → slice_get plan.tasks t ≡ Some task → (MayTouch gives again held plan options tale s restored t → ⊥) → IsLeftAlone book held image task
+  pub objects : (image : Store) → IsImageSince story 0 image → (line : Line) → HasLine book line → IsObjectOfNone gives plan again tale (MayPublish gives again held plan options tale s restored) line → (q : List ℕ) → IsAtOrBelow (object_folder line.unihash) q → image q ≡ held q
+  pub paths : (image : Store) → IsImageSince story 0 image → (q : List ℕ) → IsLeft held q → IsAside held plan (MayTouch gives again held plan options tale s restored) (MayPublish gives again held plan options tale s restored) q → image q ≡ held q
 
 -- ---- failed tasks
 

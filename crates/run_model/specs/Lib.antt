@@ -11,6 +11,7 @@ pub mod Books
 pub mod Courses
 pub mod Own
 pub mod Stands
+pub mod InFlight
 pub mod Causes
 pub mod Ends
 pub mod Outcome

@@ -1,7 +1,6 @@
 -- What a store answers now of the tasks of a plan is what was so when the run began.
-use Rattle.std.proofs.Common.{◌≡◌, ◌≢◌, ◌∙◌, sym, ap, subst, refl, ℕ, Bool, List, [], ◌∷◌, ◌++◌, append-nil, get_or, Option, Some, None, slice_get, inl, inr}
+use Rattle.std.proofs.Common.{◌≡◌, ◌≢◌, ◌∙◌, sym, ap, subst, refl, ℕ, Bool, List, [], ◌∷◌, ◌++◌, get_or, Option, Some, None, slice_get, inl, inr}
 use Rattle.std.specs.Prelude.{◌⊎◌, All, IsSome}
-use Rattle.std.specs.List.{AllByRecursion}
 use Rattle.std.proofs.lemmas.Option.{none-some, same_Some, slice_get-get_or, slice_get_within}
 use Rattle.tree_model.specs.declared.hash.Hash.{Hash}
 use Rattle.tree_model.specs.Path.{IsAtOrBelow, IsBelow, inside}
@@ -28,7 +27,6 @@ use Rattle.store_model.proofs.Standing.{row_found, stands_behind}
 use Rattle.store_model.specs.Lines.{HasLine}
 use Rattle.store_opening.specs.Named.{IsName}
 use Rattle.store_opening.specs.Paths.{HasPlace}
-use Rattle.store_model.specs.Readable.{IsReadable}
 use Rattle.sig_gen.specs.Signing.{signature_by}
 use Rattle.setscene_plan.specs.declared.replan.Replan.{Replan}
 use Rattle.setscene_plan.specs.View.{Says, View}
@@ -145,14 +143,14 @@ own_name tasks us task = refl
 -- ---- a run
 
 module _ (o : Opening) (s : Seen) (run : IsRun o s) (sound : IsSound s.story) where
-  held_left : IsLeft o s.plan s.begun s.tale (run.lines ++ run.last) s.story.held
+  held_left : IsLeft o s.plan s.begun s.tale s.story.held
   held_left = left_since o s run s.story.held (now-since s.story (moment o.story) s.story.held run.later (held-image s.story sound))
 
   rows_are : s.rows ≡ rows_of (o.book ++ run.lines)
   rows_are = run.rows ∙ ap rows_of run.grown
 
   -- of a task that wasn't begun what is held now is what was held when the run began, as far as its availability asks
-  pub unbegun : (image : Store) → IsLeft o s.plan s.begun s.tale (run.lines ++ run.last) image → (t : ℕ) (sg : Signed) → s.fault ≡ None → slice_get s.plan.tasks t ≡ Some sg.task → (IsBegun s t → ⊥) → sg.sig.pn ≡ sg.task.id.pn → sg.sig.task ≡ sg.task.id.task → HasOneSignature (o.book ++ run.lines) sg → AgreesOn image o.story.held s.rows sg
+  pub unbegun : (image : Store) → IsLeft o s.plan s.begun s.tale image → (t : ℕ) (sg : Signed) → s.fault ≡ None → slice_get s.plan.tasks t ≡ Some sg.task → (IsBegun s t → ⊥) → sg.sig.pn ≡ sg.task.id.pn → sg.sig.task ≡ sg.task.id.task → HasOneSignature (o.book ++ run.lines) sg → AgreesOn image o.story.held s.rows sg
   unbegun image left t sg none at fresh pn name one = record {
     stamp = kept.stamp;
     work = kept.work;
@@ -194,11 +192,10 @@ module _ (o : Opening) (s : Seen) (run : IsRun o s) (sound : IsSound s.story) wh
   pub no_collision : (names : List Hash) (need : List Bool) (avails : List Avail) → s.fault ≡ None → IsUpToDate s.plan s.rows (record { names = names; need = need; avail = avails }) → HasNoCollision (o.book ++ run.lines) (rows_of (o.book ++ run.lines)) s.plan.tasks
   no_collision names need avails none now =
       let valid : IsValidBook o.gives o.reading (o.book ++ run.lines) = (run.valid none).lines in
-      let readable : AllByRecursion IsReadable (o.book ++ run.lines) = subst (λ (l : Book). AllByRecursion IsReadable (o.book ++ l)) (ap (λ (l : Book). run.lines ++ l) (run.none_last none) ∙ append-nil run.lines) run.readable in
       let hashes = unihashes_are o.gives o.reading (o.book ++ run.lines) valid in
       let fits : (u : ℕ) (x : Signed) → slice_get (signatures (rows_of (o.book ++ run.lines)) s.plan.tasks) u ≡ Some x → SignatureFits x.sig = λ u x is. run.may.spellings (rows_of (o.book ++ run.lines)) hashes u x is in
       let clear = subst (λ (r : List EquivRow). (u : ℕ) (x : Signed) → slice_get (signatures r s.plan.tasks) u ≡ Some x → IsClear r (name_of x.sig) (signature_bytes x.sig)) rows_are now.clear in
-      clear_is_no_collision o.gives o.reading (o.book ++ run.lines) valid readable s.plan.tasks fits clear
+      clear_is_no_collision o.gives o.reading (o.book ++ run.lines) valid run.readable s.plan.tasks fits clear
 
   pub one_signature : (names : List Hash) (need : List Bool) (avails : List Avail) → s.fault ≡ None → IsUpToDate s.plan s.rows (record { names = names; need = need; avail = avails }) → (t : ℕ) (sg : Signed) → slice_get (signatures s.rows s.plan.tasks) t ≡ Some sg → HasOneSignature (o.book ++ run.lines) sg
   one_signature names need avails none now t sg at =
@@ -254,9 +251,6 @@ known_run o s k run there = record {
   grown = run.grown;
   own = run.own;
   readable = run.readable;
-  last = run.last;
-  few_last = run.few_last;
-  none_last = run.none_last;
   valid = run.valid;
   durable = run.durable;
   swept = run.swept;

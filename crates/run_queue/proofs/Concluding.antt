@@ -51,7 +51,7 @@ use Rattle.setscene_plan.specs.Replans.{IsCurrent, avail_in, names_in, need_in, 
 use Rattle.setscene_plan.specs.View.{Says}
 use Rattle.run_model.specs.Opening.{Opening}
 use Rattle.run_queue.specs.Asking.{WasKept, earlier_in, kept_or_meant, meant}
-use Rattle.run_model.specs.Books.{book_after, book_by, rows_after, signed_after}
+use Rattle.run_model.specs.Books.{book_after, rows_after, signed_after}
 use Rattle.run_model.specs.CleanOutputs.{Has}
 use Rattle.run_model.specs.Courses.{IsCourse}
 use Rattle.run_queue.specs.Courses.{IsReal}
@@ -63,10 +63,10 @@ use Rattle.run_queue.specs.Stands.{IsLeft, KeepObjects, StandSince}
 use Rattle.run_queue.proofs.Answered.{means_there, one_signature, own_name, own_pn}
 use Rattle.run_queue.proofs.Known.{own_signature, own_task, sound_ordered, up_to_date}
 use Rattle.run_queue.proofs.Enduring.{differ_at, same_signed, row_on, signed_at, signed_task, standing_grown, keeps_object}
-use Rattle.run_queue.proofs.Growing.{book_grows, ended_grows, legal_grows}
+use Rattle.run_queue.proofs.Growing.{book_grows, legal_grows}
 use Rattle.run_queue.proofs.There.{tells_none, there_grows}
 use Rattle.run_queue.proofs.Notes.{set_other, set_same}
-use Rattle.run_queue.proofs.Putting.{Begins, book_now, durable_after, few_more, left_after, more_begun, own_after, readable_after, stand_now, stand_since}
+use Rattle.run_queue.proofs.Putting.{Begins, book_now, durable_after, left_after, line_put, more_begun, own_after, readable_after, stand_now, stand_since}
 use Rattle.run_queue.proofs.Recorded.{IsPut, which}
 use Rattle.run_queue.proofs.Touched.{broken_on, halted_as, left_behind, left_besides, running_started, told_ended, told_halted}
 use Rattle.run_queue.proofs.Unsettled.{if_some_on}
@@ -81,23 +81,18 @@ HaltsAt o s t = (run : IsRunBut o s (λ u. u ≡ t)) × (run.halted ≡ t)
 pub later_moment : (a b c : ℕ) → a ≤ b → b ≤ c → a ≤ c
 later_moment a b c x y = omega (arith, x, y)
 
--- A fault that is kept as a task is begun leaves what a run keeps, with these lines at the end, where all that a crash left, and what stands, is
--- known.
+-- A fault that is kept as a task is begun leaves what a run keeps, where all that a crash left, and what stands, is known.
 halted_run : (o : Opening) (s : Seen) (run : IsRun o s) (faultless : s.fault ≡ None) (t : ℕ) (begun : List (Option Avail)) → Begins s.begun begun t → (later : Story) (kept : List KeptSig) (f : RunFault) → moment s.story ≤ moment later
-    → (last : Book) → length last ≤ 1 → AllByRecursion IsReadable (o.book ++ (run.lines ++ last))
-    → ((from : ℕ) (image : Store) → from ≤ moment o.story → IsImageSince later from image → IsImageSince o.story from image ⊎ IsLeft o s.plan begun s.tale (run.lines ++ last) image)
+    → ((from : ℕ) (image : Store) → from ≤ moment o.story → IsImageSince later from image → IsImageSince o.story from image ⊎ IsLeft o s.plan begun s.tale image)
     → EachNow later (AllStand o s.plan s.tale) → StandSince o (record s { story = later }) → HaltsAt o (record s { story = later; begun = begun; kept = kept; fault = Some f }) t
-halted_run o s run faultless t begun begins later kept f come last few readable left stands settled = (
+halted_run o s run faultless t begun begins later kept f come left stands settled = (
   record {
     may = run.may;
     rows = run.rows;
     lines = run.lines;
     grown = run.grown;
     own = λ l has u other at pn name. more_begun s begun t begins u (run.own l has u other at pn name);
-    last = last;
-    few_last = few;
-    none_last = λ none. absurd (cc);
-    readable = readable;
+    readable = run.readable;
     valid = λ none. absurd (cc);
     durable = λ none. absurd (cc);
     swept = λ none. absurd (cc);
@@ -126,10 +121,10 @@ halted_run o s run faultless t begun begins later kept f come last few readable 
 -- So does one with which the store wasn't touched.
 pub fault_run : (o : Opening) (s : Seen) (begun : List (Option Avail)) (kept : List KeptSig) (f : RunFault) (t : ℕ) → s.fault ≡ None → Begins s.begun begun t → (run : IsRun o s) → HaltsAt o (record s { begun = begun; kept = kept; fault = Some f }) t
 fault_run o s begun kept f t faultless begins run =
-    halted_run o s run faultless t begun begins s.story kept f (omega arith) run.last run.few_last run.readable
+    halted_run o s run faultless t begun begins s.story kept f (omega arith)
     (λ from image le since. elim (run.images from image le since) [
       | inl before ↦ inl before
-      | inr left ↦ inr (left_besides o s.plan s.begun begun s.tale (run.lines ++ run.last) image (more_begun s begun t begins) left)
+      | inr left ↦ inr (left_besides o s.plan s.begun begun s.tale image (more_begun s begun t begins) left)
     ])
     run.stands run.settled
 
@@ -195,9 +190,8 @@ module _ (o : Opening) (s : Seen) (run : IsRun o s) (faultless : s.fault ≡ Non
   -- A publication in which a fault was met leaves what a run keeps, with that fault.
   pub faulty_run : (kept : List KeptSig) (f : RunFault) → Has o.gives s.plan.tasks t (Ok tree) → AllByRecursion IsReadable put.more → HaltsAt o (record s { story = later; begun = begun; kept = kept; fault = Some f }) t
   faulty_run kept f output readable =
-      halted_run o s run faultless t begun begins later kept f pass.later put.more (few_more o s run faultless orderly may t sg at is_sg tree put rests later sound pass aside)
-      (readable_after o s run faultless orderly may t sg at is_sg tree put rests later sound pass aside readable)
-      (left_after o s run faultless orderly may t sg at is_sg tree put rests later sound pass aside begun begins started output)
+      halted_run o s run faultless t begun begins later kept f pass.later
+      (left_after o s run faultless orderly may t sg at is_sg tree put rests later sound pass aside begun begins seat runs output readable)
       (stand_now o s run faultless orderly may t sg at is_sg tree put rests later sound pass aside)
       (stand_since o s run faultless orderly may t sg at is_sg tree put rests later sound pass aside)
 
@@ -212,18 +206,9 @@ module _ (o : Opening) (s : Seen) (run : IsRun o s) (faultless : s.fault ≡ Non
     longer = s.tale ++ record { event = events.Ended t; seat = seat; moment = min (moment later) (2 ^ 64 - 1) } ∷ []
 
     book_longer : book_after o.gives s.plan o.book (s.tale ++ record { event = events.Ended t; seat = seat; moment = min (moment later) (2 ^ 64 - 1) } ∷ []) ≡ book_now o s ++ put.more
-    book_longer = book_grows o.gives s.plan o.book s.tale entry ∙ by put.stands
-      where
-        grows : (row_at (rows_of (book_now o s)) (name_of sg.sig) ≡ None → book_by o.gives s.plan (book_now o s) (events.Ended t) ≡ book_now o s ++ recorded (rows_of (book_now o s)) sg tree ∷ [])
-            × ((row : EquivRow) → row_at (rows_of (book_now o s)) (name_of sg.sig) ≡ Some row → book_by o.gives s.plan (book_now o s) (events.Ended t) ≡ book_now o s)
-        grows = ended_grows o.gives s.plan (book_now o s) t sg built tree is_sg is_built clean
-
-        by : (HasLine (book_now o s) put.line × (put.more ≡ []) × ((publication (rows_of (book_now o s)) sg tree).is_new ≡ false)) ⊎ (IsValidLine o.gives o.reading (book_now o s) put.line × (put.more ≡ put.line ∷ []) × (row_at (rows_of (book_now o s)) (name_of sg.sig) ≡ None) × (put.line ≡ recorded (rows_of (book_now o s)) sg tree))
-            → book_by o.gives s.plan (book_now o s) (events.Ended t) ≡ book_now o s ++ put.more
-        by (inl known) =
-            let whole : book_now o s ++ put.more ≡ book_now o s = ap (λ (b : Book). book_now o s ++ b) known.1 ∙ append-nil (book_now o s) in
-            grows.1 (row_of put.line) (sym (ap (λ (b : Book). row_at (rows_of b) (name_of sg.sig)) whole) ∙ put.row) ∙ sym whole
-        by (inr new) = grows.0 new.2 ∙ sym (ap (λ (b : Book). book_now o s ++ b) new.1 ∙ ap (λ (l : Line). book_now o s ++ l ∷ []) new.3)
+    book_longer =
+        book_grows o.gives s.plan o.book s.tale entry
+        ∙ ap (λ (b : Book). book_now o s ++ b) (line_put o s run faultless orderly may t sg at is_sg tree put rests later sound pass aside (built, is_built, clean))
 
     -- ---- fates
 
@@ -396,17 +381,13 @@ module _ (o : Opening) (s : Seen) (run : IsRun o s) (faultless : s.fault ≡ Non
     ended_run rows kept known failed fault written rows_are there may_come =
         let also = halted_as o s (ended_as rows kept known failed fault written) (broken_on s.tale entry) (λ u was. was_on o s put.more rows run.rows rows_are may u avail.Object (λ n. let e : avail.Object ≡ avail.Missing = n in cc) was) in
         let durable = durable_after o s run faultless orderly may t sg at is_sg tree put rests later sound pass aside published in
-        let none = append-nil (run.lines ++ put.more) in
         record {
           may = run.may;
           rows = rows_are ∙ sym rows_longer;
           lines = run.lines ++ put.more;
           grown = book_longer ∙ ap (λ (b : Book). b ++ put.more) run.grown ∙ append_assoc o.book run.lines put.more;
           own = λ l has u other at_u pn name. own_after o s run faultless orderly may t sg at is_sg tree put rests later sound pass aside begun begins l has u other at_u pn name;
-          last = [];
-          few_last = omega arith;
-          none_last = λ n. refl;
-          readable = subst (λ (b : Book). AllByRecursion IsReadable (o.book ++ b)) (sym none) (readable_after o s run faultless orderly may t sg at is_sg tree put rests later sound pass aside readable);
+          readable = readable_after o s run faultless orderly may t sg at is_sg tree put rests later sound pass aside readable;
           valid = λ n. durable later.held (held-image later later_sound);
           durable = λ n. durable;
           swept = λ n. swept;
@@ -439,9 +420,9 @@ module _ (o : Opening) (s : Seen) (run : IsRun o s) (faultless : s.fault ≡ Non
               (m.0, was_on o s put.more rows run.rows rows_are may u m.0 m.2 m.1, m.2);
           halted = run.halted;
           told = told_ended s.begun begun t s.tale entry s.fault fault run.halted (MayBeHalted o s) (MayBeHalted o (ended_as rows kept known failed fault written)) begins.others refl (λ e. faultless) also run.told;
-          images = λ from image le since. elim (left_after o s run faultless orderly may t sg at is_sg tree put rests later sound pass aside begun begins started (built, is_built, clean) from image le since) [
+          images = λ from image le since. elim (left_after o s run faultless orderly may t sg at is_sg tree put rests later sound pass aside begun begins seat runs (built, is_built, clean) readable from image le since) [
             | inl before ↦ inl before
-            | inr left ↦ inr (subst (λ (b : Book). IsLeft o s.plan begun longer b image) (sym none) (left_behind o s.plan begun s.tale entry (run.lines ++ put.more) image left))
+            | inr left ↦ inr (left_behind o s.plan begun s.tale entry image left)
           ];
           stands = λ image is. stands_longer image is;
           settled = λ k x here lt image since. settled_longer k x here lt image since;

@@ -51,11 +51,19 @@ line_is : (gives : Gives) (plan : Plan) (book : Book) (t : ℕ) (s : Signed) (bu
 line_is gives plan book t s built signed is_built =
     ap (λ (x : Option Signed). line_found (rows_of book) x (slice_get (clean_build gives plan.tasks) t)) signed ∙ ap (line_found (rows_of book) (Some s)) is_built
 
-pub ended_grows : EndedGrows
-ended_grows gives plan book t s built tree signed is_built clean = (
-  λ none. ap (λ (l : List Line). book ++ l) (line_is gives plan book t s built signed is_built ∙ line_if (rows_of book) s tree None none built clean),
-  λ row some. ap (λ (l : List Line). book ++ l) (line_is gives plan book t s built signed is_built ∙ line_if (rows_of book) s tree (Some row) some built clean) ∙ append-nil book,
+-- the line of a task whose clean output is a tree: what is recorded of it, or none, where its name has a row
+pub ended_line : (gives : Gives) (plan : Plan) (book : Book) (t : ℕ) (s : Signed) (built : Built) (tree : Entries) → slice_get (signatures (rows_of book) plan.tasks) t ≡ Some s → slice_get (clean_build gives plan.tasks) t ≡ Some built → built.outcome ≡ Ok tree
+    → (row_at (rows_of book) (name_of s.sig) ≡ None → line_of_ended gives plan book t ≡ recorded (rows_of book) s tree ∷ [])
+    × ((row : EquivRow) → row_at (rows_of book) (name_of s.sig) ≡ Some row → line_of_ended gives plan book t ≡ [])
+ended_line gives plan book t s built tree signed is_built clean = (
+  λ none. line_is gives plan book t s built signed is_built ∙ line_if (rows_of book) s tree None none built clean,
+  λ row some. line_is gives plan book t s built signed is_built ∙ line_if (rows_of book) s tree (Some row) some built clean,
 )
+
+pub ended_grows : EndedGrows
+ended_grows gives plan book t s built tree signed is_built clean =
+    let line = ended_line gives plan book t s built tree signed is_built clean in
+    (λ none. ap (λ (l : List Line). book ++ l) (line.0 none), λ row some. ap (λ (l : List Line). book ++ l) (line.1 row some) ∙ append-nil book)
 
 pub ended_is_step : EndedIsStep
 ended_is_step gives reading plan start now first book is_grown t s built tree signed is_built clean needs none no_collision =

@@ -37,3 +37,4 @@ pub mod Tried
 pub mod Trying
 pub mod Steady
 pub mod Touched
+pub mod Flying

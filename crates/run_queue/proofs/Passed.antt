@@ -1,5 +1,5 @@
 -- Calls of the store that change nothing leave what a run keeps over its opening.
-use Rattle.std.proofs.Common.{◌≡◌, sym, subst, refl, ℕ, ◌≤◌, ◌++◌, append-nil, arith, List, None, inl, inr}
+use Rattle.std.proofs.Common.{◌≡◌, sym, subst, refl, ℕ, ◌≤◌, ◌++◌, arith, List, [], None, inl, inr}
 use Rattle.std.specs.Prelude.{Option}
 use Rattle.outside_traits.specs.Passes.{Passes, Same}
 use Rattle.outside_traits.specs.Store.{Store}
@@ -13,6 +13,7 @@ use Rattle.run_queue.specs.declared.fault.RunFault.{RunFault}
 use Rattle.build_store.specs.View.{SameBooks, View}
 use Rattle.run_queue.specs.Seen.{RunView, Seen, seen}
 use Rattle.run_queue.specs.Stands.{IsLeft}
+use Rattle.run_queue.proofs.Flying.{ended_alone}
 use Rattle.run_queue.proofs.Touched.{halted_as, told_by}
 
 -- an image of now was one before
@@ -34,9 +35,6 @@ passed_run o s story fault p faultless run = record {
   grown = run.grown;
   own = run.own;
   readable = run.readable;
-  last = run.last;
-  few_last = run.few_last;
-  none_last = λ none. run.none_last (faultless none);
   valid = λ none. subst (λ (h : Store). IsValid o.gives o.reading h (o.book ++ run.lines)) (sym p.held) (run.valid (faultless none));
   durable = λ none image is. run.durable (faultless none) image (same_now s.story story image p is);
   swept = λ none. subst HasNoLitter (sym p.held) (run.swept (faultless none));
@@ -80,18 +78,18 @@ passed_view story written o old store fault books p faultless run =
     } in
     subst (IsRun o) same (passed_run o s (story store.disk) fault p faultless run)
 
--- Whatever a crash left since the run began is valid with a front of the lines, has no stamp that lies, and has the tasks that weren't
--- begun as they were.
-pub left_since : (o : Opening) (s : Seen) (run : IsRun o s) (image : Store) → IsImageSince s.story (moment o.story) image → IsLeft o s.plan s.begun s.tale (run.lines ++ run.last) image
+-- Whatever a crash left since the run began is valid with what had ended and lines of tasks that ran, has no stamp that lies, and has the tasks
+-- that weren't begun as they were.
+pub left_since : (o : Opening) (s : Seen) (run : IsRun o s) (image : Store) → IsImageSince s.story (moment o.story) image → IsLeft o s.plan s.begun s.tale image
 left_since o s run image since = elim (run.images (moment o.story) image (omega arith) since) [
-  | inl before ↦ subst (λ (i : Store). IsLeft o s.plan s.begun s.tale (run.lines ++ run.last) i) (sym (run.may.durable image (since-now o.story image before))) at_opening
+  | inl before ↦ subst (λ (i : Store). IsLeft o s.plan s.begun s.tale i) (sym (run.may.durable image (since-now o.story image before))) at_opening
   | inr left ↦ left
 ]
   where
-    at_opening : IsLeft o s.plan s.begun s.tale (run.lines ++ run.last) o.story.held
+    at_opening : IsLeft o s.plan s.begun s.tale o.story.held
     at_opening = record {
       count = 0;
-      valid = subst (IsValid o.gives o.reading o.story.held) (sym (append-nil o.book)) run.may.valid;
+      after = ended_alone o s.plan [] o.story.held run.may.valid run.may.readable;
       honest = λ t task at. inl (record { stamp = refl; work = λ q below. refl });
       others = λ t task at none. record { stamp = refl; work = λ q below. refl; objects = λ line has pn name q below. refl };
       paths = λ q aside. refl;

@@ -1,5 +1,5 @@
 -- What a run keeps while a task is restored from its object.
-use Rattle.std.proofs.Common.{◌≡◌, ◌∙◌, sym, ap, subst, refl, ℕ, ◌+◌, ◌<◌, ◌≤◌, ◌-◌, ◌^◌, ◌⊎◌, inl, inr, arith, true, false, List, ◌∷◌, ◌++◌, length, take, Some, None, Ok, append_assoc}
+use Rattle.std.proofs.Common.{◌≡◌, ◌∙◌, sym, ap, subst, refl, ℕ, ◌+◌, ◌<◌, ◌≤◌, ◌-◌, ◌^◌, ◌⊎◌, inl, inr, arith, true, false, List, ◌∷◌, length, take, Some, None, Ok, append_assoc}
 use Rattle.std.specs.Prelude.{codes, Contains, IsSome, Option}
 use Rattle.std.specs.List.{slice_get}
 use Rattle.std.proofs.lemmas.Bool.{cases_eq, false≢true}
@@ -68,9 +68,10 @@ use Rattle.run_queue.proofs.FoldersAbove.{above_object, unihash_is_name}
 use Rattle.run_queue.proofs.Found.{entry_held, has_own_name, holds_on, signed_task_at}
 use Rattle.run_queue.proofs.Passed.{left_since}
 use Rattle.run_queue.proofs.Placing.{has_place}
-use Rattle.run_queue.proofs.Putting.{Begins, book_now, durable_now, may_now, more_begun, settled_front}
+use Rattle.run_queue.proofs.Flying.{after_all, ended_alone}
+use Rattle.run_queue.proofs.Putting.{Begins, book_now, durable_now, may_now, more_begun, readable_now, settled_front}
 use Rattle.run_queue.proofs.ReadyJobs.{task_at}
-use Rattle.run_queue.proofs.Recorded.{not_twice, whole_again}
+use Rattle.run_queue.proofs.Recorded.{not_twice}
 use Rattle.run_queue.proofs.Unsettled.{if_some_on}
 
 -- ---- the line of a row, and the trees that have its manifest
@@ -301,17 +302,16 @@ module _ (o : Opening) (s : Seen) (run : IsRun o s) (sound : story_of.IsSound s.
           (λ new_one. absurd (false≢true new_one))
           (λ unihash some. absurd (let n : None ≡ Some unihash = some in cc))
 
-      left_was : (image : Store) → IsLeft o s.plan s.begun s.tale (run.lines ++ run.last) image → IsLeft o s.plan begun s.tale (run.lines ++ run.last) image
-      left_was image = left_besides o s.plan s.begun begun s.tale (run.lines ++ run.last) image (more_begun s begun t begins)
+      left_was : (image : Store) → IsLeft o s.plan s.begun s.tale image → IsLeft o s.plan begun s.tale image
+      left_was image = left_besides o s.plan s.begun begun s.tale image (more_begun s begun t begins)
 
-      left_put : (old new : Store) → IsImage s.story old → KeepsFolders o.story.held new → RestoresObject s.story.held s.rows signed.0 old new → IsLeft o s.plan begun s.tale (run.lines ++ run.last) new
+      left_put : (old new : Store) → IsImage s.story old → KeepsFolders o.story.held new → RestoresObject s.story.held s.rows signed.0 old new → IsLeft o s.plan begun s.tale new
       left_put old new is folders r =
           let past = left_was old (left_since o s run old (now-since s.story (moment o.story) old run.later is)) in
-          let w = whole_again run.lines run.last in
           let v = valid_on o.gives o.reading (book_now o s) signed.0 r.row r.tree (row_of_put old new r) old new (durable_now o s run none old is) r.publishes in
           record {
-            count = w.0;
-            valid = subst (IsValid o.gives o.reading new) (run.grown ∙ ap (λ (b : Book). o.book ++ b) (sym w.1)) v;
+            count = length s.tale;
+            after = after_all o s.plan s.tale new (ended_alone o s.plan s.tale new v (readable_now o s run));
             honest = λ u other at_u. honest_on (restoration signed.0 r.row r.tree) o.story.held old new signed.0.task other (has_place s.plan t signed.0.task run.may.sound at) (has_place s.plan u other run.may.sound at_u) refl (either_or u other at_u) r.publishes (λ new_one. not_new new_one) (past.honest u other at_u);
             others = λ u other at_u not_begun. as_begun old new r u other at_u (was_not u not_begun) (past.others u other at_u not_begun);
             paths = λ q is. paths_put old new q r past.folders folders is ∙ past.paths q is;
@@ -319,7 +319,7 @@ module _ (o : Opening) (s : Seen) (run : IsRun o s) (sound : story_of.IsSound s.
             folders = folders;
           }
 
-      left_after : (from : ℕ) (image : Store) → from ≤ moment o.story → IsImageSince later from image → IsImageSince o.story from image ⊎ IsLeft o s.plan begun s.tale (run.lines ++ run.last) image
+      left_after : (from : ℕ) (image : Store) → from ≤ moment o.story → IsImageSince later from image → IsImageSince o.story from image ⊎ IsLeft o s.plan begun s.tale image
       left_after from image le since = by (pass.since from image come since) (aside.since from image come since)
         where
           come : from ≤ moment s.story
@@ -328,20 +328,20 @@ module _ (o : Opening) (s : Seen) (run : IsRun o s) (sound : story_of.IsSound s.
           folders : (i : Store) → IsImage s.story i → KeepsFolders o.story.held i
           folders i is = (left_since o s run i (now-since s.story (moment o.story) i run.later is)).folders
 
-          old : IsImageSince o.story from image ⊎ IsLeft o s.plan s.begun s.tale (run.lines ++ run.last) image → IsImageSince o.story from image ⊎ IsLeft o s.plan begun s.tale (run.lines ++ run.last) image
+          old : IsImageSince o.story from image ⊎ IsLeft o s.plan s.begun s.tale image → IsImageSince o.story from image ⊎ IsLeft o s.plan begun s.tale image
           old (inl before) = inl before
           old (inr left) = inr (left_was image left)
 
-          same_left : (earlier : Store) → IsImage s.story earlier → image ≡ earlier → IsLeft o s.plan begun s.tale (run.lines ++ run.last) image
-          same_left earlier is same = subst (λ (i : Store). IsLeft o s.plan begun s.tale (run.lines ++ run.last) i) (sym same) (left_was earlier (left_since o s run earlier (now-since s.story (moment o.story) earlier run.later is)))
+          same_left : (earlier : Store) → IsImage s.story earlier → image ≡ earlier → IsLeft o s.plan begun s.tale image
+          same_left earlier is same = subst (λ (i : Store). IsLeft o s.plan begun s.tale i) (sym same) (left_was earlier (left_since o s run earlier (now-since s.story (moment o.story) earlier run.later is)))
 
-          put_or : (earlier : Store) → IsImage s.story earlier → Restores s.story.held s.rows signed.0 earlier image → KeepsFolders o.story.held image → IsLeft o s.plan begun s.tale (run.lines ++ run.last) image
+          put_or : (earlier : Store) → IsImage s.story earlier → Restores s.story.held s.rows signed.0 earlier image → KeepsFolders o.story.held image → IsLeft o s.plan begun s.tale image
           put_or earlier is (inl same) f = same_left earlier is same
           put_or earlier is (inr r) f = left_put earlier image is f r
 
           by : IsImageSince s.story from image ⊎ ((earlier : Store) × IsImage s.story earlier × Restores s.story.held s.rows signed.0 earlier image)
               → IsImageSince s.story from image ⊎ ((earlier : Store) × IsImage s.story earlier × KeepsOthers (task_folder signed.0.task) None s.story.held earlier image)
-              → IsImageSince o.story from image ⊎ IsLeft o s.plan begun s.tale (run.lines ++ run.last) image
+              → IsImageSince o.story from image ⊎ IsLeft o s.plan begun s.tale image
           by (inl past) other = old (run.images from image le past)
           by (inr made) (inl past) = old (run.images from image le past)
           by (inr made) (inr kept) =
@@ -356,9 +356,6 @@ module _ (o : Opening) (s : Seen) (run : IsRun o s) (sound : story_of.IsSound s.
         lines = run.lines;
         grown = run.grown;
         own = λ l has u other at_u pn name. more_begun s begun t begins u (run.own l has u other at_u pn name);
-        last = run.last;
-        few_last = run.few_last;
-        none_last = λ e. run.none_last none;
         readable = run.readable;
         valid = λ e. subst (IsValid o.gives o.reading later.held) run.grown (valid_now later.held (held-image later later_sound));
         durable = λ e image is. subst (IsValid o.gives o.reading image) run.grown (valid_now image is);

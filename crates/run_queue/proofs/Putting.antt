@@ -22,7 +22,7 @@ use Rattle.tale_model.specs.History.{EachAfter}
 use Rattle.run_core.specs.History.{IsOrderly}
 use Rattle.run_core.proofs.Seats.{by_fronts, settled_kept}
 use Rattle.run_core.proofs.Steps.{told_push}
-use Rattle.store_model.specs.Origins.{Book, Line, rows_of}
+use Rattle.store_model.specs.Origins.{Book, Line, row_of, rows_of}
 use Rattle.store_model.specs.Premises.{HasNoCollision}
 use Rattle.store_model.specs.declared.signature.EquivRow.{EquivRow}
 use Rattle.store_model.specs.Available.{object_folder}
@@ -47,21 +47,24 @@ use Rattle.build_store.proofs.Apart.{apart_by_count, apart_under, apart_within}
 use Rattle.store_opening.proofs.Areas.{differ, heads_differ}
 use Rattle.build_store.proofs.Others.{longer_valid, others_untouched, texts_apart}
 use Rattle.run_model.specs.Opening.{Opening}
-use Rattle.run_model.specs.Books.{book_after}
+use Rattle.run_model.specs.Books.{book_after, line_of_ended}
+use Rattle.run_model.specs.InFlight.{RunsAfter}
 use Rattle.run_queue.specs.Keeps.{IsRun}
 use Rattle.run_queue.specs.Seen.{IsBegunIn, Seen}
 use Rattle.run_model.specs.CleanOutputs.{Has}
 use Rattle.run_model.specs.Own.{IsAside, IsObjectOfNone, IsUnihashOver}
 use Rattle.run_model.specs.Stands.{AllStand, HasStarted, IsSettledIn, IsStanding}
-use Rattle.run_queue.specs.Stands.{IsAsBegun, IsLeft, IsPublishing, KeepsFolders}
+use Rattle.run_queue.specs.Stands.{IsAsBegun, IsLeft, IsPublishing, IsReadAfter, KeepsFolders}
 use Rattle.run_queue.proofs.Aside.{aside_stays, folders_on, honest_on, in_objects, not_top, object_stays}
 use Rattle.run_queue.proofs.Clearing.{clear_is_no_collision, unihashes_are}
 use Rattle.run_queue.proofs.Enduring.{differ_at, front_book, keeps_object, standing_on}
+use Rattle.run_queue.proofs.Flying.{after_all, ended_alone, ended_with}
 use Rattle.run_queue.proofs.FoldersAbove.{unihash_is_name}
+use Rattle.run_queue.proofs.Growing.{ended_line}
 use Rattle.run_queue.proofs.Passed.{left_since}
 use Rattle.run_queue.proofs.Placing.{has_place}
-use Rattle.run_queue.proofs.Recorded.{IsPut, either_valid, front_again, published_valid, unknown, which, whole_again}
-use Rattle.run_queue.proofs.Touched.{left_besides}
+use Rattle.run_queue.proofs.Recorded.{IsPut, either_valid, published_valid, unknown, which}
+use Rattle.run_queue.proofs.Touched.{left_besides, running_started}
 
 -- ---- the book of a run in which no fault is kept
 
@@ -74,17 +77,15 @@ durable_now o s run faultless image is = subst (IsValid o.gives o.reading image)
 pub valid_now : (o : Opening) (s : Seen) → IsRun o s → s.fault ≡ None → IsValidBook o.gives o.reading (book_now o s)
 valid_now o s run faultless = subst (IsValidBook o.gives o.reading) (sym run.grown) (run.valid faultless).lines
 
-pub readable_now : (o : Opening) (s : Seen) → IsRun o s → s.fault ≡ None → AllByRecursion IsReadable (book_now o s)
-readable_now o s run faultless =
-    subst (AllByRecursion IsReadable) (sym run.grown)
-    (subst (λ (b : Book). AllByRecursion IsReadable (o.book ++ b)) (ap (λ (b : Book). run.lines ++ b) (run.none_last faultless) ∙ append-nil run.lines) run.readable)
+pub readable_now : (o : Opening) (s : Seen) → IsRun o s → AllByRecursion IsReadable (book_now o s)
+readable_now o s run = subst (AllByRecursion IsReadable) (sym run.grown) run.readable
 
 -- Where no row of a task's name has other bytes, the plan may reuse the book as it is now.
 pub may_now : (o : Opening) (s : Seen) → IsRun o s → s.fault ≡ None → ((t : ℕ) (sg : Signed) → slice_get (signatures s.rows s.plan.tasks) t ≡ Some sg → IsClear s.rows (name_of sg.sig) (signature_bytes sg.sig)) → MayReuse o.gives o.reading o.story.held (book_now o s) s.plan.tasks
 may_now o s run faultless clear =
     let valid = valid_now o s run faultless in
     run.reusable (subst (λ (r : List EquivRow). HasNoCollision (book_now o s) r s.plan.tasks) (sym run.rows)
-    (clear_is_no_collision o.gives o.reading (book_now o s) valid (readable_now o s run faultless) s.plan.tasks
+    (clear_is_no_collision o.gives o.reading (book_now o s) valid (readable_now o s run) s.plan.tasks
     (λ t sg is. run.may.spellings (rows_of (book_now o s)) (unihashes_are o.gives o.reading (book_now o s) valid) t sg is)
     (subst (λ (r : List EquivRow). (t : ℕ) (sg : Signed) → slice_get (signatures r s.plan.tasks) t ≡ Some sg → IsClear r (name_of sg.sig) (signature_bytes sg.sig)) run.rows clear)))
 
@@ -167,18 +168,35 @@ module _ (o : Opening) (s : Seen) (run : IsRun o s) (faultless : s.fault ≡ Non
         | inr like ↦ subst IsName (sym like.name) (name_is_name like.first.sig)
       ]
 
-  -- a publication puts one line behind the book at most
-  pub few_more : length put.more ≤ 1
-  few_more = elim put.stands [
-    | inl known ↦ subst (λ (b : Book). length b ≤ 1) (sym known.1) (omega arith)
-    | inr new ↦ subst (λ (b : Book). length b ≤ 1) (sym new.1) (omega arith)
-  ]
-
   -- over the rows as they are now the output is published with the unihash of its line
   own_unihash : Has o.gives s.plan.tasks t (Ok tree) → (unihash : Hash) → unihash ≡ put.line.unihash → IsUnihashOver o.gives s.plan (rows_of (book_after o.gives s.plan o.book (take (length s.tale) s.tale))) t unihash
   own_unihash output unihash same =
       subst (λ (l : List Logged). IsUnihashOver o.gives s.plan (rows_of (book_after o.gives s.plan o.book l)) t unihash) (sym (take_all (length s.tale) s.tale (omega arith)))
       (record { signed = sg; is_signed = is_sg; tree = tree; clean = output; is = same ∙ put.unihash })
+
+  -- the line that the task puts behind the book
+  pub line_put : Has o.gives s.plan.tasks t (Ok tree) → line_of_ended o.gives s.plan (book_now o s) t ≡ put.more
+  line_put output = by put.stands
+    where
+      lines : (row_at (rows_of (book_now o s)) (name_of sg.sig) ≡ None → line_of_ended o.gives s.plan (book_now o s) t ≡ recorded (rows_of (book_now o s)) sg tree ∷ [])
+          × ((row : EquivRow) → row_at (rows_of (book_now o s)) (name_of sg.sig) ≡ Some row → line_of_ended o.gives s.plan (book_now o s) t ≡ [])
+      lines = ended_line o.gives s.plan (book_now o s) t sg output.0 tree is_sg output.1 output.2
+
+      by : (HasLine (book_now o s) put.line × (put.more ≡ []) × ((publication (rows_of (book_now o s)) sg tree).is_new ≡ false)) ⊎ (IsValidLine o.gives o.reading (book_now o s) put.line × (put.more ≡ put.line ∷ []) × (row_at (rows_of (book_now o s)) (name_of sg.sig) ≡ None) × (put.line ≡ recorded (rows_of (book_now o s)) sg tree))
+          → line_of_ended o.gives s.plan (book_now o s) t ≡ put.more
+      by (inl known) =
+          let whole : book_now o s ++ put.more ≡ book_now o s = ap (λ (b : Book). book_now o s ++ b) known.1 ∙ append-nil (book_now o s) in
+          lines.1 (row_of put.line) (sym (ap (λ (b : Book). row_at (rows_of b) (name_of sg.sig)) whole) ∙ put.row) ∙ sym known.1
+      by (inr new) = lines.0 new.2 ∙ sym (new.1 ∙ ap (λ (l : Line). l ∷ []) new.3)
+
+  -- it is valid behind the book
+  line_alone : AllByRecursion (IsValidLine o.gives o.reading (book_now o s)) put.more
+  line_alone = by put.stands
+    where
+      by : (HasLine (book_now o s) put.line × (put.more ≡ []) × ((publication (rows_of (book_now o s)) sg tree).is_new ≡ false)) ⊎ (IsValidLine o.gives o.reading (book_now o s) put.line × (put.more ≡ put.line ∷ []) × (row_at (rows_of (book_now o s)) (name_of sg.sig) ≡ None) × (put.line ≡ recorded (rows_of (book_now o s)) sg tree))
+          → AllByRecursion (IsValidLine o.gives o.reading (book_now o s)) put.more
+      by (inl known) = subst (AllByRecursion (IsValidLine o.gives o.reading (book_now o s))) (sym known.1) tt
+      by (inr new) = subst (AllByRecursion (IsValidLine o.gives o.reading (book_now o s))) (sym new.1) (new.0, tt)
 
   -- ---- images
 
@@ -200,12 +218,13 @@ module _ (o : Opening) (s : Seen) (run : IsRun o s) (faultless : s.fault ≡ Non
               (has.0, stands_further (book_now o s) o.book run.lines has.0 l run.grown has.1) pn name old new publishes).object q below ∙ was.objects l has pn name q below;
         }
 
-    left_valid : (old new : Store) → IsImage s.story old → Publishes (publication (rows_of (book_now o s)) sg tree) old new → (c : ℕ) × IsValid o.gives o.reading new (o.book ++ take c (run.lines ++ put.more))
-    left_valid old new is publishes = by (either_valid o.gives o.reading (book_now o s) sg tree put old new (durable_now o s run faultless old is) publishes)
+    -- what an image is valid with that the publication made
+    left_valid : (old new : Store) (seat : ℕ) → RunsAfter s.plan s.tale t seat → Has o.gives s.plan.tasks t (Ok tree) → AllByRecursion IsReadable put.more → IsImage s.story old → Publishes (publication (rows_of (book_now o s)) sg tree) old new → IsReadAfter o s.plan s.tale new
+    left_valid old new seat runs output readable is publishes = by (either_valid o.gives o.reading (book_now o s) sg tree put old new (durable_now o s run faultless old is) publishes)
       where
-        by : IsValid o.gives o.reading new (book_now o s) ⊎ IsValid o.gives o.reading new (book_now o s ++ put.more) → (c : ℕ) × IsValid o.gives o.reading new (o.book ++ take c (run.lines ++ put.more))
-        by (inl v) = let w = whole_again run.lines put.more in (w.0, subst (IsValid o.gives o.reading new) (run.grown ∙ ap (λ (b : Book). o.book ++ b) (sym w.1)) v)
-        by (inr v) = let l : List Line = run.lines ++ put.more in (length l, subst (IsValid o.gives o.reading new) (longer ∙ ap (λ (b : Book). o.book ++ b) (sym (take_all (length l) l (omega arith)))) v)
+        by : IsValid o.gives o.reading new (book_now o s) ⊎ IsValid o.gives o.reading new (book_now o s ++ put.more) → IsReadAfter o s.plan s.tale new
+        by (inl v) = ended_alone o s.plan s.tale new v (readable_now o s run)
+        by (inr v) = ended_with o s.plan s.tale new t seat put.more runs (line_put output) v line_alone (each_append IsReadable (book_now o s) put.more (readable_now o s run) readable)
 
     -- what is at a path that is no own one of tasks that are begun
     paths_put : (old new : Store) (q : List ℕ) → HasStarted s.tale t → KeepsFolders o.story.held old → KeepsFolders o.story.held new → Publishes (publication (rows_of (book_now o s)) sg tree) old new → IsAside o.story.held s.plan (IsBegunIn begun) (IsPublishing begun s.tale) q → new q ≡ old q
@@ -266,14 +285,18 @@ module _ (o : Opening) (s : Seen) (run : IsRun o s) (faultless : s.fault ≡ Non
         apart : IsApart (object_folder put.line.unihash) q
         apart = apart_within (object_folder put.line.unihash) (object_folder l.unihash) q (apart_under (codes "obj") (hash_text put.line.unihash) (hash_text l.unihash) texts) below
 
+    -- what was left before
+    left_was : (image : Store) → IsLeft o s.plan s.begun s.tale image → IsLeft o s.plan begun s.tale image
+    left_was image = left_besides o s.plan s.begun begun s.tale image (more_begun s begun t begins)
+
     -- what an image is that the publication made
-    left_put : (old new : Store) → HasStarted s.tale t → Has o.gives s.plan.tasks t (Ok tree) → IsImage s.story old → KeepsFolders o.story.held new → Publishes (publication (rows_of (book_now o s)) sg tree) old new → IsLeft o s.plan begun s.tale (run.lines ++ put.more) new
-    left_put old new started output is folders publishes =
-        let was = left_besides o s.plan s.begun begun s.tale (run.lines ++ run.last) old (more_begun s begun t begins) (left_since o s run old (now-since s.story (moment o.story) old run.later is)) in
-        let v = left_valid old new is publishes in
+    left_put : (old new : Store) (seat : ℕ) → RunsAfter s.plan s.tale t seat → Has o.gives s.plan.tasks t (Ok tree) → AllByRecursion IsReadable put.more → IsImage s.story old → KeepsFolders o.story.held new → Publishes (publication (rows_of (book_now o s)) sg tree) old new → IsLeft o s.plan begun s.tale new
+    left_put old new seat runs output readable is folders publishes =
+        let was = left_was old (left_since o s run old (now-since s.story (moment o.story) old run.later is)) in
+        let started = running_started (length s.plan.tasks) s.tale t seat runs in
         record {
-          count = v.0;
-          valid = v.1;
+          count = length s.tale;
+          after = after_all o s.plan s.tale new (left_valid old new seat runs output readable is publishes);
           honest = λ u other at_u. honest_on p o.story.held old new sg.task other (has_place s.plan t sg.task run.may.sound at) (has_place s.plan u other run.may.sound at_u) refl (either_or u other at_u) publishes (new_name old is) (was.honest u other at_u);
           others = λ u other at_u not_begun. as_begun u other at_u (was_not u not_begun) old new publishes (was.others u other at_u not_begun);
           paths = λ q aside. paths_put old new q started was.folders folders publishes aside ∙ was.paths q aside;
@@ -281,25 +304,9 @@ module _ (o : Opening) (s : Seen) (run : IsRun o s) (faultless : s.fault ≡ Non
           folders = folders;
         }
 
-    -- and one that was there before
-    left_was : (image : Store) → IsLeft o s.plan s.begun s.tale (run.lines ++ run.last) image → IsLeft o s.plan begun s.tale (run.lines ++ put.more) image
-    left_was image before =
-        let was = left_besides o s.plan s.begun begun s.tale (run.lines ++ run.last) image (more_begun s begun t begins) before in
-        let none = ap (λ (b : Book). run.lines ++ b) (run.none_last faultless) ∙ append-nil run.lines in
-        let d = front_again was.count run.lines put.more in
-        record {
-          count = d.0;
-          valid = subst (λ (b : Book). IsValid o.gives o.reading image (o.book ++ b)) (ap (take was.count) none ∙ sym d.1) was.valid;
-          honest = was.honest;
-          others = was.others;
-          paths = was.paths;
-          objects = was.objects;
-          folders = was.folders;
-        }
-
     -- whatever a crash left by now
-    pub left_after : HasStarted s.tale t → Has o.gives s.plan.tasks t (Ok tree) → (from : ℕ) (image : Store) → from ≤ moment o.story → IsImageSince later from image → IsImageSince o.story from image ⊎ IsLeft o s.plan begun s.tale (run.lines ++ put.more) image
-    left_after started output from image le since = by (pass.since from image come since) (aside.since from image come since)
+    pub left_after : (seat : ℕ) → RunsAfter s.plan s.tale t seat → Has o.gives s.plan.tasks t (Ok tree) → AllByRecursion IsReadable put.more → (from : ℕ) (image : Store) → from ≤ moment o.story → IsImageSince later from image → IsImageSince o.story from image ⊎ IsLeft o s.plan begun s.tale image
+    left_after seat runs output readable from image le since = by (pass.since from image come since) (aside.since from image come since)
       where
         come : from ≤ moment s.story
         come = let a = run.later in omega (arith, a, le)
@@ -307,21 +314,21 @@ module _ (o : Opening) (s : Seen) (run : IsRun o s) (faultless : s.fault ≡ Non
         folders : (i : Store) → IsImage s.story i → KeepsFolders o.story.held i
         folders i is = (left_since o s run i (now-since s.story (moment o.story) i run.later is)).folders
 
-        old : IsImageSince o.story from image ⊎ IsLeft o s.plan s.begun s.tale (run.lines ++ run.last) image → IsImageSince o.story from image ⊎ IsLeft o s.plan begun s.tale (run.lines ++ put.more) image
+        old : IsImageSince o.story from image ⊎ IsLeft o s.plan s.begun s.tale image → IsImageSince o.story from image ⊎ IsLeft o s.plan begun s.tale image
         old (inl before) = inl before
         old (inr left) = inr (left_was image left)
 
-        put_or : (made : (earlier : Store) × IsImage s.story earlier × Publishes (publication (rows_of (book_now o s)) sg tree) earlier image) → IsImageSince o.story from image ⊎ IsLeft o s.plan s.begun s.tale (run.lines ++ run.last) image → IsImageSince o.story from image ⊎ IsLeft o s.plan begun s.tale (run.lines ++ put.more) image
+        put_or : (made : (earlier : Store) × IsImage s.story earlier × Publishes (publication (rows_of (book_now o s)) sg tree) earlier image) → IsImageSince o.story from image ⊎ IsLeft o s.plan s.begun s.tale image → IsImageSince o.story from image ⊎ IsLeft o s.plan begun s.tale image
         put_or made (inl before) = inl before
-        put_or made (inr left) = inr (left_put made.0 image started output made.1 left.folders made.2)
+        put_or made (inr left) = inr (left_put made.0 image seat runs output readable made.1 left.folders made.2)
 
         by : IsImageSince s.story from image ⊎ ((earlier : Store) × IsImage s.story earlier × Publishes (publication (rows_of (book_now o s)) sg tree) earlier image)
             → IsImageSince s.story from image ⊎ ((earlier : Store) × IsImage s.story earlier × KeepsOthers (publication (rows_of (book_now o s)) sg tree).folder (publication (rows_of (book_now o s)) sg tree).object s.story.held earlier image)
-            → IsImageSince o.story from image ⊎ IsLeft o s.plan begun s.tale (run.lines ++ put.more) image
+            → IsImageSince o.story from image ⊎ IsLeft o s.plan begun s.tale image
         by (inl was) other = old (run.images from image le was)
         by (inr made) (inl was) = put_or made (run.images from image le was)
         by (inr made) (inr kept) =
-            inr (left_put made.0 image started output made.1
+            inr (left_put made.0 image seat runs output readable made.1
             (folders_on p o.story.held s.story.held kept.0 image sg.task (has_place s.plan t sg.task run.may.sound at) refl kept.2 (folders s.story.held held_now) (folders kept.0 kept.1)) made.2)
 
     -- the lines are of tasks that are begun
@@ -406,7 +413,7 @@ module _ (o : Opening) (s : Seen) (run : IsRun o s) (faultless : s.fault ≡ Non
       by (inr new) = subst (AllByRecursion IsReadable) (sym new.1) (same, tt)
 
   pub readable_after : AllByRecursion IsReadable put.more → AllByRecursion IsReadable (o.book ++ (run.lines ++ put.more))
-  readable_after more = subst (AllByRecursion IsReadable) longer (each_append IsReadable (book_now o s) put.more (readable_now o s run faultless) more)
+  readable_after more = subst (AllByRecursion IsReadable) longer (each_append IsReadable (book_now o s) put.more (readable_now o s run) more)
 
   -- behind it each image is valid with the longer book
   pub durable_after : ((image : Store) → IsImage later image → IsPublished (publication (rows_of (book_now o s)) sg tree) image) → (image : Store) → IsImage later image → IsValid o.gives o.reading image (o.book ++ (run.lines ++ put.more))

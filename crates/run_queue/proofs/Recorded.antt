@@ -194,7 +194,3 @@ pub front_again : {A : Type 0} (c : ℕ) (xs ys : List A) → (d : ℕ) × (take
 front_again zero xs ys = (0, refl)
 front_again (suc c) [] ys = (0, refl)
 front_again (suc c) (x ∷ xs) ys = let r = front_again c xs ys in (suc r.0, ap (λ l. x ∷ l) r.1)
-
-pub whole_again : {A : Type 0} (xs ys : List A) → (d : ℕ) × (take d (xs ++ ys) ≡ xs)
-whole_again [] ys = (0, refl)
-whole_again (x ∷ xs) ys = let r = whole_again xs ys in (suc r.0, ap (λ l. x ∷ l) r.1)

@@ -150,9 +150,6 @@ settled_run o s but seat event failed fault written settles run own faultless ma
       grown = books ∙ run.grown;
       own = run.own;
       readable = run.readable;
-      last = run.last;
-      few_last = run.few_last;
-      none_last = λ none. run.none_last (faultless none);
       valid = λ none. run.valid (faultless none);
       durable = λ none. run.durable (faultless none);
       swept = λ none. run.swept (faultless none);
@@ -185,7 +182,7 @@ settled_run o s but seat event failed fault written settles run own faultless ma
       ];
       halted = run.halted;
       told = told_on s.begun s.tale e s.fault fault run.halted (MayBeHalted o s) (MayBeHalted o later) but faultless (halted_as o s later (broken_on s.tale e) (λ u was x here. was x here)) (λ u b. inl (own u b)) run.told;
-      images = λ t image le since. elim (run.images t image le since) [ inl before ↦ inl before | inr left ↦ inr (left_behind o s.plan s.begun s.tale e (run.lines ++ run.last) image left) ];
+      images = λ t image le since. elim (run.images t image le since) [ inl before ↦ inl before | inr left ↦ inr (left_behind o s.plan s.begun s.tale e image left) ];
       stands = λ image is. stands_on o s e settles image is (run.stands image is);
       settled = λ k x here lt image since. elim (front_at o s e settles k x here) [
         | inl f ↦ subst (λ (l : List Logged). AllStand o s.plan l image) (sym (take_front k s.tale e (slice_get_within s.tale k x f))) (run.settled k x f lt image since)

@@ -22,7 +22,7 @@ use Rattle.run_queue.specs.Keeps.{MayBeHalted, WasThere, nobody}
 use Rattle.run_model.specs.Opening.{Opening}
 use Rattle.run_model.specs.Own.{IsAside, IsObjectOfNone, IsUnihashOver}
 use Rattle.run_queue.specs.Seen.{IsBegunIn, Seen}
-use Rattle.run_queue.specs.Stands.{IsLeft, IsPublishing}
+use Rattle.run_queue.specs.Stands.{IsLeft, IsPublishing, IsReadAfter}
 use Rattle.run_model.specs.Books.{book_after}
 use Rattle.run_model.specs.Stands.{HasBroken, HasFinished, HasStarted, IsPlaced}
 use Rattle.run_queue.proofs.Recorded.{front_again}
@@ -58,7 +58,7 @@ folded_started (x ∷ tale) fates t seat e = elim (folded_started tale (fates_by
   | inr later ↦ inr (record { place = suc later.place; entry = later.entry; is_entry = later.is_entry; seat = later.seat; starts = later.starts })
 ]
 
-none_runs : (count t seat : ℕ) → fate_at (replicate count fate.Waiting) t ≡ fate.Running seat → ⊥
+pub none_runs : (count t seat : ℕ) → fate_at (replicate count fate.Waiting) t ≡ fate.Running seat → ⊥
 none_runs zero t seat e = let n : fate.Waiting ≡ fate.Running seat = e in absurd (cc)
 none_runs (suc count) zero seat e = let n : fate.Waiting ≡ fate.Running seat = e in absurd (cc)
 none_runs (suc count) (suc t) seat e = none_runs count t seat e
@@ -190,11 +190,11 @@ none_less gives plan book tale longer published more line also fronts none t tas
     none t task at (also t was) pn name f.0 (subst (λ (l : List Logged). IsUnihashOver gives plan (rows_of (book_after gives plan book l)) t line.unihash) (sym f.1) over)
 
 -- what a crash left is so by more that is begun, and by a longer tale
-left_more : (o : Opening) (plan : Plan) (begun more : List (Option Avail)) (tale longer : List Logged) (lines : Book) (image : Store) → ((t : ℕ) → IsBegunIn begun t → IsBegunIn more t) → ((t : ℕ) → HasStarted tale t → HasStarted longer t) → ((k : ℕ) → (j : ℕ) × (take j longer ≡ take k tale))
-    → IsLeft o plan begun tale lines image → IsLeft o plan more longer lines image
-left_more o plan begun more tale longer lines image also starts fronts left = record {
-  count = left.count;
-  valid = left.valid;
+left_more : (o : Opening) (plan : Plan) (begun more : List (Option Avail)) (tale longer : List Logged) (image : Store) → ((t : ℕ) → IsBegunIn begun t → IsBegunIn more t) → ((t : ℕ) → HasStarted tale t → HasStarted longer t) → ((k : ℕ) → (j : ℕ) × (take j longer ≡ take k tale))
+    → IsLeft o plan begun tale image → IsLeft o plan more longer image
+left_more o plan begun more tale longer image also starts fronts left = record {
+  count = (fronts left.count).0;
+  after = subst (λ (l : List Logged). IsReadAfter o plan l image) (sym (fronts left.count).1) left.after;
   honest = left.honest;
   others = λ t task at none. left.others t task at (λ b. none (also t b));
   paths = λ q aside. left.paths q (aside_less o.story.held plan (IsBegunIn begun) (IsBegunIn more) (IsPublishing begun tale) (IsPublishing more longer) q also publishes aside);
@@ -206,9 +206,9 @@ left_more o plan begun more tale longer lines image also starts fronts left = re
     publishes t b = (also t b.0, starts t b.1)
 
 -- by more that is begun
-pub left_besides : (o : Opening) (plan : Plan) (begun more : List (Option Avail)) (tale : List Logged) (lines : Book) (image : Store) → ((t : ℕ) → IsBegunIn begun t → IsBegunIn more t) → IsLeft o plan begun tale lines image → IsLeft o plan more tale lines image
-left_besides o plan begun more tale lines image also = left_more o plan begun more tale tale lines image also (λ t starts. starts) (λ k. (k, refl))
+pub left_besides : (o : Opening) (plan : Plan) (begun more : List (Option Avail)) (tale : List Logged) (image : Store) → ((t : ℕ) → IsBegunIn begun t → IsBegunIn more t) → IsLeft o plan begun tale image → IsLeft o plan more tale image
+left_besides o plan begun more tale image also = left_more o plan begun more tale tale image also (λ t starts. starts) (λ k. (k, refl))
 
 -- behind one more entry
-pub left_behind : (o : Opening) (plan : Plan) (begun : List (Option Avail)) (tale : List Logged) (e : Logged) (lines : Book) (image : Store) → IsLeft o plan begun tale lines image → IsLeft o plan begun (tale ++ e ∷ []) lines image
-left_behind o plan begun tale e lines image = left_more o plan begun begun tale (tale ++ e ∷ []) lines image (λ t b. b) (started_on tale e) (λ k. front_again k tale (e ∷ []))
+pub left_behind : (o : Opening) (plan : Plan) (begun : List (Option Avail)) (tale : List Logged) (e : Logged) (image : Store) → IsLeft o plan begun tale image → IsLeft o plan begun (tale ++ e ∷ []) image
+left_behind o plan begun tale e image = left_more o plan begun begun tale (tale ++ e ∷ []) image (λ t b. b) (started_on tale e) (λ k. front_again k tale (e ∷ []))

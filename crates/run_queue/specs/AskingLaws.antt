@@ -41,7 +41,7 @@ kept_or_meant_follows e tells {held} {now} {rows} {others} {setscene} {counts} {
 
 -- a story that went on by nothing
 pub same_story : (s : Story) → Passes s s Same
-same_story s = record { later = le_refl (moment s); held = refl; now = λ image is. (image, is, refl); since = λ t image le is. inl is }
+same_story s = record { later = le_refl (moment s); held = refl; now = λ image is. (image, is, refl); since = λ t image le is. inl is; above = λ k image le is. (image, is, refl) }
 
 some_or : {A : Type 0} (x : Option A) (y : A) → x ≡ None → x ≡ Some y → ⊥
 some_or x y none some = none-some y (sym none ∙ some)

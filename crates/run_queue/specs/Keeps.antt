@@ -137,11 +137,8 @@ pub record IsRunBut (o : Opening) (s : Seen) (but : ℕ → Type 0) : Type 0 whe
   pub grown : book_after o.gives s.plan o.book s.tale ≡ o.book ++ lines
   -- the lines behind the opening's are of tasks that were begun
   pub own : (line : Line) → HasLine lines line → (t : ℕ) (task : PlanTask) → slice_get s.plan.tasks t ≡ Some task → line.sig.pn ≡ task.id.pn → line.sig.task ≡ task.id.task → IsBegun s t
-  -- a crash may have left one line more: that of a publication in which a fault was met; all lines can be read again
-  pub last : Book
-  pub few_last : length last ≤ 1
-  pub none_last : s.fault ≡ None → last ≡ []
-  pub readable : AllByRecursion IsReadable (o.book ++ (lines ++ last))
+  -- and all lines can be read again
+  pub readable : AllByRecursion IsReadable (o.book ++ lines)
   -- while no fault is kept, what is held, and what a crash leaves now, is valid with that book
   pub valid : s.fault ≡ None → IsValid o.gives o.reading s.story.held (o.book ++ lines)
   pub durable : s.fault ≡ None → EachNow s.story (λ image. IsValid o.gives o.reading image (o.book ++ lines))
@@ -169,9 +166,9 @@ pub record IsRunBut (o : Opening) (s : Seen) (but : ℕ → Type 0) : Type 0 whe
   -- each task that was begun ended or was restored in the tale; but for one at most, where a fault is kept: that one's publishing or restoring met it
   pub halted : ℕ
   pub told : (t : ℕ) → IsBegun s t → IsPlaced s.tale t ⊎ ((IsSome s.fault × (t ≡ halted) × MayBeHalted o s t) ⊎ but t)
-  -- whatever a crash left was left before the run began, or it is valid, has no stamp that lies, and has the tasks that weren't begun as
-  -- they were
-  pub images : (t : ℕ) (image : Store) → t ≤ moment o.story → IsImageSince s.story t image → IsImageSince o.story t image ⊎ IsLeft o s.plan s.begun s.tale (lines ++ last) image
+  -- whatever a crash left was left before the run began, or it is valid with what had ended and lines of tasks that ran, has no stamp that lies,
+  -- and has the tasks that weren't begun as they were
+  pub images : (t : ℕ) (image : Store) → t ≤ moment o.story → IsImageSince s.story t image → IsImageSince o.story t image ⊎ IsLeft o s.plan s.begun s.tale image
   -- settled tasks stand, now and since the moment of their events
   pub stands : EachNow s.story (AllStand o s.plan s.tale)
   pub settled : StandSince o s

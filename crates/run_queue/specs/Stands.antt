@@ -1,6 +1,6 @@
 -- What stands of a run, and what a crash leaves of it.
-use Rattle.std.specs.Prelude.{◌≡◌, ◌<◌, ◌-◌, ◌^◌, ◌+◌, ℕ, List, ◌++◌, codes, take, Option, Some, None}
-use Rattle.std.specs.List.{slice_get}
+use Rattle.std.specs.Prelude.{◌≡◌, ◌<◌, ◌-◌, ◌^◌, ◌+◌, ℕ, List, codes, take, Option, Some, None}
+use Rattle.std.specs.List.{AllByRecursion, slice_get}
 use Rattle.tree_model.specs.Path.{IsAtOrBelow, inside}
 use Rattle.outside_traits.specs.Store.{Store}
 use Rattle.outside_traits.specs.Story.{IsImageSince}
@@ -10,11 +10,12 @@ use Rattle.meta_model.specs.declared.plan.Plan.{Plan}
 use Rattle.meta_model.specs.declared.plan.PlanTask.{PlanTask}
 use Rattle.store_model.specs.Available.{object_folder, stamp_path, work_folder}
 use Rattle.store_model.specs.Origins.{Book, Line}
-use Rattle.store_model.specs.Valid.{IsValid}
 use Rattle.store_model.specs.Lines.{HasLine}
+use Rattle.store_model.specs.Readable.{IsReadable}
 use Rattle.store_model.specs.Paths.{slashes}
 use Rattle.run_model.specs.Opening.{Opening}
 use Rattle.run_model.specs.Books.{book_after}
+use Rattle.run_model.specs.InFlight.{IsValidAfter, book_with}
 use Rattle.run_model.specs.Own.{IsAside, IsObjectOfNone}
 use Rattle.run_model.specs.Stands.{IsHonest, HasStarted, HasEnded, AllStand}
 use Rattle.run_queue.specs.Seen.{IsBegunIn, Seen}
@@ -36,12 +37,18 @@ pub record KeepsFolders (held image : Store) : Type 0 where
   pub objects : held (codes "obj") ≡ None → image (codes "obj") ≡ None
   pub parts : (part : List ℕ) → slashes part ≡ 0 → held (inside (codes "work") part) ≡ None → image (inside (codes "work") part) ≡ None
 
--- What holds of each store that a crash left since the run began, by what was begun, and by the tale: it is valid with the book and the first
--- of the lines that were recorded; no stamp of a task of the plan lies; of a task that wasn't begun nothing changed, nor at a path that is no
--- own one of tasks that were begun, nor in the object of a line that none put; and nothing stands in the way of folders where nothing did.
-pub record IsLeft (o : Opening) (plan : Plan) (begun : List (Option Avail)) (tale : List Logged) (lines : Book) (image : Store) : Type 0 where
+-- What is held is valid with the book after these events, and the lines of some tasks that run then; all these lines can be read again.
+pub record IsReadAfter (o : Opening) (plan : Plan) (told : List Logged) (image : Store) : Type 0 where
+  pub after : IsValidAfter o plan told image
+  pub readable : AllByRecursion IsReadable (book_with o plan told after.in_flight)
+
+-- What holds of each store that a crash left since the run began, by what was begun, and by the tale: it is valid with the book after some first
+-- events and the lines of some tasks that ran then, and no stamp of a task of the plan lies; of a task that wasn't begun nothing changed, nor at
+-- a path that is no own one of tasks that were begun, nor in the object of a line that none put; and nothing stands in the way of folders where
+-- nothing did.
+pub record IsLeft (o : Opening) (plan : Plan) (begun : List (Option Avail)) (tale : List Logged) (image : Store) : Type 0 where
   pub count : ℕ
-  pub valid : IsValid o.gives o.reading image (o.book ++ take count lines)
+  pub after : IsReadAfter o plan (take count tale) image
   pub honest : (t : ℕ) (task : PlanTask) → slice_get plan.tasks t ≡ Some task → IsHonest o.story.held image task
   pub others : (t : ℕ) (task : PlanTask) → slice_get plan.tasks t ≡ Some task → (IsBegunIn begun t → ⊥) → IsAsBegun o.book o.story.held image task
   pub paths : (q : List ℕ) → IsAside o.story.held plan (IsBegunIn begun) (IsPublishing begun tale) q → image q ≡ o.story.held q

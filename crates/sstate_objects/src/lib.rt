@@ -16,5 +16,5 @@ mod sizes;
 
 pub use holding::same_entries;
 pub use matching::read_matching;
-pub use objects::{put_object, read_verified};
+pub use objects::{object_folder, put_object, read_verified};
 pub use open::is_held;

@@ -1,7 +1,7 @@
 // Objects.
 ghost use Rattle.std.specs.Prelude.{◌≡◌, ◌≤◌, IfOk, OnOk, All, length};
 ghost use Rattle.tree_model.specs.Path.{IsClean, inside};
-ghost use Rattle.outside_traits.specs.Store.{AgreesApart, AgreesRound, HoldsTree};
+ghost use Rattle.outside_traits.specs.Store.{AgreesApart, AgreesRound, HoldsTree, LaysTree};
 ghost use Rattle.outside_traits.specs.Passes.{Passes, Same};
 ghost use Rattle.outside_traits.specs.Fault.{Counts, disk_failed};
 ghost use Rattle.store_model.specs.Available.{object_folder};
@@ -14,7 +14,7 @@ use std::alloc::Global;
 use tree_model::{Hash, Manifest, Mem, Text, Tree};
 
 /// The folder of an object: `obj/` and its unihash.
-fn object_folder(alloc: Global, name: &Hash) -> Result<Text, Mem>
+pub fn object_folder(alloc: Global, name: &Hash) -> Result<Text, Mem>
     ensures { IfOk result (λ folder. folder ≡ object_folder name.now) }
 {
     let mut folder = Text::from_str(alloc, "obj/")?;
@@ -41,7 +41,7 @@ pub fn read_verified<D: Disk>(
 }
 
 /// Makes the object of a unihash exactly this tree, and nothing else is held at its folder or above it. Where that is so already,
-/// nothing is written.
+/// nothing is written; and no path of it changes at which what the tree has is held.
 pub fn put_object<D: Disk>(
     alloc: Global,
     disk: &mut D,
@@ -58,6 +58,8 @@ pub fn put_object<D: Disk>(
     ensures others { D.tells → Passes (D.story disk.old) (D.story disk.new) (AgreesApart (object_folder name.now)) }
     ensures round { D.tells → Passes (D.story disk.old) (D.story disk.new)
         (AgreesRound (object_folder name.now) (D.story disk.old).held) }
+    ensures lays { D.tells → Passes (D.story disk.old) (D.story disk.new)
+        (LaysTree (object_folder name.now) tree.now (D.story disk.old).held) }
     ensures cause { Counts (D.faults disk.old) (D.faults disk.new) (disk_failed result) }
 {
     let folder = object_folder(alloc, name)?;

@@ -4,7 +4,8 @@
 //!
 //! What the contracts say is proved. The tests show that the calls succeed with ample memory, and what no case shows: the bytes of
 //! records, which files opening takes away, two signatures of one name, and a row that is added again. What runs make of a store, found,
-//! restored, damaged or broken off, is shown by cases. Two definitions are evaluated here on worked rows (`examples`).
+//! restored, damaged or broken off, is shown by cases. How many calls of the disk a publication makes where an earlier output is held is
+//! counted. Two definitions are evaluated here on worked rows (`examples`).
 #![tactic(auto)]
 
 #[cfg(test)]
@@ -12,6 +13,8 @@ mod asked;
 mod examples;
 #[cfg(test)]
 mod odd;
+#[cfg(test)]
+mod rebuilt;
 #[cfg(test)]
 mod records;
 #[cfg(test)]

@@ -16,6 +16,12 @@ use tree_model::{Bytes, Entry, ListOf, Mem, Text, Tree};
 pub const HELLO: &[u8] =
     b"6:bbsig1,5:hello,8:do_build,1;8:do_build,+27:    echo hello > hello.txt\n,0;1;4:func,1:1,0;0;";
 
+/// Another one of that task.
+pub const AGAIN: &[u8] = b"6:bbsig1,5:hello,8:do_build,0;0;0;";
+
+/// And a third one.
+pub const ANEW: &[u8] = b"6:bbsig1,5:hello,8:do_build,1;1:x,-0;0;";
+
 /// That of a task of the same recipe.
 pub const MORE: &[u8] = b"6:bbsig1,5:hello,7:do_more,0;0;0;";
 
@@ -100,6 +106,13 @@ pub fn sample_from(alloc: Global, sig: &[u8], path: &str, text: &[u8]) -> Result
 {
     let mut files = Vec::new(alloc);
     files.push(file(alloc, path, text)?)?;
+    sample_with(alloc, sig, files)
+}
+
+/// A task of this signature, which gave these files.
+pub fn sample_with(alloc: Global, sig: &[u8], files: Vec<(Text, Entry)>) -> Result<Sample, Fail>
+    ensures { IfOk result (λ made. IsSample made.task made.sig made.tree) }
+{
     let tree = Tree::from_entries(files)?;
     match decode(alloc, sig) {
         Ok(sig) => sample_of(alloc, sig, tree),

@@ -32,7 +32,7 @@ returns-in-Ok-begin-clause-leaves g c tells told gives all reading book entry =
     let as_told = as_begun o c.in-Ok-begin.state.plan c.args.plan c.in-Ok-begin.state.options c.args.options c.run_begun.result.tale.items (g.D.Disk.story c.run_begun.result.disk) c.run_begun.result.status begun.plan_is begun.options_are did.0 c.run_begun.ensures.ends in
     let runs : List Runs = map (λ b. (g.B.Bench.place b).runs) c.args.benches.items in
     let now : List Runs = map (λ b. (g.B.Bench.place b).runs) c.run_begun.result.benches.items in
-    built_leaves gives reading book c.args.plan c.args.options before after c.in-Ok.store.rows was entry c.run_begun.result.tale.items c.run_begun.result.status (g.D.Disk.story c.run_begun.result.disk) as_told.0 as_told.1 (c.run_begun.ensures.lawful tells)
+    built_leaves gives reading book c.args.plan c.args.options before after c.in-Ok.store.rows was entry c.run_begun.result.tale.items c.run_begun.result.status (g.D.Disk.story c.run_begun.result.disk) as_told.0 as_told.1 (c.run_begun.ensures.lawful tells) c.run_begun.ensures.seated.left
     (c.run_begun.ensures.steady tells told gives all o refl run) runs now
     (subst (λ (p : Plan). AtSeats (RanStarted gives p c.run_begun.result.tale.items) runs now) begun.plan_is did.1)
 

@@ -4,6 +4,7 @@ use Rattle.build_store.specs.Phases.{Lays}
 use Rattle.build_store.specs.Publication.{SameObjects}
 use Rattle.build_store.proofs.Phasing.{lays_by_object, lays_by_work, lays_joins, objects_by_work, tree_lays, object_lays}
 use Rattle.build_store.proofs.Rounding.{leaves_by_object, leaves_by_work, leaves_then}
+use Rattle.build_store.proofs.Righting.{rights_by_object, rights_by_work, rights_then}
 use Rattle.build_store.proofs.publication.lay.Goals as goal
 
 pub returns-clause-work : goal.returns-clause-work
@@ -28,3 +29,10 @@ returns-in_err-lay_work-clause-round g c told =
 pub returns-clause-round : goal.returns-clause-round
 returns-clause-round g c told =
     leaves_then c.args.folder.now c.args.object.now (leaves_by_work c.args.folder.now c.args.object.now (c.lay_work.ensures.round told)) (leaves_by_object c.args.folder.now c.args.object.now (c.lay_object.ensures.round told))
+
+pub returns-in_err-lay_work-clause-right : goal.returns-in_err-lay_work-clause-right
+returns-in_err-lay_work-clause-right g c told = rights_by_work c.args.folder.now c.args.object.now c.args.tree.now (c.lay_work.ensures.lays told)
+
+pub returns-clause-right : goal.returns-clause-right
+returns-clause-right g c told =
+    rights_then c.args.folder.now c.args.object.now c.args.tree.now (rights_by_work c.args.folder.now c.args.object.now c.args.tree.now (c.lay_work.ensures.lays told)) (rights_by_object c.args.folder.now c.args.object.now c.args.tree.now (c.lay_object.ensures.right told))

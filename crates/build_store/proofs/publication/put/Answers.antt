@@ -14,6 +14,7 @@ use Rattle.build_store.proofs.Phasing.{laid_aside, laid_lays, laid_stamped}
 use Rattle.build_store.proofs.Quieting.{IsReady, Quiets, aside_run, lays_run, stages_run, settles_run, last_run, on_ok_two, published_by, ready_stages, object_stages, object_aside, stored_last, objects_aside, objects_stages, objects_stamped, objects_join, staged_differ}
 use Rattle.build_store.proofs.Rounding.{leaves_by_aside, leaves_by_settles, leaves_by_stages, leaves_by_stamp, leaves_then}
 use Rattle.build_store.proofs.Sweeping.{swept}
+use Rattle.build_store.proofs.Righting.{rights_by_aside, rights_by_settles, rights_by_stages, rights_by_stamp, rights_then}
 use Rattle.build_store.proofs.publication.put.Goals as goal
 
 pub invalidate-requires-clause-free : goal.invalidate-requires-clause-free
@@ -201,3 +202,32 @@ pub returns-clause-swept : goal.returns-clause-swept
 returns-clause-swept g c told =
     on_ok_weaker c.stamp.result (λ gone. swept c.args.folder.now c.args.name.now c.args.object.now c.args.file.now _ (g.D.Disk.story c.args.disk.now).held (g.D.Disk.story c.invalidate.new.disk).held (g.D.Disk.story c.lay.new.disk).held (g.D.Disk.story c.stage_all.new.disk).held (g.D.Disk.story c.settle_record.new.disk).held (g.D.Disk.story c.stamp.new.disk).held
     (c.invalidate.ensures.images told).held (c.in_ok-invalidate.ensures.swept told) (c.lay.ensures.others told).held (c.in_ok-stage_all.ensures.adds told) (c.settle_record.ensures.others told).held (c.in_ok-settle_record.ensures.swept told) (c.stamp.ensures.images told).held gone) (c.stamp.ensures.swept told)
+
+pub returns-in_err-invalidate-clause-right : goal.returns-in_err-invalidate-clause-right
+returns-in_err-invalidate-clause-right g c told = rights_by_aside c.args.folder.now c.args.object.now c.args.tree.now (c.invalidate.ensures.images told)
+
+pub returns-in_err-lay-clause-right : goal.returns-in_err-lay-clause-right
+returns-in_err-lay-clause-right g c told =
+    let one = rights_by_aside c.args.folder.now c.args.object.now c.args.tree.now (c.invalidate.ensures.images told) in
+    rights_then c.args.folder.now c.args.object.now c.args.tree.now one (c.lay.ensures.right told)
+
+pub returns-in_err-stage_all-clause-right : goal.returns-in_err-stage_all-clause-right
+returns-in_err-stage_all-clause-right g c told =
+    let one = rights_by_aside c.args.folder.now c.args.object.now c.args.tree.now (c.invalidate.ensures.images told) in
+    let two = rights_then c.args.folder.now c.args.object.now c.args.tree.now one (c.lay.ensures.right told) in
+    rights_then c.args.folder.now c.args.object.now c.args.tree.now two (rights_by_stages c.args.folder.now c.args.object.now c.args.tree.now (c.stage_all.ensures.others told))
+
+pub returns-in_err-settle_record-clause-right : goal.returns-in_err-settle_record-clause-right
+returns-in_err-settle_record-clause-right g c told =
+    let one = rights_by_aside c.args.folder.now c.args.object.now c.args.tree.now (c.invalidate.ensures.images told) in
+    let two = rights_then c.args.folder.now c.args.object.now c.args.tree.now one (c.lay.ensures.right told) in
+    let three = rights_then c.args.folder.now c.args.object.now c.args.tree.now two (rights_by_stages c.args.folder.now c.args.object.now c.args.tree.now (c.stage_all.ensures.others told)) in
+    rights_then c.args.folder.now c.args.object.now c.args.tree.now three (rights_by_settles c.args.folder.now c.args.object.now c.args.tree.now (c.settle_record.ensures.others told))
+
+pub returns-clause-right : goal.returns-clause-right
+returns-clause-right g c told =
+    let one = rights_by_aside c.args.folder.now c.args.object.now c.args.tree.now (c.invalidate.ensures.images told) in
+    let two = rights_then c.args.folder.now c.args.object.now c.args.tree.now one (c.lay.ensures.right told) in
+    let three = rights_then c.args.folder.now c.args.object.now c.args.tree.now two (rights_by_stages c.args.folder.now c.args.object.now c.args.tree.now (c.stage_all.ensures.others told)) in
+    let four = rights_then c.args.folder.now c.args.object.now c.args.tree.now three (rights_by_settles c.args.folder.now c.args.object.now c.args.tree.now (c.settle_record.ensures.others told)) in
+    rights_then c.args.folder.now c.args.object.now c.args.tree.now four (rights_by_stamp c.args.folder.now c.args.object.now c.args.tree.now (c.stamp.ensures.images told))

@@ -15,7 +15,7 @@ use Rattle.build_store.proofs.Finished.{draft_run, draft_published, keeps_behind
 use Rattle.build_store.proofs.Stays.{kept_after, object_name}
 use Rattle.outside_traits.specs.Passes.{Passes}
 use Rattle.store_model.specs.Available.{task_folder}
-use Rattle.build_store.specs.Publication.{KeepsOthers}
+use Rattle.build_store.specs.Publication.{KeepsOthers, KeepsRight}
 use Rattle.build_store.proofs.publishing.put_draft.Goals as goal
 
 pub put_task-requires-clause-name : goal.put_task-requires-clause-name
@@ -129,3 +129,18 @@ pub returns-clause-round : goal.returns-clause-round
 returns-clause-round g c told =
     let obj : c.object_of-object.result ≡ object_for c.args.index.now (signed_by c.args.task.now c.args.sig.now) c.args.tree.now = c.object_of-object.ensures ∙ ap (λ (u : Hash). if c.args.task.now.sstate then Some u else None) c.requires.draft.unihash in
     subst (λ (o : Option Hash). Passes (g.D.Disk.story c.args.disk.now) (g.D.Disk.story c.put_task.new.disk) (KeepsOthers (task_folder c.args.task.now) o (g.D.Disk.story c.args.disk.now).held)) obj (c.put_task.ensures.round told)
+
+pub returns-in_err-put_task-clause-right : goal.returns-in_err-put_task-clause-right
+returns-in_err-put_task-clause-right g c told =
+    let obj : c.object_of-object.result ≡ object_for c.args.index.now (signed_by c.args.task.now c.args.sig.now) c.args.tree.now = c.object_of-object.ensures ∙ ap (λ (u : Hash). if c.args.task.now.sstate then Some u else None) c.requires.draft.unihash in
+    subst (λ (o : Option Hash). Passes (g.D.Disk.story c.args.disk.now) (g.D.Disk.story c.put_task.new.disk) (KeepsRight (task_folder c.args.task.now) o c.args.tree.now (g.D.Disk.story c.args.disk.now).held)) obj (c.put_task.ensures.right told)
+
+pub returns-in_err-add_row-clause-right : goal.returns-in_err-add_row-clause-right
+returns-in_err-add_row-clause-right g c told =
+    let obj : c.object_of-object.result ≡ object_for c.args.index.now (signed_by c.args.task.now c.args.sig.now) c.args.tree.now = c.object_of-object.ensures ∙ ap (λ (u : Hash). if c.args.task.now.sstate then Some u else None) c.requires.draft.unihash in
+    subst (λ (o : Option Hash). Passes (g.D.Disk.story c.args.disk.now) (g.D.Disk.story c.put_task.new.disk) (KeepsRight (task_folder c.args.task.now) o c.args.tree.now (g.D.Disk.story c.args.disk.now).held)) obj (c.put_task.ensures.right told)
+
+pub returns-clause-right : goal.returns-clause-right
+returns-clause-right g c told =
+    let obj : c.object_of-object.result ≡ object_for c.args.index.now (signed_by c.args.task.now c.args.sig.now) c.args.tree.now = c.object_of-object.ensures ∙ ap (λ (u : Hash). if c.args.task.now.sstate then Some u else None) c.requires.draft.unihash in
+    subst (λ (o : Option Hash). Passes (g.D.Disk.story c.args.disk.now) (g.D.Disk.story c.put_task.new.disk) (KeepsRight (task_folder c.args.task.now) o c.args.tree.now (g.D.Disk.story c.args.disk.now).held)) obj (c.put_task.ensures.right told)

@@ -9,6 +9,10 @@ use Rattle.build_store.specs.View.{signed_by}
 use Rattle.build_store.proofs.Found.{clash_there}
 use Rattle.build_store.proofs.Restored.{restores_run, restored_by, kept_restored}
 use Rattle.build_store.proofs.Rows.{row_has}
+use Rattle.outside_traits.specs.Passes.{Passes}
+use Rattle.store_model.specs.Available.{task_folder}
+use Rattle.store_model.specs.declared.signature.EquivRow.{EquivRow}
+use Rattle.build_store.specs.Publication.{KeepsCopied}
 use Rattle.build_store.proofs.restoring.restore.Goals as goal
 
 pub restore_at-requires-clause-row : goal.restore_at-requires-clause-row
@@ -43,3 +47,10 @@ returns-in-Some-clause-images g c told =
 pub returns-in-Some-clause-keeps : goal.returns-in-Some-clause-keeps
 returns-in-Some-clause-keeps g c told =
     kept_restored c.args.index.now (signed_by c.args.task.now c.args.sig.now) (g.D.Disk.story c.args.disk.now) (g.D.Disk.story c.restore_at.new.disk) (c.requires.keeps told) (returns-in-Some-clause-images g c told) (c.restore_at.ensures.laid_out told)
+
+pub returns-in-Some-clause-right : goal.returns-in-Some-clause-right
+returns-in-Some-clause-right g c told row at =
+    let is : row_at c.args.index.now (name_of c.args.sig.now) ≡ Some c.in-Some.row.now = ap (row_at c.args.index.now) (sym c.in_ok-own.ensures.name) ∙ sym c.in-Some.ensures in
+    let both : Some c.in-Some.row.now ≡ Some row = sym is ∙ at in
+    let same : c.in-Some.row.now ≡ row = cc in
+    subst (λ (r : EquivRow). Passes (g.D.Disk.story c.args.disk.now) (g.D.Disk.story c.restore_at.new.disk) (KeepsCopied (task_folder c.args.task.now) r.unihash (g.D.Disk.story c.args.disk.now).held)) same (c.restore_at.ensures.right told)

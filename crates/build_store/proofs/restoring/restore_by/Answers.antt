@@ -3,6 +3,7 @@ use Rattle.std.proofs.Common.{None, sym, subst}
 use Rattle.store_model.specs.Available.{task_folder}
 use Rattle.store_model.specs.Opened.{HasNoLitter}
 use Rattle.build_store.proofs.Rounding.{leaves_behind, leaves_same}
+use Rattle.build_store.proofs.Righting.{copied_back, copied_same}
 use Rattle.build_store.proofs.restoring.restore_by.Goals as goal
 
 pub put_task-requires-clause-name : goal.put_task-requires-clause-name
@@ -42,3 +43,16 @@ returns-in_ok-put_task-in-Ok-Some-clause-swept g c told none = c.in_ok-put_task-
 
 pub returns-in-Ok-None-clause-swept : goal.returns-in-Ok-None-clause-swept
 returns-in-Ok-None-clause-swept g c told none = subst HasNoLitter (sym (c.object_of.ensures.others told).held) none
+
+pub returns-in_err-put_task-in-Ok-Some-clause-right : goal.returns-in_err-put_task-in-Ok-Some-clause-right
+returns-in_err-put_task-in-Ok-Some-clause-right g c told =
+    let object = object_is c.args.row.now (g.D.Disk.story c.args.disk.now).held c.in-Ok-Some.tree (rw c.in-Ok-Some.field-0-is at (c.in-Ok-Some.ensures.found told)) in
+    copied_back (task_folder c.args.task.now) c.args.row.now.unihash None c.in-Ok-Some.tree object.holds.entries (c.object_of.ensures.others told) (c.put_task.ensures.right told)
+
+pub returns-in_ok-put_task-in-Ok-Some-clause-right : goal.returns-in_ok-put_task-in-Ok-Some-clause-right
+returns-in_ok-put_task-in-Ok-Some-clause-right g c told =
+    let object = object_is c.args.row.now (g.D.Disk.story c.args.disk.now).held c.in-Ok-Some.tree (rw c.in-Ok-Some.field-0-is at (c.in-Ok-Some.ensures.found told)) in
+    copied_back (task_folder c.args.task.now) c.args.row.now.unihash None c.in-Ok-Some.tree object.holds.entries (c.object_of.ensures.others told) (c.put_task.ensures.right told)
+
+pub returns-in-Ok-None-clause-right : goal.returns-in-Ok-None-clause-right
+returns-in-Ok-None-clause-right g c told = copied_same (task_folder c.args.task.now) c.args.row.now.unihash (c.object_of.ensures.others told)

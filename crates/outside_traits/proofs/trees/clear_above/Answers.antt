@@ -1,20 +1,20 @@
-use Rattle.std.proofs.Common.{◌≡◌, ◌∙◌, sym, arith, get_or, take, ap, List, ℕ, ◌-◌}
-use Rattle.outside_traits.proofs.Folders.{stays_none, stays_clears, near_folder}
-use Rattle.outside_traits.proofs.Steps.{clearing_start, clearing_stays, clearing_more, clearing_skips, clearing_end}
+use Rattle.std.proofs.Common.{◌≡◌, ◌∙◌, sym, arith, get_or, take, ap, List, ℕ, ◌-◌, inl, refl}
+use Rattle.outside_traits.proofs.Folders.{ways_none, ways_clears}
+use Rattle.outside_traits.proofs.Steps.{clearing_start, clearing_ways, clearing_more, clearing_skips, clearing_end}
 use Rattle.outside_traits.proofs.trees.clear_above.Goals as goal
 use Rattle.outside_traits.proofs.trees.clear_above.Goals.{then-bytes-i-eq47+in_ok-clear_at-2, else-bytes-i-eq47}
 
-pub returns-in_err-clear_at-clause-round : goal.returns-in_err-clear_at-clause-round
-returns-in_err-clear_at-clause-round g c told = (stays_clears (near_folder c.args.folder.now) (stays_none c.args.folder.now (g.D.Disk.story c.args.disk.now)) (c.clear_at.ensures.clears told))
+pub returns-in_err-clear_at-clause-way : goal.returns-in_err-clear_at-clause-way
+returns-in_err-clear_at-clause-way g c told = ways_clears (inl refl) (ways_none c.args.folder.now (g.D.Disk.story c.args.disk.now)) (c.clear_at.ensures.clears told)
 
 pub loop-i-init : goal.loop-i-init
 loop-i-init g c = record { faults = c.in_ok-clear_at.ensures.cause.stayed; clearing = λ told. clearing_start (c.in_ok-clear_at.ensures.clears told) }
 
-pub returns-in_err-clear_at-2-clause-round : goal.returns-in_err-clear_at-2-clause-round
-returns-in_err-clear_at-2-clause-round g c told =
+pub returns-in_err-clear_at-2-clause-way : goal.returns-in_err-clear_at-2-clause-way
+returns-in_err-clear_at-2-clause-way g c told =
     let at_it : get_or c.args.folder.now c.loop-i.i 0 ≡ 47 = ap (λ (l : List ℕ). get_or l c.loop-i.i 0) (sym c.as_bytes-bytes.ensures.value) ∙ c.if-bytes-i-eq47.true in
     let p_is : c.range.result.now ≡ take c.loop-i.i c.args.folder.now = c.range.ensures.value ∙ ap (λ (m : ℕ). take m c.args.folder.now) (let e : c.loop-i.i - 0 ≡ c.loop-i.i = omega arith in e) in
-    (clearing_stays (omega arith) at_it p_is (c.loop-i.invariant.clearing told) (c.clear_at-then-bytes-i-eq47.ensures.clears told))
+    (clearing_ways (omega arith) at_it p_is (c.loop-i.invariant.clearing told) (c.clear_at-then-bytes-i-eq47.ensures.clears told))
 
 pub loop-i-preserved : goal.loop-i-preserved
 loop-i-preserved g c = elim c.if-bytes-i-eq47.branch [

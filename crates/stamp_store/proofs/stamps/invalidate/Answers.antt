@@ -9,6 +9,10 @@ returns-then-is_none-clause-images g c told =
     let run = then_same (reads_passes (c.read.ensures.told told)) (syncs_passes (g.met.D.Disk.sound c.read.new.self told) (c.sync.ensures.told told)) in
     same_so (TakesAway c.args.folder.now) (takes_nothing c.args.folder.now) run
 
+pub returns-in_err-read-clause-images : goal.returns-in_err-read-clause-images
+returns-in_err-read-clause-images g c told =
+    same_so (TakesAway c.args.folder.now) (takes_nothing c.args.folder.now) (reads_passes (c.read.ensures.told told))
+
 pub returns-in_err-sync-clause-images : goal.returns-in_err-sync-clause-images
 returns-in_err-sync-clause-images g c told =
     let run = then_same (reads_passes (c.read.ensures.told told)) (syncs_passes (g.met.D.Disk.sound c.read.new.self told) (c.sync-2.ensures.told told)) in

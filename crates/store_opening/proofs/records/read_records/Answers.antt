@@ -2,7 +2,7 @@ use Rattle.std.proofs.Common.{◌≡◌, sym, subst, List, ℕ}
 use Rattle.std.specs.Prelude.{Contains, IsSome}
 use Rattle.std.proofs.lemmas.Result.{IfOk-weaker}
 use Rattle.outside_traits.specs.Store.{Store}
-use Rattle.outside_traits.proofs.Calls.{lists_passes}
+use Rattle.outside_traits.proofs.Calls.{lists_passes, then_same}
 use Rattle.store_opening.specs.Survey.{AreRead}
 use Rattle.store_opening.proofs.Surveyed.{listing_read}
 use Rattle.store_opening.proofs.records.read_records.Goals as goal
@@ -20,3 +20,6 @@ returns-clause-read g c told =
     (λ files read. listing_read (g.D.Disk.story c.args.disk.now).held c.in_ok-paths.paths files.items listing
     (subst (λ (h : Store). AreRead h c.in_ok-paths.paths files.items) held (subst (λ (l : List (List ℕ)). AreRead (g.D.Disk.story c.list.new.self).held l files.items) c.as_slice.ensures read)))
     (c.read_all.ensures.read told)
+
+pub returns-clause-others : goal.returns-clause-others
+returns-clause-others g c told = then_same (lists_passes (c.list.ensures.told told)) (c.read_all.ensures.others told)

@@ -8,3 +8,6 @@ returns-clause-unwritten g c told = rw (← c.self.view_is) (c.publish.ensures.u
 
 pub returns-clause-swept : goal.returns-clause-swept
 returns-clause-swept g c told = rw (← c.self.view_is) (c.publish.ensures.swept told)
+
+pub returns-clause-right : goal.returns-clause-right
+returns-clause-right g c told = rw (← c.self.view_is) (c.publish.ensures.right told)

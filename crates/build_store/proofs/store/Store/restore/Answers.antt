@@ -5,3 +5,6 @@ returns-clause-restored g c told = rw (← c.self.view_is) (c.restore.ensures.re
 
 pub returns-clause-swept : goal.returns-clause-swept
 returns-clause-swept g c told = rw (← c.self.view_is) (c.restore.ensures.swept told)
+
+pub returns-clause-right : goal.returns-clause-right
+returns-clause-right g c told = rw (← c.self.view_is) (c.restore.ensures.right told)

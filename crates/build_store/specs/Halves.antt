@@ -1,0 +1,53 @@
+-- Open publications.
+use Rattle.std.specs.Prelude.{◌≡◌, ◌≢◌, List, Some, None}
+use Rattle.std.specs.List.{AllByRecursion}
+use Rattle.tree_model.specs.declared.hash.Hash.{Hash}
+use Rattle.tree_model.specs.Hash.{hash_text}
+use Rattle.outside_traits.specs.Passes.{EachNow}
+use Rattle.outside_traits.specs.Store.{IsApart}
+use Rattle.outside_traits.specs.Story.{Story}
+use Rattle.meta_model.specs.CleanBuild.{Entries}
+use Rattle.store_model.specs.declared.signature.EquivRow.{EquivRow}
+use Rattle.store_model.specs.Available.{object_folder}
+use Rattle.store_model.specs.Signatures.{Signed}
+use Rattle.store_model.specs.Publication.{Publication, stamp_at, work_at}
+use Rattle.build_store.specs.Publication.{publication}
+use Rattle.store_model.specs.Paths.{record_path}
+use Rattle.outside_traits.specs.Phases.{Phase}
+use Rattle.build_store.specs.Ending.{IsAt}
+use Rattle.build_store.specs.Items.{IsItemOf, IsLaidBut, Item, RemovalsFirst}
+
+-- What a store keeps of an open publication: no crash leaves a stamp; each item is right, and removals come first; what is held in the
+-- folders is the tree but for the items' paths.
+pub record IsHalf (p : Publication) (left : List Item) (story : Story) : Type 0 where
+  pub unstamped : EachNow story (λ image. image (stamp_at p.folder) ≡ None)
+  pub items : AllByRecursion (IsItemOf p) left
+  pub order : RemovalsFirst left
+  pub work : IsLaidBut (work_at p.folder) p.tree left story.held
+  pub shared : (unihash : Hash) → p.object ≡ Some unihash → IsLaidBut (object_folder unihash) p.tree left story.held
+
+-- how far an open publication is: items are left, or it is at a phase of its end
+pub data Progress : Type 0 where
+  working : (left : List Item) → Progress
+  ending : (phase : Phase) → Progress
+
+-- an open publication: the task with its signature, what it gave, and how far it is
+pub record Half : Type 0 where
+  pub signed : Signed
+  pub tree : Entries
+  pub progress : Progress
+
+-- what a store keeps of it
+abbrev pub IsOn : Publication → Progress → Story → Type 0
+IsOn p (working left) story = IsHalf p left story
+IsOn p (ending phase) story = IsAt p phase story
+
+-- what it is to put, over these rows
+abbrev pub put_of : List EquivRow → Half → Publication
+put_of rows h = publication rows h.signed h.tree
+
+-- two publications share no folder, no record and no object
+pub record AreApart (p r : Publication) : Type 0 where
+  pub folders : IsApart p.folder r.folder
+  pub names : record_path p.name ≢ record_path r.name
+  pub objects : (one other : Hash) → p.object ≡ Some one → r.object ≡ Some other → IsApart (hash_text one) (hash_text other)
