@@ -61,7 +61,7 @@ _bitbake() {
             _bitbake_tasks_for "$target"
             ;;
         *,-*)
-            found='-c -f -k -n -e -s -p --cmd --force --continue --dry-run --environment --show-versions --parse-only --no-setscene --lint --sample'
+            found='-c -f -k -n -e -s -p -g -h --cmd --force --continue --dry-run --environment --show-versions --parse-only --no-setscene --sample --graphviz --help --version --lint'
             ;;
         *,*:*)
             typed=${word#*:}

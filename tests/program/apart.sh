@@ -52,6 +52,7 @@ done
 # The table of faults is the one in the documents and in the program, and has each kind that a case shows. A case shows each of its
 # sentences, but those of two limits, which are shown above, and that of a plan which isn't sound, which no project brings about.
 holds "the tables of faults and statuses" python3 "$top/tools/fault_tables.py" --check
+holds "what is told of options" python3 "$top/tools/option_tables.py" --check
 holds "the table of what has no effect" python3 "$top/tools/lint_tables.py" --check
 grep -rhoE '^\|fault (3|10) ([^ ]*:[0-9]+: |[^ ]+: )?[A-Z][A-Za-z0-9]*' "$top/crates/cases/data" | sed 's/.* //' | sort -u >"$room/kinds-shown"
 cut -f1 "$top/docs/faults.tsv" | sed 's/, .*//' | sort -u >"$room/kinds-told"

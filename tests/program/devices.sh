@@ -114,5 +114,15 @@ fault 1 failed: hello:do_build"
 says "what is said of it" <<'END'
 bitbake: hello:do_build failed: its layout or its output is too large
 END
+holds "what of it is too large" grep -qx 'bitbake: limit: hello:do_build left 16777217 bytes in big, of at most 16777216 in one file' "$room/said"
 holds "how it is tried by hand" grep -qx 'bitbake: try: cd build/failed/hello/do_build/work && sh ../script' "$room/said"
 holds "what it had" test "$(wc -c <build/failed/hello/do_build/work/big)" -eq 16777217
+recipe hello 'i=0; while [ $i -lt 16385 ]; do : > $i; i=$((i + 1)); done'
+runs "$bitbake" hello
+wants "too many files" 1 "$plan
+failed hello:do_build too large
+fault 1 failed: hello:do_build"
+holds "how many there are" grep -qx 'bitbake: limit: hello:do_build left 16385 files and links, of at most 16384' "$room/said"
+recipe hello 'for f in a b; do dd if=/dev/zero of=$f bs=1048576 count=16; done; printf x > c'
+runs "$bitbake" hello
+holds "how many bytes there are" grep -qx 'bitbake: limit: hello:do_build left 33554433 bytes in 3 files and links, of at most 33554432 in all' "$room/said"

@@ -12,6 +12,8 @@ runs "$prefix/bin/bitbake" hello
 wants "the example by the installed program" 0 "$found_text"
 runs "$prefix/bin/bitbake" 'two words' -x
 wants "faulty words by the installed program" 2 "$usage"
+runs "$prefix/bin/bitbake" --version
+holds "the version of the installed program" grep -qE '^bitbake for shell tasks, commit [^ ,]+, kit [^,]+$' "$room/text"
 if command -v man >/dev/null 2>&1; then
     MANPATH="$prefix/share/man" man -w bitbake >"$room/text" 2>/dev/null
     holds "man finds its page" grep -qxF "$prefix/share/man/man1/bitbake.1" "$room/text"

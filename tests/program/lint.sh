@@ -124,8 +124,8 @@ if [ -c /dev/full ]; then
     holds "no room for the remarks" test $? -eq 7
 fi
 
-# What isn't remarked: names of a shell, what a class gives a function by its name, tasks that are taken away, references, forms of the
-# new spelling, a flag of a function, what another recipe has.
+# What isn't remarked: names of a shell, what a class gives a function by its name, tasks that are taken away, references, what a form of
+# Python asks for, be it set nowhere, the new spelling, a flag of a function, what another recipe has.
 project unremarked
 mkdir -p conf classes
 cat >conf/bitbake.conf <<'END'
@@ -134,6 +134,8 @@ FLAGS:append:arm = " -g"
 FILES:${PN} = "/usr"
 SRC_URI ?= "none"
 MINE = "${SRC_URI}"
+BBMASK = "a b"
+ASKED = "${@bb.utils.filter('BBMASK', 'b c', d)} ${@bb.utils.contains('NOWHERE', 'x', 'yes', 'no', d)}"
 END
 cat >classes/base.bbclass <<'END'
 addtask fetch
@@ -273,5 +275,5 @@ wants "the first of four recipes with a fault" 3 "fault 3 recipes/a.bb:1: BadLin
 tells "the others" <<'END'
 recipes/a.bb:1: the value has no quotes around it
 recipes/b.bb:1: neither the project folder nor BBPATH has a file classes/none.bbclass
-recipes/hello.bb:1: this line, or the body that it opens, is Python or holds ${@..}
+recipes/hello.bb:1: this line, or the body that it opens, is Python, or holds a ${@..} that is neither bb.utils.contains nor bb.utils.filter of literals
 END

@@ -44,6 +44,18 @@ A WELL-KNOWN TEXT!' "$(tasks_of text configure compile install sysroot) $above i
     sed -i 's/HYPHENS=0/HYPHENS=2/' meta-product/recipes-libs/text/text_%.bbappend
     starts "the flag as it was" "$built_distribution" image:do_build
     holds "the rest is restored" grep -qx 'restored image:do_sysroot' "$room/text"
+    printf 'FEATURES = "hyphens network"\n' >>conf/bblayers.conf
+    starts "a feature that nobody asks for" "$built_distribution" ''
+    sed -i '/^FEATURES/s/hyphens //' conf/bblayers.conf
+    starts "a feature that one recipe asks for" '== report ==
+4 words
+A WELL-KNOWN TEXT!' 'text:do_configure image:do_build'
+    holds "it was built with just that before, so it is restored" grep -qx 'restored image:do_sysroot' "$room/text"
+    sed -i '/^FEATURES/s/network/hyphens fast/' conf/bblayers.conf
+    each=$(for recipe in banner image shout text wordcount; do tasks_of "$recipe" configure compile install sysroot; done)
+    starts "a feature that a class asks for" "$built_distribution" "$each image:do_build"
+    sed -i '/^FEATURES/d' conf/bblayers.conf
+    starts "the features as they were" "$built_distribution" image:do_build
     (cd meta-base/recipes-libs/text && tar -xf text-1.0.tar && sed -i 's/toupper/tolower/' text-1.0/text.c && tar -cf text-1.0.tar text-1.0 && rm -r text-1.0) || exit 1
     starts "a source in an archive" '== report ==
 3 words

@@ -4,7 +4,7 @@
 usage='usage: bitbake [-c TASK] [-f] [-k] [-n] [-e] [-s] [-p] [--no-setscene] [--sample N] [TARGET..]'
 project words
 mkdir conf && ln -s /proc/self/mem conf/bitbake.conf
-for words in '' '--' '--nope' '--nope hello' '-x' '-h hello' '--help' '--version' '-n' '-k' '-c build' 'hello -c' '-f hello -f' '--force=yes hello' '--sample' '--sample 0' '--sample 1001' '--sample many'; do
+for words in '' '--' '--nope' '--nope hello' '-x' '-V hello' '-n' '-k' '-c build' 'hello -c' '-f hello -f' '--force=yes hello' '--sample' '--sample 0' '--sample 1001' '--sample many'; do
     # (words are split on purpose)
     runs "$bitbake" $words
     wants "faulty words '$words'" 2 "$usage"
@@ -21,4 +21,46 @@ for words in '-fp' '-k -e hello' '--no-setscene -s'; do
     runs "$bitbake" $words
     wants "a mode beside options of a run: '$words'" 6 "fault 6 read"
 done
+for words in '--help' '-h' 'hello -k --help' '-x -h'; do
+    runs "$bitbake" $words
+    holds "help: '$words'" test "$status" -eq 0 -a "$(head -n 1 "$room/text")" = "$usage"
+    holds "each option in help: '$words'" test "$(grep -c '^ *-' "$room/text")" -eq "$(sed -n '/^.SH OPTIONS/,/^.SH FILES/p' "$top/docs/bitbake.1" | grep -c '^.TP')"
+done
+runs "$bitbake" -- --help
+wants "a target named --help" 6 "fault 6 read"
+runs "$bitbake" --version
+holds "the version names commit and kit" grep -qE '^bitbake for shell tasks, commit [^ ,]+, kit [^,]+$' "$room/text"
+holds "the version alone" test "$status" -eq 0 -a "$(grep -c '' "$room/text")" -eq 1
+runs sh -c '"$1" --help >/dev/full' sh "$bitbake"
+holds "help that can't be written" test "$status" -eq 7
 holds "nothing is built for words" test ! -e build
+
+# The graph, as text and, where it is there, as dot takes it.
+project graph
+recipe b ': > b'
+printf 'DEPENDS = "b"\ndo_fetch() {\n    :\n}\ndo_build() {\n    :\n}\naddtask fetch\naddtask build after do_fetch\ndo_build[depends] = "b:do_build"\n' >recipes/a.bb
+for words in '-g a' '--graphviz a:build' '-c build a -g'; do
+    runs "$bitbake" $words
+    wants "the graph: '$words'" 0 'digraph bitbake {
+"a:do_fetch"
+"b:do_build"
+"a:do_build"
+"a:do_build" -> "a:do_fetch"
+"a:do_build" -> "b:do_build"
+}'
+done
+if command -v dot >/dev/null 2>&1; then
+    holds "dot takes the graph" dot -Tsvg -o "$room/graph.svg" "$room/text"
+else
+    echo "skipped the picture of a graph: there is no dot"
+fi
+for words in '-g' '-g -n a' '-g -k a' '-g -f a' '-g --no-setscene a' '-g --nope a'; do
+    runs "$bitbake" $words
+    wants "faulty words '$words'" 2 "$usage"
+done
+runs "$bitbake" -g nosuch
+wants "the graph of what isn't there" 3 "fault 3 NothingProvides nosuch"
+holds "who isn't there is told" grep -q 'nosuch' "$room/said"
+runs sh -c '"$1" -g a >/dev/full' sh "$bitbake"
+holds "a graph that can't be written" test "$status" -eq 7
+holds "nothing is built for a graph" test ! -e build

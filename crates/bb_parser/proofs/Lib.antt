@@ -1,8 +1,8 @@
+pub mod Python
 pub mod Tests
 pub mod Fronts
 pub mod NameSearch
 pub mod Bounds
-pub mod Splits
 pub mod WordFacts
 pub mod Cuts
 pub mod QuoteFacts

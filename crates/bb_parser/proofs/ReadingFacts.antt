@@ -12,7 +12,6 @@ use Rattle.bb_lexer.specs.declared.LexKind.{LexKind}
 use Rattle.bb_lexer.specs.declared.LexKind.TheVariants.{NotUtf8, DanglingJoin, CommentInJoin, Memory}
 use Rattle.bb_lexer.specs.declared.LexFault.{LexFault}
 use Rattle.bb_lexer.specs.Faults.{IsFaultOf as IsLexFaultOf}
-use Rattle.bb_parser.specs.declared.fault.ParseKind.TheVariants as parsed
 use Rattle.bb_parser.specs.declared.fault.ParseFault.{ParseFault}
 use Rattle.bb_parser.specs.Faults.{IsFaultOf}
 use Rattle.bb_parser.specs.Reading.{kind_of_lines, is_body}

@@ -27,8 +27,8 @@ times_of q text = count_by (λ c. c == q) text
 abbrev pub is_free_name : List ℕ → Bool
 is_free_name name = is_name name && not (is_reserved name)
 
--- A text that can be quoted: it is one line without `${@`, and one of the two kinds of quote doesn't stand in it exactly
--- once.
+-- A text that can be quoted: it is one line, holds no `${@` that begins no form, and one of the two kinds of quote doesn't
+-- stand in it exactly once.
 abbrev pub is_quotable : List ℕ → Bool
 is_quotable text = is_one_line text && not (holds_python text) && not (times_of double_quote text == 1 && times_of single_quote text == 1)
 
@@ -41,8 +41,8 @@ begins_unblank (c ∷ cs) = not (is_blank c)
 abbrev pub line_of_text : List ℕ → List ℕ → List ℕ
 line_of_text word text = word ++ space ∷ text
 
--- A text that can stand behind a word: it is one line without `${@`, begins with a character that is no blank, and the
--- line of the word and the text is no assignment and opens no body.
+-- A text that can stand behind a word: it is one line, holds no `${@` that begins no form, begins with a character that is no
+-- blank, and the line of the word and the text is no assignment and opens no body.
 abbrev pub can_follow : List ℕ → List ℕ → Bool
 can_follow word text = begins_unblank text && is_one_line text && not (holds_python text)
     && not (is_some (assignment false (line_of_text word text))) && not (opens_body (line_of_text word text))
@@ -64,7 +64,7 @@ ends_line (c ∷ cs) = if is_empty cs then c == newline else ends_line cs
 abbrev pub are_whole_lines : List ℕ → Bool
 are_whole_lines body = ends_line body && list_all is_body_line (pieces body)
 
--- The text of a body: whole lines, without `${@`.
+-- The text of a body: whole lines that hold no `${@` which begins no form.
 abbrev pub is_body_text : List ℕ → Bool
 is_body_text body = are_whole_lines body && not (holds_python body)
 

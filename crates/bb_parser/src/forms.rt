@@ -6,11 +6,11 @@ ghost use Rattle.bb_parser.specs.Forms.{GivesFit, fit_of_found, name_and_flag};
 
 use crate::names::{is_a_flag, is_a_name, name_end};
 use crate::quotes::operator_and_text;
-use crate::scan::{has_nothing, split_at};
+use crate::scan::has_nothing;
 use crate::tasks::{added_tasks, deleted_tasks};
 use crate::word_list::behind;
 use bb_lexer::{before_opening, opens};
-use meta_model::{Statement, skipped, unblanked, words};
+use meta_model::{Statement, skipped, split_at, unblanked, words};
 use std::alloc::Global;
 use tree_model::{Mem, Text, Texts};
 

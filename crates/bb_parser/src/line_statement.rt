@@ -8,12 +8,12 @@ ghost use Rattle.bb_parser.specs.LineFaults.{text_fault, place_fault};
 use crate::fault::ParseKind;
 use crate::forms::{LineFit, first_fit};
 use crate::names::{has_keyword, is_set_by_program};
-use crate::scan::holds_python_reference;
+use crate::scan::holds_python;
 use crate::word_list::{begins_fakeroot, begins_python};
 use meta_model::{Kind, Op, Statement};
 use std::alloc::Global;
 
-/// Whether a text of the statement that is Python's business holds `${@`.
+/// Whether a text of the statement holds a `${@` that begins no form.
 fn has_python_text(statement: &Statement) -> bool
     ensures { result ≡ statement_holds_python statement.now }
 {
@@ -23,16 +23,16 @@ fn has_python_text(statement: &Statement) -> bool
             name: _,
             op: _,
             text,
-        } => holds_python_reference(text.as_str().as_bytes()),
+        } => holds_python(text.as_str()),
         Statement::Flag {
             name: _,
             flag: _,
             op: _,
             text,
-        } => holds_python_reference(text.as_str().as_bytes()),
-        Statement::Include { path } => holds_python_reference(path.as_str().as_bytes()),
-        Statement::Require { path } => holds_python_reference(path.as_str().as_bytes()),
-        Statement::Inherit { names } => holds_python_reference(names.as_str().as_bytes()),
+        } => holds_python(text.as_str()),
+        Statement::Include { path } => holds_python(path.as_str()),
+        Statement::Require { path } => holds_python(path.as_str()),
+        Statement::Inherit { names } => holds_python(names.as_str()),
         _ => false,
     }
 }
@@ -41,7 +41,7 @@ fn has_python_text(statement: &Statement) -> bool
 fn is_python_line(text: &str, body: &str, fit: &Option<LineFit>) -> bool
     ensures { result ≡ is_python text.now body.now (option_map fit_of_found fit.now) }
 {
-    if begins_python(text.as_bytes()) || holds_python_reference(body.as_bytes()) {
+    if begins_python(text.as_bytes()) || holds_python(body) {
         return true;
     }
     match fit {

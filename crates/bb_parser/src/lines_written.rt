@@ -129,7 +129,7 @@ fn written_assignment(
     ensures err { Refuses result (is_free_name name.now && is_quotable text.now && not
         (is_weak op && is_late name.now)) }
 {
-    if !can_be_assigned(name.as_bytes(), op, text.as_bytes()) {
+    if !can_be_assigned(name.as_bytes(), op, text) {
         return Err(PrintFault::NoText);
     }
     ended(assignment_line(alloc, export, name, op, text)?)
@@ -158,7 +158,7 @@ fn written_flag(
         (whole_line (flag_text name.now flag.now op text.now)) }
     ensures err { Refuses result (is_free_name name.now && is_flag flag.now && is_quotable text.now) }
 {
-    if !can_assign_flag(name.as_bytes(), flag.as_bytes(), text.as_bytes()) {
+    if !can_assign_flag(name.as_bytes(), flag.as_bytes(), text) {
         return Err(PrintFault::NoText);
     }
     ended(flag_line(alloc, name, flag, op, text)?)
@@ -221,7 +221,7 @@ fn written_text(alloc: Global, word: &str, text: &str) -> Result<Text, PrintFaul
     ensures err { Refuses result (can_follow word.now text.now) }
 {
     let line = written_behind(alloc, word, text)?;
-    if !can_stand_behind(word, text.as_bytes(), line.as_str()) {
+    if !can_stand_behind(word, text, line.as_str()) {
         return Err(PrintFault::NoText);
     }
     ended(line)
@@ -245,7 +245,7 @@ fn written_function(alloc: Global, name: &str, body: &str) -> Result<Text, Print
         (function_text name.now ++ newline ∷ (body.now ++ close_brace ∷ newline ∷ [])) }
     ensures err { Refuses result (is_free_name name.now && not (is_python_name name.now) && is_body_text body.now) }
 {
-    if !can_be_function(name.as_bytes(), body.as_bytes()) {
+    if !can_be_function(name.as_bytes(), body) {
         return Err(PrintFault::NoText);
     }
     Ok(function_lines(alloc, name, body)?)

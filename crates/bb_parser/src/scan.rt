@@ -1,18 +1,11 @@
-// The places of characters, and what stands before and behind them.
-ghost use Rattle.std.specs.Prelude.{◌≡◌, ◌<◌, ◌==◌, ◌+◌, length, drop, position, slice_index, IfSome, option_map, codes};
+// What stands before and behind characters, and Python in texts.
+ghost use Rattle.std.specs.Prelude.{◌≡◌, ◌==◌, ◌+◌, drop, position, option_map, codes, true};
 ghost use Rattle.std.specs.Option.{option_copied};
 ghost use Rattle.std.specs.List.{before_first};
-ghost use Rattle.meta_model.specs.Text.{split_at_first, holds, is_empty};
+ghost use Rattle.meta_model.specs.Text.{begins_with, is_empty};
+ghost use Rattle.meta_model.specs.Statements.{begins_form, holds_python};
 
-use byte_scan::first_of;
-
-/// The place of the first byte like this.
-pub fn place_of(bytes: &[u8], byte: u8) -> Option<usize>
-    ensures first { result ≡ position (λ b. b == byte) bytes.now }
-    ensures stands { IfSome result (λ i. (i < length bytes.now) × (slice_index bytes.now i ≡ byte)) }
-{
-    first_of(bytes, &[byte])
-}
+use meta_model::{is_form, place_of, split_at};
 
 /// What stands behind the first byte like this.
 pub fn after(bytes: &[u8], byte: u8) -> Option<&[u8]>
@@ -41,27 +34,28 @@ pub fn has_nothing(bytes: &[u8]) -> bool
     bytes.is_empty()
 }
 
-/// What stands before the first character like this, and what stands behind it.
-pub fn split_at(line: &str, byte: u8) -> Option<(&str, &str)>
-    requires { byte < 128 }
-    ensures { split_at_first byte line.now ≡ option_map (λ p. (p.0.now, p.1.now)) result }
+/// Whether a form stands at the front of a text that begins with `${`.
+fn begins_form(text: &str) -> bool
+    requires { begins_with (codes "${") text.now ≡ true }
+    ensures { result ≡ begins_form text.now }
 {
-    match place_of(line.as_bytes(), byte) {
-        Some(at) => Some((&line[..at], &line[at + 1..])),
-        None => None,
+    match split_at(&text[2..], b'}') {
+        Some((inside, _)) => is_form(inside),
+        None => false,
     }
 }
 
-/// Whether the text `${@` stands in the line.
-pub fn holds_python_reference(line: &[u8]) -> bool
-    ensures { result ≡ holds (codes "${@") line.now }
+/// Whether a `${@` that begins no form stands in the text.
+pub fn holds_python(text: &str) -> bool
+    ensures { result ≡ holds_python text.now }
 {
-    let mut rest = line;
-    while !rest.is_empty() {
-        if rest.starts_with(b"${@") {
+    let bytes = text.as_bytes();
+    let mut at = 0;
+    while at < bytes.len() {
+        if bytes[at..].starts_with(b"${@") && !begins_form(&text[at..]) {
             return true;
         }
-        rest = &rest[1..];
+        at += 1;
     }
     false
 }

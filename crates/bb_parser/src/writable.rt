@@ -9,10 +9,10 @@ ghost use Rattle.bb_parser.specs.Written.{is_one_line, is_quotable, is_free_name
 
 use crate::names::{has_keyword, is_a_flag, is_a_name, is_set_by_program, name_end};
 use crate::quotes::{operator_and_text, times};
-use crate::scan::{has_nothing, holds_python_reference, place_of};
+use crate::scan::{has_nothing, holds_python};
 use crate::tasks::can_be_task;
 use bb_lexer::opens;
-use meta_model::{Op, is_a_blank, is_white_space};
+use meta_model::{Op, is_a_blank, is_white_space, place_of};
 use tree_model::Text;
 
 /// Whether no newline stands in a text.
@@ -23,12 +23,13 @@ fn is_on_one_line(text: &[u8]) -> bool
 }
 
 /// Whether a text can be quoted.
-fn can_be_quoted(text: &[u8]) -> bool
+fn can_be_quoted(text: &str) -> bool
     ensures { result ≡ is_quotable text.now }
 {
-    is_on_one_line(text)
-        && !holds_python_reference(text)
-        && !(times(text, b'"') == 1 && times(text, b'\'') == 1)
+    let bytes = text.as_bytes();
+    is_on_one_line(bytes)
+        && !holds_python(text)
+        && !(times(bytes, b'"') == 1 && times(bytes, b'\'') == 1)
 }
 
 /// Whether a statement may give something to the name.
@@ -39,7 +40,7 @@ pub fn is_free(name: &[u8]) -> bool
 }
 
 /// Whether an assignment can be written.
-pub fn can_be_assigned(name: &[u8], op: Op, text: &[u8]) -> bool
+pub fn can_be_assigned(name: &[u8], op: Op, text: &str) -> bool
     ensures { result ≡ (is_free_name name.now && is_quotable text.now && not (is_weak op && is_late name.now)) }
 {
     is_free(name) && can_be_quoted(text) && !(op == Op::Weak && has_keyword(name))
@@ -53,7 +54,7 @@ pub fn can_be_flagged(name: &[u8], flag: &[u8]) -> bool
 }
 
 /// Whether an assignment to a flag can be written.
-pub fn can_assign_flag(name: &[u8], flag: &[u8], text: &[u8]) -> bool
+pub fn can_assign_flag(name: &[u8], flag: &[u8], text: &str) -> bool
     ensures { result ≡ (is_free_name name.now && is_flag flag.now && is_quotable text.now) }
 {
     can_be_flagged(name, flag) && can_be_quoted(text)
@@ -80,13 +81,13 @@ fn begins_with_no_blank(text: &[u8]) -> bool
 }
 
 /// Whether a text can stand behind a word; `line` is the line of both.
-pub fn can_stand_behind(word: &str, text: &[u8], line: &str) -> bool
+pub fn can_stand_behind(word: &str, text: &str, line: &str) -> bool
     requires { line.now ≡ line_of_text word.now text.now }
     ensures { result ≡ can_follow word.now text.now }
 {
-    begins_with_no_blank(text)
-        && is_on_one_line(text)
-        && !holds_python_reference(text)
+    begins_with_no_blank(text.as_bytes())
+        && is_on_one_line(text.as_bytes())
+        && !holds_python(text)
         && !is_assignment(line)
         && !opens(line)
 }
@@ -215,8 +216,8 @@ fn are_body_lines(body: &[u8]) -> bool
 }
 
 /// Whether a function can be written.
-pub fn can_be_function(name: &[u8], body: &[u8]) -> bool
+pub fn can_be_function(name: &[u8], body: &str) -> bool
     ensures { result ≡ (is_free_name name.now && not (is_python_name name.now) && is_body_text body.now) }
 {
-    is_free(name) && !names_python(name) && are_body_lines(body) && !holds_python_reference(body)
+    is_free(name) && !names_python(name) && are_body_lines(body.as_bytes()) && !holds_python(body)
 }

@@ -4,7 +4,8 @@
 //! ahead meanwhile; the devices stand in `outside_os` and `sh_bench`. Here the words are taken from the system and the devices made, and standard
 //! error tells of what failed, beside the ends of logs, which the benches show: which tasks gave too much, what is wrong with the metadata
 //! and what to do, who asks for what isn't there, and what a device says of its first fault.
-//! `--lint` is a mode of this program alone: its words go to no top call (`linting`, over `recipe_lint`).
+//! Help, the version, remarks and the graph are modes of this program alone, whose words go to no top call (`own_modes`, `linting` over
+//! `recipe_lint`, `graphing` over `target_graph`).
 //! `tests/program.sh` tests it by runs.
 #![tactic(auto)]
 
@@ -14,7 +15,10 @@ mod about;
 mod ahead;
 mod failures;
 mod faults;
+mod graphing;
+mod help;
 mod linting;
+mod own_modes;
 mod places;
 mod records;
 mod sentences;
@@ -27,9 +31,11 @@ use bitbake_top::bitbake;
 use build_store::Ahead;
 use failures::tell_too_large;
 use faults::{tell_fault, tell_passed};
+use graphing::run_graph;
 use host_files::{Syncs, is_memory};
-use linting::{asks_for_lint, run_lint, tell_count};
+use linting::{run_lint, tell_count};
 use outside_os::{FolderDisk, FolderLayers, ReadAhead, StdSink};
+use own_modes::{OwnMode, own_mode, run_help, run_version};
 use recipe_lint::Counted;
 use run_trace::{Timed, micros_now};
 use sh_bench::{Sandboxes, ShBench};
@@ -76,8 +82,12 @@ fn main(rt: HostRuntime) -> ExitCode {
 fn run<R: Threads + Wait + Sync>(rt: &HostRuntime, threads: &R) -> io::Result<u8> {
     let begun = micros_now(rt);
     let words = words_of(rt)?;
-    if asks_for_lint(&words) {
-        return run_lint(rt, &words);
+    match own_mode(&words) {
+        Some(OwnMode::Help) => return run_help(rt),
+        Some(OwnMode::Version) => return run_version(rt),
+        Some(OwnMode::Lint) => return run_lint(rt, &words),
+        Some(OwnMode::Graph) => return run_graph(rt, &words),
+        None => {}
     }
     let reading = ReadAhead::none();
     let ahead = Ahead::none();

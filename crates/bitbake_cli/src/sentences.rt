@@ -22,7 +22,7 @@ pub const SENTENCES: &[Sentence] = &[
     },
     Sentence {
         kind: "Python",
-        wrong: "this line, or the body that it opens, is Python or holds ${@..}",
+        wrong: "this line, or the body that it opens, is Python, or holds a ${@..} that is neither bb.utils.contains nor bb.utils.filter of literals",
         mend: "only shell functions are run: write the value out, or make it in a task",
     },
     Sentence {

@@ -60,4 +60,8 @@ impl Lookup for Pairs {
         }
         Ok(None)
     }
+
+    fn known(&self, _alloc: Global, _name: &str, _wanted: &[Text]) -> Result<Option<Texts>, Mem> {
+        Ok(None)
+    }
 }

@@ -8,7 +8,7 @@ use Rattle.meta_model.specs.declared.entry.Op.TheVariants.{Set, Now}
 use Rattle.meta_model.specs.declared.entry.EntryLine.{EntryLine}
 use Rattle.meta_model.specs.Refusal.{◌>>=◌}
 use Rattle.meta_model.specs.Active.{expand, find_in}
-use Rattle.meta_model.specs.Expansion.{longest, value_by}
+use Rattle.meta_model.specs.Expansion.{longest, values_by}
 use Rattle.meta_model.specs.Text.{holds}
 use Rattle.var_expand.proofs.Expanding.{plain_ok}
 use Rattle.meta_model.specs.Entries.{taken}
@@ -72,7 +72,7 @@ taken_fault list found op text read fault o f r h =
 -- a text without references is its own expansion
 pub plain_text : (lines : List EntryLine) (text bytes made : List ℕ) (b : Bool) → bytes ≡ text → b ≡ holds (codes "${") bytes → b ≡ false → length text ≤ longest → made ≡ text → expand lines text ≡ Ok made
 plain_text lines text bytes made b e h f le m =
-    plain_ok (value_by (find_in lines)) [] text (ap (holds (codes "${")) (sym e) ∙ sym h ∙ f) le ∙ ap Ok (sym m)
+    plain_ok (values_by (find_in lines)) [] text (ap (holds (codes "${")) (sym e) ∙ sym h ∙ f) le ∙ ap Ok (sym m)
 
 -- what is so where an answer without a fault says that the call before it had none
 pub on_told : {X Y Z : Type 0} {P Q : Type 0} (done : Result X Y) (answer : Result X Z) → OnOk answer (is_ok done ≡ true) → OnOk done P → (P → Q) → OnOk answer Q

@@ -12,7 +12,7 @@ use Rattle.meta_model.specs.Refusal.{Refusal, ◌>>=◌}
 use Rattle.meta_model.specs.Text.{holds, is_in, is_empty}
 use Rattle.meta_model.specs.Slot.{Slot, nothing, is_set}
 use Rattle.meta_model.specs.Base.{value_after, flag_after, flag_from, lates_after, value_slot, flag_slot, lates, flags_of, is_left}
-use Rattle.meta_model.specs.Expansion.{longest, value_by}
+use Rattle.meta_model.specs.Expansion.{longest, values_by}
 use Rattle.meta_model.specs.Active.{expand, find_in}
 use Rattle.meta_model.specs.Frozen.{Move, stays, moves, target_of, holds_reference, given, told_flag, conditions, told_lates, told, told_all, lines_where, is_task_line}
 use Rattle.var_expand.proofs.Expanding.{plain_text}
@@ -392,7 +392,7 @@ plain_expand : (list : List EntryLine) (t : List ℕ) → is_plain_text t ≡ tr
 plain_expand list t h =
     let none : holds (codes "${") t ≡ false = not_false (holds (codes "${") t) (and_left (not (holds (codes "${") t)) (nat_le (length t) longest) h) in
     let fits : nat_le (length t) longest ≡ true = and_right (not (holds (codes "${") t)) (nat_le (length t) longest) h in
-    plain_text (value_by (find_in list)) [] t none ∙ rw fits refl
+    plain_text (values_by (find_in list)) [] t none ∙ rw fits refl
   where
     not_false : (b : Bool) → not b ≡ true → b ≡ false
     not_false true e = absurd cc

@@ -6,7 +6,7 @@ ghost use Rattle.meta_model.specs.Active as entries;
 ghost use Rattle.meta_model.specs.Base as base;
 ghost use Rattle.meta_model.specs.Frozen as frozen;
 ghost use Rattle.datastore.specs.Faults.{IsDataFault};
-ghost use Rattle.datastore.specs.Looked.{IsMeant};
+ghost use Rattle.datastore.specs.Looked.{AreOf};
 ghost use Rattle.value_maps.specs.Telling.{move_of};
 ghost use Rattle.datastore.specs.Telling.{parted, IsPushed};
 ghost use Rattle.meta_model.specs.Passing.{behind};
@@ -31,7 +31,7 @@ fn target_of(
     overrides: &Overrides,
     name: &str,
 ) -> Result<Text, DataFault>
-    requires { IsMeant overrides.now (entries.active store.now) }
+    requires { AreOf store.now overrides.now }
     ensures ok { IfOk result (λ made. frozen.target_of store.now name.now (frozen.holds_reference name.now) ≡ Ok made) }
     ensures err { IfErr result (λ fault. IsDataFault fault
         (frozen.target_of store.now name.now (frozen.holds_reference name.now))) }
@@ -61,7 +61,7 @@ fn moves_of(
     overrides: &Overrides,
     names: &[Text],
 ) -> Result<Vec<(Text, Text)>, DataFault>
-    requires { IsMeant overrides.now (entries.active store.now) }
+    requires { AreOf store.now overrides.now }
     ensures ok { IfOk result (λ made. frozen.moves store.now names.now ≡ Ok (map move_of made.items)) }
     ensures err { IfErr result (λ fault. IsDataFault fault (frozen.moves store.now names.now)) }
 {
@@ -80,7 +80,7 @@ fn conditions_of(
     overrides: &Overrides,
     when: &[Text],
 ) -> Result<Texts, DataFault>
-    requires { IsMeant overrides.now (entries.active store.now) }
+    requires { AreOf store.now overrides.now }
     ensures ok { IfOk result (λ made. frozen.conditions store.now when.now ≡ Ok made) }
     ensures err { IfErr result (λ fault. IsDataFault fault (frozen.conditions store.now when.now)) }
 {
@@ -113,7 +113,7 @@ fn push_lates(
     target: &Text,
     lates: &[LateLine],
 ) -> Result<(), DataFault>
-    requires { IsMeant overrides.now (entries.active store.now) }
+    requires { AreOf store.now overrides.now }
     ensures ok { OnOk result (behind lines.old.items (frozen.told_lates store.now target.now lates.now)
         ≡ Ok lines.new.items) }
     ensures err { IfErr result (λ fault. IsDataFault fault (frozen.told_lates store.now target.now lates.now)) }
@@ -134,7 +134,7 @@ fn push_told(
     source: &str,
     target: &Text,
 ) -> Result<(), DataFault>
-    requires { IsMeant overrides.now (entries.active store.now) }
+    requires { AreOf store.now overrides.now }
     ensures ok { OnOk result (behind lines.old.items (frozen.told store.now (move_of (source.now, target.now)))
         ≡ Ok lines.new.items) }
     ensures err { IfErr result (λ fault. IsDataFault fault (frozen.told store.now (move_of (source.now, target.now)))) }
@@ -160,7 +160,7 @@ fn push_move(
     overrides: &Overrides,
     pair: &(Text, Text),
 ) -> Result<(), DataFault>
-    requires { IsMeant overrides.now (entries.active store.now) }
+    requires { AreOf store.now overrides.now }
     ensures ok { OnOk result (IsPushed staying.old.items moving.old.items staying.new.items moving.new.items
         (frozen.stays (move_of pair.now)) (frozen.told store.now (move_of pair.now))) }
     ensures err { IfErr result (λ fault. IsDataFault fault (frozen.told store.now (move_of pair.now))) }
@@ -183,7 +183,7 @@ fn push_moves(
     overrides: &Overrides,
     moves: &[(Text, Text)],
 ) -> Result<(), DataFault>
-    requires { IsMeant overrides.now (entries.active store.now) }
+    requires { AreOf store.now overrides.now }
     ensures ok { OnOk result (parted staying.old.items moving.old.items
         (frozen.told_all store.now (map move_of moves.now)) ≡ Ok (staying.new.items, moving.new.items)) }
     ensures err { IfErr result (λ fault. IsDataFault fault
@@ -210,7 +210,7 @@ fn lines_of(
     overrides: &Overrides,
     moves: &[(Text, Text)],
 ) -> Result<(Vec<EntryLine>, Vec<EntryLine>), DataFault>
-    requires { IsMeant overrides.now (entries.active store.now) }
+    requires { AreOf store.now overrides.now }
     ensures ok { IfOk result (λ made. parted [] [] (frozen.told_all store.now (map move_of moves.now))
         ≡ Ok (made.0.items, made.1.items)) }
     ensures err { IfErr result (λ fault. IsDataFault fault
@@ -230,7 +230,7 @@ fn moves_among(
     overrides: &Overrides,
     names: &[Text],
 ) -> Result<Vec<(Text, Text)>, DataFault>
-    requires overrides { IsMeant overrides.now (entries.active store.now) }
+    requires overrides { AreOf store.now overrides.now }
     requires keeps { Keeps store.now maps.now }
     requires names { AreKeys names.now (is_anew maps.now) }
     ensures ok { IfOk result (λ made. frozen.moves store.now (filter (is_anew maps.now) (base.names store.now))
@@ -248,7 +248,7 @@ pub(crate) fn tell_anew(
     maps: &Maps,
     overrides: &Overrides,
 ) -> Result<Anew, DataFault>
-    requires overrides { IsMeant overrides.now (entries.active store.now) }
+    requires overrides { AreOf store.now overrides.now }
     requires keeps { Keeps store.now maps.now }
     ensures ok { IfOk result (λ made. IsAnew store.now maps.now made) }
     ensures err { IfErr result (λ fault. IsDataFault fault (frozen.frozen store.now)) }

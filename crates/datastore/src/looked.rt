@@ -5,7 +5,7 @@ ghost use Rattle.meta_model.specs.Active as entries;
 ghost use Rattle.meta_model.specs.Expansion.{value_by};
 ghost use Rattle.var_expand.specs.Faults.{IsFaultOf};
 ghost use Rattle.datastore.specs.Faults.{IsDataFault, refusal_of};
-ghost use Rattle.datastore.specs.Looked.{IsMeant, found_under};
+ghost use Rattle.datastore.specs.Looked.{AreOf, IsMeant, found_under};
 
 use crate::fault::{DataFault, copy_or_memory};
 use crate::store::Datastore;
@@ -38,6 +38,10 @@ impl Lookup for Under<'_> {
 
     fn find(&self, alloc: Global, name: &str) -> Result<Option<Resolved>, ExpandFault> {
         Ok(self.store.resolved_under(alloc, name, self.active)?)
+    }
+
+    fn known(&self, _alloc: Global, _name: &str, _wanted: &[Text]) -> Result<Option<Texts>, Mem> {
+        Ok(None)
     }
 }
 
@@ -85,7 +89,7 @@ fn without_overrides(fault: ExpandFault) -> Result<Overrides, Mem>
 
 /// The active overrides of a store.
 pub(crate) fn overrides_of(alloc: Global, store: &Datastore) -> Result<Overrides, Mem>
-    ensures { IfOk result (λ made. IsMeant made (entries.active store.now)) }
+    ensures { IfOk result (λ made. AreOf store.now made) }
 {
     match settle(alloc, store) {
         Ok(active) => Ok(Overrides::Settled(active)),
@@ -117,6 +121,10 @@ impl Lookup for Over<'_> {
             Overrides::Refused(fault) => Err(copy_or_memory(fault)),
         }
     }
+
+    fn known(&self, _alloc: Global, _name: &str, _wanted: &[Text]) -> Result<Option<Texts>, Mem> {
+        Ok(None)
+    }
 }
 
 /// What a name has.
@@ -126,9 +134,9 @@ pub(crate) fn resolved_over(
     store: &Datastore,
     overrides: &Overrides,
 ) -> Result<Option<Resolved>, DataFault>
-    requires { IsMeant overrides.now (entries.active store.now) }
-    ensures ok { IfOk result (λ made. entries.find_in store.now name.now ≡ Ok made) }
-    ensures err { IfErr result (λ fault. IsDataFault fault (entries.find_in store.now name.now)) }
+    requires { AreOf store.now overrides.now }
+    ensures ok { IfOk result (λ made. (entries.find_in store.now).at name.now ≡ Ok made) }
+    ensures err { IfErr result (λ fault. IsDataFault fault ((entries.find_in store.now).at name.now)) }
 {
     let over = Over { store, overrides };
     Ok(over.find(alloc, name)?)
@@ -140,8 +148,8 @@ pub(crate) fn resolved_anew(
     name: &str,
     store: &Datastore,
 ) -> Result<Option<Resolved>, DataFault>
-    ensures ok { IfOk result (λ made. entries.find_in store.now name.now ≡ Ok made) }
-    ensures err { IfErr result (λ fault. IsDataFault fault (entries.find_in store.now name.now)) }
+    ensures ok { IfOk result (λ made. (entries.find_in store.now).at name.now ≡ Ok made) }
+    ensures err { IfErr result (λ fault. IsDataFault fault ((entries.find_in store.now).at name.now)) }
 {
     let overrides = overrides_of(alloc, store)?;
     resolved_over(alloc, name, store, &overrides)
@@ -154,7 +162,7 @@ pub(crate) fn value_over(
     store: &Datastore,
     overrides: &Overrides,
 ) -> Result<Option<Text>, DataFault>
-    requires { IsMeant overrides.now (entries.active store.now) }
+    requires { AreOf store.now overrides.now }
     ensures ok { IfOk result (λ made. entries.value store.now name.now ≡ Ok made) }
     ensures err { IfErr result (λ fault. IsDataFault fault (entries.value store.now name.now)) }
 {
@@ -181,7 +189,7 @@ pub(crate) fn expand_over(
     store: &Datastore,
     overrides: &Overrides,
 ) -> Result<Text, DataFault>
-    requires { IsMeant overrides.now (entries.active store.now) }
+    requires { AreOf store.now overrides.now }
     ensures ok { IfOk result (λ made. entries.expand store.now text.now ≡ Ok made) }
     ensures err { IfErr result (λ fault. IsDataFault fault (entries.expand store.now text.now)) }
 {

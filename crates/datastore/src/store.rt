@@ -9,7 +9,7 @@ ghost use Rattle.meta_model.specs.Overrides as under;
 ghost use Rattle.meta_model.specs.Tasks as tasks;
 ghost use Rattle.meta_model.specs.Frozen as frozen;
 ghost use Rattle.datastore.specs.Faults.{IsDataFault};
-ghost use Rattle.datastore.specs.Looked.{IsMeant};
+ghost use Rattle.datastore.specs.Looked.{AreOf};
 ghost use Rattle.value_maps.specs.Maps.{Keeps, KeepsBase, base_of, under_entries};
 ghost use Rattle.datastore.specs.Anew.{moved};
 ghost use Rattle.datastore.specs.Parts.{moved_with};
@@ -202,7 +202,7 @@ impl Datastore {
 
     /// The active overrides, worked out anew.
     pub(crate) fn overrides(&self, alloc: Global) -> Result<Overrides, Mem>
-        ensures { IfOk result (λ made. IsMeant made (entries.active self.now)) }
+        ensures { IfOk result (λ made. AreOf self.now made) }
     {
         overrides_of(alloc, self)
     }
@@ -213,8 +213,8 @@ impl Datastore {
     ///
     /// It is refused exactly where the active overrides are: they don't settle, or the value of OVERRIDES isn't expanded.
     pub fn resolved(&self, alloc: Global, name: &str) -> Result<Option<Resolved>, DataFault>
-        ensures ok { IfOk result (λ made. entries.find_in self.now name.now ≡ Ok made) }
-        ensures err { IfErr result (λ fault. IsDataFault fault (entries.find_in self.now name.now)) }
+        ensures ok { IfOk result (λ made. (entries.find_in self.now).at name.now ≡ Ok made) }
+        ensures err { IfErr result (λ fault. IsDataFault fault ((entries.find_in self.now).at name.now)) }
     {
         match &self.settled {
             Some(overrides) => resolved_over(alloc, name, self, overrides),

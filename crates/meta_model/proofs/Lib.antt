@@ -4,6 +4,8 @@ pub mod Building
 pub mod Edges
 pub mod Escaping
 mod Escapes
+pub mod FormNames
+pub mod FormReading
 pub mod Gathered
 pub mod Limits
 pub mod Meaning
@@ -11,9 +13,11 @@ pub mod Order
 pub mod Ordered
 pub mod Passing
 pub mod Placing
+pub mod Prefixes
 pub mod Readings
 pub mod Room
-mod RoundTrip
+pub mod RoundTrip
+pub mod Splits
 pub mod Steps
 pub mod Unfound
 pub mod White

@@ -4,8 +4,9 @@ use Rattle.std.proofs.lemmas.Grind.{common_steps}
 use Rattle.std.specs.List.{list_all}
 use Rattle.meta_model.specs.Refusal.{Refusal, too_long, too_deep, ◌>>=◌, require}
 use Rattle.meta_model.specs.Names.{is_name_character}
-use Rattle.meta_model.specs.Parts.{Parts, end, plain, reference, parts_of, depth}
-use Rattle.meta_model.specs.Expansion.{put_before, or_reference, look_up, expanded_parts, expanded, value_by, expand_by, Find, Values, longest, deepest}
+use Rattle.meta_model.specs.Parts.{Parts, end, plain, reference, form, parts_of, depth}
+use Rattle.meta_model.specs.Forms.{form_text}
+use Rattle.meta_model.specs.Expansion.{put_before, words_there, IsAlike, or_reference, look_up, expanded_parts, expanded, value_by, expand_by, Find, Values, longest, deepest}
 
 -- the two parts of an answer
 pub ok_parts : {A B : Type 0} (m : Result A Refusal) (f : A → Result B Refusal) (b : B) → (m >>= f) ≡ Ok b → (a : A) × (m ≡ Ok a) × (f a ≡ Ok b)
@@ -33,6 +34,9 @@ parts_room values name (reference inner rest) room t e =
     let looked = ok_parts (expanded_parts values name inner longest) (λ looked. look_up values looked (list_all is_name_character looked) >>= step looked) t e in
     let found = ok_parts (look_up values looked.0 (list_all is_name_character looked.0)) (step looked.0) t looked.2 in
     put_room name room (or_reference looked.0 found.0) (expanded_parts values name rest) t (λ r u h. parts_room values name rest r u h) found.2
+parts_room values name (form f rest) room t e =
+    let there = ok_parts (words_there values f) (λ there. put_before name room (form_text f there) (expanded_parts values name rest)) t e in
+    put_room name room (form_text f there.0) (expanded_parts values name rest) t (λ r u h. parts_room values name rest r u h) there.2
 
 -- an expanded text has room
 pub expanded_room : (values : Values) (name text t : List ℕ) → expanded values name text ≡ Ok t → length t ≤ longest
@@ -41,8 +45,12 @@ expanded_room values name text t e =
     parts_room values name (parts_of text) longest t rest.2
 
 -- where each name is found alike, values and texts are alike
-pub values_alike : (f g : Find) → ((name : List ℕ) → f name ≡ g name) → (name : List ℕ) → value_by f name ≡ value_by g name
-values_alike f g h name = let e : f ≡ g = λ i. λ n. h n i in ap (λ k. value_by k name) e
 
-pub texts_alike : (f g : Find) → ((name : List ℕ) → f name ≡ g name) → (text : List ℕ) → expand_by f text ≡ expand_by g text
-texts_alike f g h text = let e : f ≡ g = λ i. λ n. h n i in ap (λ k. expand_by k text) e
+one_find : (f g : Find) → IsAlike f g → f ≡ g
+one_find f g alike = λ i. record { at = λ n. alike.at n i; known = λ n. λ w. alike.known n w i }
+
+pub values_alike : (f g : Find) → IsAlike f g → (name : List ℕ) → value_by f name ≡ value_by g name
+values_alike f g alike name = ap (λ k. value_by k name) (one_find f g alike)
+
+pub texts_alike : (f g : Find) → IsAlike f g → (text : List ℕ) → expand_by f text ≡ expand_by g text
+texts_alike f g alike text = ap (λ k. expand_by k text) (one_find f g alike)

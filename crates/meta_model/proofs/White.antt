@@ -9,7 +9,7 @@ use Rattle.meta_model.specs.Text.{is_white, is_in, is_empty, non_empty, words, w
 
 -- a text without words to be dropped
 
-shape : (t : List ℕ) → (piece : List ℕ) × (pieces : List (List ℕ)) × (slice_split is_white t ≡ piece ∷ pieces)
+pub shape : (t : List ℕ) → (piece : List ℕ) × (pieces : List (List ℕ)) × (slice_split is_white t ≡ piece ∷ pieces)
 shape [] = ([], [], refl)
 shape (c ∷ t) = elim (cases_Bool (is_white c)) [
   | inl e ↦ ([], slice_split is_white t, rw e refl)

@@ -4,13 +4,13 @@ use Rattle.meta_model.specs.declared.entry.EntryLine.{EntryLine}
 use Rattle.meta_model.specs.Refusal.{Refusal, unstable, ◌>>=◌}
 use Rattle.meta_model.specs.Text.{texts_eq, colon_pieces}
 use Rattle.meta_model.specs.Overrides.{resolved}
-use Rattle.meta_model.specs.Expansion.{Find, value_by, expand_by}
+use Rattle.meta_model.specs.Expansion.{Find, found_by, value_by, expand_by}
 
 -- One pass: OVERRIDES evaluated with the list of the pass before, and cut at its colons; empty pieces are dropped, and an
 -- absent OVERRIDES has none ("Conditional Metadata").
 abbrev pub pass : List EntryLine → List (List ℕ) → Result (List (List ℕ)) Refusal
 pass list before = do
-  text ← value_by (λ name. Ok (resolved list before name)) (codes "OVERRIDES")
+  text ← value_by (found_by (λ name. Ok (resolved list before name))) (codes "OVERRIDES")
   Ok (colon_pieces (unwrap_or text []))
 
 -- Two equal lists in a row end the passes, of which so many are left; repeated pieces are kept for this.
@@ -33,9 +33,9 @@ active list = do
 abbrev pub find_in : List EntryLine → Find
 find_in list =
     let overrides = active list in
-    λ name. do
+    found_by (λ name. do
       under ← overrides
-      Ok (resolved list under name)
+      Ok (resolved list under name))
 
 -- The expanded value of a name.
 abbrev pub value : List EntryLine → List ℕ → Result (Option (List ℕ)) Refusal

@@ -11,11 +11,12 @@ use Rattle.meta_model.specs.Lines.{OrFault, lines_of_text}
 use Rattle.meta_model.specs.Statements.{of_lines}
 use Rattle.meta_model.specs.Entries.{entries_after}
 use Rattle.meta_model.specs.Base.{flag, names}
-use Rattle.meta_model.specs.Expansion.{values_within, value_by, expanded_parts}
+use Rattle.meta_model.specs.Expansion.{value_within as within_names, values_by, expanded_parts}
 use Rattle.meta_model.specs.Active.{value, expand, active, find_in}
 use Rattle.meta_model.specs.Frozen.{frozen}
 use Rattle.meta_model.specs.Tasks.{tasks}
-use Rattle.meta_model.specs.Parts.{Parts, end, plain, reference, parts_of}
+use Rattle.meta_model.specs.Forms.{told_name}
+use Rattle.meta_model.specs.Parts.{Parts, end, plain, reference, form, parts_of}
 
 -- what a text gives; or why a value is refused; or the line and the fault of a statement
 pub data Outcome (A : Type 0) : Type 0 where
@@ -58,15 +59,15 @@ removes_of None = []
 removes_of (Some found) = found.removes
 
 abbrev pub removes_in : List ℕ → List ℕ → Outcome (List (List ℕ))
-removes_in text name = and_then (entries_of text) (λ list. find_in list name >>= λ found. Ok (removes_of found))
+removes_in text name = and_then (entries_of text) (λ list. (find_in list).at name >>= λ found. Ok (removes_of found))
 
 -- the expanded value of a name where no more than so many names may be in expansion
 abbrev pub value_within : ℕ → List ℕ → List ℕ → Outcome (Option (List ℕ))
-value_within left text name = and_then (entries_of text) (λ list. values_within left (find_in list) [] name)
+value_within left text name = and_then (entries_of text) (λ list. within_names left (find_in list) [] name)
 
 -- a text expanded to at most so many bytes, in the expansion of a name
 abbrev pub expanded_to : ℕ → List ℕ → List ℕ → List ℕ → Outcome (List ℕ)
-expanded_to room text name other = and_then (entries_of text) (λ list. expanded_parts (value_by (find_in list)) name (parts_of other) room)
+expanded_to room text name other = and_then (entries_of text) (λ list. expanded_parts (values_by (find_in list)) name (parts_of other) room)
 
 -- n references, each in the name of the next
 abbrev pub nested : ℕ → List ℕ
@@ -95,11 +96,12 @@ active_in text = and_then (entries_of text) (λ list. active list)
 abbrev pub tasks_in : List ℕ → Outcome (List (List ℕ × List (List ℕ)))
 tasks_in text = and_then (entries_of text) (λ list. Ok (tasks list))
 
--- a text with `<` and `>` round the names of its references
+-- a text with `<` and `>` round the names of its references, and round what its forms ask for
 abbrev pub shown : Parts → List ℕ
 shown end = []
 shown (plain c rest) = c ∷ shown rest
 shown (reference name rest) = codes "<" ++ (shown name ++ (codes ">" ++ shown rest))
+shown (form f rest) = codes "<" ++ (told_name f.name f.words ++ (codes ">" ++ shown rest))
 
 abbrev pub read : List ℕ → List ℕ
 read text = shown (parts_of text)

@@ -5,15 +5,10 @@ use Rattle.meta_model.specs.declared.entry.Op.{Op}
 use Rattle.meta_model.specs.declared.entry.Op.TheVariants.{Set, Now, Soft, Weak, AddBlank, PutBlank, Add, Put}
 use Rattle.meta_model.specs.declared.statement.Statement.{Statement}
 use Rattle.meta_model.specs.declared.statement.Statement.TheVariants.{Assign, Flag, Export, Unset, UnsetFlag, Include, Require, Inherit, Function, ExportFunctions, AddTask, DelTask}
+pub use Rattle.meta_model.specs.Text.{◌>>=◌}
 use Rattle.meta_model.specs.Text.{open_bracket, close_bracket, is_blank, is_quote, is_empty, begins_with, is_in, skip_blanks, without_end, without_last, split_at_first, cuts, words, is_shell_name}
 use Rattle.meta_model.specs.Names.{is_name, is_flag}
 use Rattle.meta_model.specs.Lines.{without_opening, opens_body}
-
--- what follows, where there is something
-infixl 10 ◌>>=◌
-abbrev pub ◌>>=◌ : {A B : Type 0} → Option A → (A → Option B) → Option B
-None >>= f = None
-(Some x) >>= f = f x
 
 -- x, where the test holds
 abbrev pub where_true : {A : Type 0} → Bool → A → Option A

@@ -1,5 +1,5 @@
 -- The statements of a file, and its first fault.
-use Rattle.std.specs.Prelude.{◌≡◌, ℕ, ◌⊎◌, Bool, true, false, not, ◌&&◌, ◌||◌, List, [], ◌∷◌, ◌++◌, Option, Some, None, Result, Ok, Err, ◌==◌, if◌then◌else◌, codes, bytes_eq}
+use Rattle.std.specs.Prelude.{◌≡◌, ℕ, ◌⊎◌, Bool, true, false, not, ◌&&◌, ◌||◌, List, [], ◌∷◌, ◌++◌, Option, Some, None, is_some, drop, Result, Ok, Err, ◌==◌, if◌then◌else◌, codes, bytes_eq}
 use Rattle.std.specs.List.{before_first}
 use Rattle.meta_model.specs.declared.line.Kind.{Kind}
 use Rattle.meta_model.specs.declared.line.Kind.TheVariants.{Conf, Recipe, Class}
@@ -11,9 +11,10 @@ use Rattle.meta_model.specs.declared.entry.Op.{Op}
 use Rattle.meta_model.specs.declared.entry.Op.TheVariants.{Weak}
 use Rattle.meta_model.specs.declared.statement.Statement.{Statement}
 use Rattle.meta_model.specs.declared.statement.Statement.TheVariants.{Assign, Flag, Export, Unset, UnsetFlag, Include, Require, Inherit, Function, ExportFunctions, AddTask, DelTask}
-use Rattle.meta_model.specs.Text.{newline, holds, is_in, words}
+use Rattle.meta_model.specs.Text.{newline, begins_with, close_brace, is_in, split_at_first, words}
 use Rattle.meta_model.specs.Names.{first_part, is_late}
 use Rattle.meta_model.specs.Lines.{OrFault, with_first, logical_lines, opens_body}
+use Rattle.meta_model.specs.Forms.{form_of}
 use Rattle.meta_model.specs.Grammar.{Fit, fit_of}
 
 -- The first word of a line, or the empty text.
@@ -29,9 +30,18 @@ first_word text = first_or_empty (words text)
 abbrev pub is_python_word : List ℕ → Bool
 is_python_word text = is_in (before_first (λ c. c == 40) (first_word text)) (codes "python" ∷ codes "def" ∷ codes "addhandler" ∷ [])
 
--- ... and a quoted text, a body, or the text of `include`, `require` or `inherit` that holds `${@`.
+-- A form stands at the front, up to the first brace that closes.
+abbrev pub is_form : Option (List ℕ × List ℕ) → Bool
+is_form None = false
+is_form (Some cut) = is_some (form_of (drop 2 cut.0))
+
+abbrev pub begins_form : List ℕ → Bool
+begins_form s = begins_with (codes "${") s && is_form (split_at_first close_brace s)
+
+-- ... and a quoted text, a body, or the text of `include`, `require` or `inherit` that holds a `${@` which begins no form.
 abbrev pub holds_python : List ℕ → Bool
-holds_python s = holds (codes "${@") s
+holds_python [] = false
+holds_python (c ∷ cs) = (begins_with (codes "${@") (c ∷ cs) && not (begins_form (c ∷ cs))) || holds_python cs
 
 abbrev pub statement_holds_python : Statement → Bool
 statement_holds_python (Assign export name op text) = holds_python text

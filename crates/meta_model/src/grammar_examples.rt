@@ -13,6 +13,12 @@ pub fn example_of_statement_refusals()
     ensures python_function { IsFirstFault Recipe (codes "python do_x() {\n}\n") 1 wrong.Python }
     // the quoted text holds `${@`
     ensures python_text { IsFirstFault Conf (codes "A = \"${@1}\"\n") 1 wrong.Python }
+    // a `${@` that begins neither form: the second literal has no word
+    ensures python_near_form { IsFirstFault Conf (codes "A = \"${@bb.utils.contains('F', '', 'y', 'n', d)}\"\n") 1
+        wrong.Python }
+    // a form
+    ensures form { AreStatements Conf (codes "A = \"${@bb.utils.filter('F', 'a', d)}\"")
+        ((1, statement.Assign false (codes "A") op.Set (codes "${@bb.utils.filter('F', 'a', d)}")) ∷ []) }
     // the first word is `fakeroot`
     ensures fakeroot_function { IsFirstFault Recipe (codes "fakeroot do_x() {\n}\n") 1 wrong.Fakeroot }
     // the program sets WORKDIR

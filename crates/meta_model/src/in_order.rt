@@ -1,9 +1,11 @@
 // Texts in byte order, each once.
-ghost use Rattle.std.specs.Prelude.{◌≡◌, OnOk};
-ghost use Rattle.meta_model.specs.Text.{into_order, is_before};
+ghost use Rattle.std.specs.Prelude.{◌≡◌, IfOk, OnOk};
+ghost use Rattle.meta_model.specs.Text.{in_byte_order, into_order, is_before};
 
+use crate::word_list::as_texts;
+use std::alloc::Global;
 use std::cmp::Ordering;
-use tree_model::{Mem, Text};
+use tree_model::{Mem, Text, Texts};
 
 /// Whether the first text comes before the second in byte order.
 fn comes_before(first: &str, second: &str) -> bool
@@ -32,4 +34,15 @@ pub fn put_in_order(texts: &mut Vec<Text>, text: Text) -> Result<(), Mem>
         place += 1;
     }
     Ok(texts.push(text)?)
+}
+
+/// The texts in byte order, each once. It is for few.
+pub fn in_byte_order(alloc: Global, texts: &[Text]) -> Result<Texts, Mem>
+    ensures { IfOk result (λ made. made ≡ in_byte_order texts.now) }
+{
+    let mut ordered = Vec::new(alloc);
+    for text in texts {
+        put_in_order(&mut ordered, text.copy()?)?;
+    }
+    as_texts(alloc, ordered.as_slice())
 }

@@ -1,5 +1,5 @@
 // What is proved of the definitions.
-ghost use Rattle.std.specs.Prelude.{◌≡◌, ◌≤◌, ℕ, List, [], ◌∷◌, ◌++◌, option_to_list, length, map, Bool, Ok, true, false};
+ghost use Rattle.std.specs.Prelude.{◌≡◌, ◌≤◌, ℕ, List, [], ◌∷◌, ◌++◌, option_to_list, length, map, Bool, Ok, Some, true, false};
 ghost use Rattle.meta_model.specs.declared.plan.PlanTask.{PlanTask};
 ghost use Rattle.meta_model.specs.CleanBuild.{Entries, Gives, clean_build, clean_output, clean_task, is_beyond, task_output};
 ghost use Rattle.std.specs.List.{list_all};
@@ -8,8 +8,10 @@ ghost use Rattle.meta_model.specs.declared.line.Kind.{Kind as FileKind};
 ghost use Rattle.meta_model.specs.declared.statement.Statement.{Statement as Written};
 ghost use Rattle.meta_model.specs.Base.{value_slot, value_after, flag_slot, flag_after, lates, lates_after, names_in, name_of};
 ghost use Rattle.meta_model.specs.Entries.{lines_of, has_no_now};
-ghost use Rattle.meta_model.specs.Expansion.{Find, Values, expanded, value_by, expand_by};
+ghost use Rattle.meta_model.specs.Expansion.{Find, IsAlike, Values, expanded, value_by, expand_by};
 ghost use Rattle.meta_model.specs.Overrides.{IsWinning, HasOneWinner, winning};
+ghost use Rattle.meta_model.specs.declared.form.Form.{Form};
+ghost use Rattle.meta_model.specs.Forms.{asked_by, form_of, told_name};
 ghost use Rattle.meta_model.specs.Parts.{HasMostReferences};
 ghost use Rattle.meta_model.specs.Statements.{HasOneMeaning};
 ghost use Rattle.meta_model.specs.Tasks.{is_task, is_task_after, comes_after, comes_after_line};
@@ -37,9 +39,15 @@ pub fn step_laws()
         → comes_after (list ++ line ∷ []) a b ≡ comes_after_line a b (comes_after list a b) line }
 {}
 
-/// The parts of a text have that text, and no reading of it has more references.
+/// The parts of a text have that text, and no reading of it has more references and forms.
 pub fn reading_laws()
     ensures { (text : List ℕ) → HasMostReferences text }
+{}
+
+/// The name under which a key tells what a form finds says the form's name and its words.
+pub fn form_laws()
+    ensures { (inside : List ℕ) (f : Form) → form_of inside ≡ Some f
+        → asked_by (told_name f.name f.words) ≡ Some (f.name, f.words) }
 {}
 
 /// The winning form of a name is a form, and no form beats it; and two forms of which neither beats the other are one. So
@@ -61,10 +69,8 @@ pub fn entry_laws()
 pub fn expansion_laws()
     ensures short { (values : Values) (name text out : List ℕ) → expanded values name text ≡ Ok out
         → length out ≤ 1_048_576 }
-    ensures values_alike { (f g : Find) → ((name : List ℕ) → f name ≡ g name) → (name : List ℕ)
-        → value_by f name ≡ value_by g name }
-    ensures texts_alike { (f g : Find) → ((name : List ℕ) → f name ≡ g name) → (text : List ℕ)
-        → expand_by f text ≡ expand_by g text }
+    ensures values_alike { (f g : Find) → IsAlike f g → (name : List ℕ) → value_by f name ≡ value_by g name }
+    ensures texts_alike { (f g : Find) → IsAlike f g → (text : List ℕ) → expand_by f text ≡ expand_by g text }
 {}
 
 /// The clean build of a plan has its tasks in their order, and of each what it gives over what was built before it. A task

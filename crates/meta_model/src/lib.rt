@@ -7,7 +7,8 @@
 //! - each file has statements or a first fault, one meaning alone, and never both (`one_meaning`);
 //! - one more entry changes what all entries give by one step (`step_laws`);
 //! - no entry that a statement adds has the operator `:=` (`entry_laws`);
-//! - the parts of a text have that text, and no reading of it has more references (`reading_laws`);
+//! - the parts of a text have that text, and no reading of it has more references and forms (`reading_laws`);
+//! - the name under which a key tells what a form finds says its name and its words (`form_laws`);
 //! - an expanded text has at most 1,048,576 bytes, and depends on nothing but what is found for each name
 //!   (`expansion_laws`);
 //! - the winning form of a name is a form, no other beats it, and there is one such form alone (`winning_laws`);
@@ -29,9 +30,12 @@
 
 mod blanks;
 mod build_examples;
+mod cuts;
 mod entry;
 mod event;
 mod facts;
+mod form;
+mod form_examples;
 mod grammar_examples;
 mod graph_examples;
 mod in_order;
@@ -48,17 +52,22 @@ mod word_list;
 pub use blanks::{
     after_blanks, is_a_blank, is_white_space, kept_len, skipped, unblanked, white_at,
 };
+pub use cuts::{place_of, split_at};
 pub use entry::{EntryLine, Late, LateLine, Op};
 pub use event::{Avail, Cut, Event, Logged, Status, Why};
 pub use facts::{FactSet, Graph, Node, Package, RecipeFacts, Target, TaskFacts, TaskId};
-pub use in_order::put_in_order;
+pub use form::{Form, FormKind, form_of, is_form, told_name};
+pub use in_order::{in_byte_order, put_in_order};
 pub use laws::{
-    build_laws, entry_laws, expansion_laws, one_meaning, reading_laws, step_laws, winning_laws,
+    build_laws, entry_laws, expansion_laws, form_laws, one_meaning, reading_laws, step_laws,
+    winning_laws,
 };
 pub use line::{Kind, Line, Place, SyntaxFault};
 pub use plan::{MAX_OUTPUT_PATH, Options, Plan, PlanTask};
 pub use quoting::{Quoting, push_escaped};
 pub use statement::Statement;
-pub use task_words::{is_shell_name, task_name};
+pub use task_words::{are_name_bytes, is_shell_name, task_name};
 pub use value::{Key, KeyLine, Resolved, copy_value};
-pub use word_list::{as_texts, drop_words, is_among, push_piece, push_words, words};
+pub use word_list::{
+    as_texts, drop_words, is_among, push_piece, push_words, spaced, words, words_in,
+};

@@ -5,7 +5,7 @@ use Rattle.meta_model.specs.Refusal.{Refusal, unstable, ◌>>=◌}
 use Rattle.meta_model.specs.declared.entry.EntryLine.{EntryLine}
 use Rattle.meta_model.specs.Text.{texts_eq, colon_pieces}
 use Rattle.meta_model.specs.Overrides.{resolved}
-use Rattle.meta_model.specs.Expansion.{value_by}
+use Rattle.meta_model.specs.Expansion.{found_by, value_by}
 use Rattle.meta_model.specs.Active.{pass, settled, active}
 use Rattle.override_eval.specs.Settled.{pass_of, settled_by, active_by, overrides_under}
 
@@ -33,7 +33,7 @@ two_steps (Ok text) = refl
 two_steps (Err refusal) = refl
 
 one_pass : (list : List EntryLine) (before : List (List ℕ)) → pass_of (overrides_under list) before ≡ pass list before
-one_pass list before = two_steps (value_by (λ name. Ok (resolved list before name)) (codes "OVERRIDES"))
+one_pass list before = two_steps (value_by (found_by (λ name. Ok (resolved list before name))) (codes "OVERRIDES"))
 
 same_next : (first : Result (List (List ℕ)) Refusal) (f g : List (List ℕ) → Result (List (List ℕ)) Refusal) → ((x : List (List ℕ)) → f x ≡ g x) → (first >>= f) ≡ (first >>= g)
 same_next (Ok x) f g h = h x

@@ -4,7 +4,7 @@ use Rattle.meta_model.specs.declared.entry.EntryLine.{EntryLine}
 use Rattle.meta_model.specs.Refusal.{Refusal, unstable, ◌>>=◌}
 use Rattle.meta_model.specs.Text.{texts_eq, colon_pieces}
 use Rattle.meta_model.specs.Overrides.{resolved}
-use Rattle.meta_model.specs.Expansion.{value_by}
+use Rattle.meta_model.specs.Expansion.{found_by, value_by}
 
 -- One pass: the text under the list of the pass before, cut at its colons ("Conditional Metadata").
 abbrev pub pass_of : (List (List ℕ) → Result (List ℕ) Refusal) → List (List ℕ) → Result (List (List ℕ)) Refusal
@@ -21,4 +21,4 @@ active_by pass = pass [] >>= settled_by pass 4 []
 
 -- The text that the entries give: the value of OVERRIDES under these active overrides, or no characters where it is absent.
 abbrev pub overrides_under : List EntryLine → List (List ℕ) → Result (List ℕ) Refusal
-overrides_under list before = value_by (λ name. Ok (resolved list before name)) (codes "OVERRIDES") >>= λ text. Ok (unwrap_or text [])
+overrides_under list before = value_by (found_by (λ name. Ok (resolved list before name))) (codes "OVERRIDES") >>= λ text. Ok (unwrap_or text [])

@@ -1,5 +1,5 @@
 -- Plans of which nothing was left out are blind.
-use Rattle.std.proofs.Common.{◌≡◌, ◌∙◌, ◌<◌, sym, ap, subst, ℕ, zero, List, [], ◌∷◌, Bool, false, Some, Ok, All, get_or, codes, slice_get}
+use Rattle.std.proofs.Common.{◌≡◌, ◌∙◌, ◌<◌, sym, ap, subst, ℕ, zero, List, [], ◌∷◌, Bool, false, Some, Result, Ok, Err, inl, inr, All, get_or, codes, slice_get}
 use Rattle.std.specs.Prelude.{slice_index_or}
 use Rattle.std.specs.Result.{result_ok}
 use Rattle.std.proofs.lemmas.Option.{slice_get-get_or, slice_get_within, get_or_from_slice_get}
@@ -8,12 +8,13 @@ use Rattle.meta_model.specs.declared.facts.Node.{Node}
 use Rattle.meta_model.specs.declared.value.Key.{Key}
 use Rattle.meta_model.specs.declared.plan.PlanTask.{PlanTask}
 use Rattle.meta_model.specs.CleanBuild.{Gives}
-use Rattle.meta_model.specs.Refusal.{Refusal}
+use Rattle.meta_model.specs.Refusal.{Refusal, too_deep}
 use Rattle.meta_model.specs.Text.{is_in}
 use Rattle.load_model.specs.Facts.{RecipeSet}
+use Rattle.task_model.specs.TaskRefusal.{TaskRefusal, IsSameUnlessTooDeep, no_value}
 use Rattle.task_model.specs.Leads.{value_words}
 use Rattle.task_model.specs.Keys.{key}
-use Rattle.task_model.specs.Scripts.{script_of, places_of, is_sstate_of, with_lines}
+use Rattle.task_model.specs.Scripts.{script, places, script_of, places_of, is_sstate_of, with_lines}
 use Rattle.task_model.proofs.StoreLaw.{script_is, places_are}
 use Rattle.task_model.proofs.KeyNames.{sstate_is}
 use Rattle.store_model.specs.Origins.{Book, Line, Reading}
@@ -37,6 +38,11 @@ shared_told store name made shared is told =
     let words = ok_parts (value_words store (codes "SSTATETASKS")) (λ tasks. Ok (is_in name tasks)) shared told in
     sstate_is store name made words.0 is words.1 ∙ same_ok {E = Refusal} (is_in name words.0) shared words.2
 
+-- what is given isn't too deep
+given_same : {A : Type 0} (one other : Result A TaskRefusal) (a : A) → IsSameUnlessTooDeep one other → one ≡ Ok a → other ≡ Ok a
+given_same one other a (inl e) is = sym e ∙ is
+given_same one other a (inr deep) is = absurd (let no : Err (no_value (too_deep deep.0)) ≡ Ok a = sym deep.1 ∙ is in cc)
+
 -- a task of a node is blind where nothing is left out of its key
 blind_of_node : (gives : Gives) (files : Files) (set : RecipeSet) (node : Node) (task : PlanTask) → IsOfNode files set node task → task.key.excluded ≡ false → IsBlind gives key_reading task
 blind_of_node gives files set node task is whole =
@@ -49,10 +55,10 @@ blind_of_node gives files set node task is whole =
     record {
       script = task.script;
       is_script = ap (λ k. result_ok (script_of k task.id.task)) same ∙ ap (λ n. result_ok (script_of made n)) named
-          ∙ ap result_ok (sym (script_is store name made is.has.key_is none) ∙ is.has.script_is) ∙ ap Some (sym is.script);
+          ∙ ap result_ok (given_same (script store name) (script_of made name) is.parts.script (script_is store name made is.has.key_is none) is.has.script_is) ∙ ap Some (sym is.script);
       same = λ tree. record { forth = λ t e. e; back = λ t e. e };
       places = ap (λ k. result_ok (places_of k task.id.task)) same ∙ ap (λ n. result_ok (places_of made n)) named
-          ∙ ap result_ok (sym (places_are store name made is.has.key_is none) ∙ is.has.places_are) ∙ ap Some (sym is.places);
+          ∙ ap result_ok (given_same (places store name) (places_of made name) is.parts.places (places_are store name made is.has.key_is none) is.has.places_are) ∙ ap Some (sym is.places);
       sstate = ap (λ k. is_sstate_of k task.id.task) same ∙ ap (λ n. is_sstate_of made n) named
           ∙ shared_told store name made is.parts.sstate is.has.key_is is.has.shared_is ∙ sym is.sstate;
     }

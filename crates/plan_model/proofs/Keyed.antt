@@ -9,7 +9,7 @@ use Rattle.meta_model.specs.declared.entry.EntryLine.{EntryLine}
 use Rattle.meta_model.specs.declared.value.Key.{Key}
 use Rattle.meta_model.specs.declared.value.KeyLine.{KeyLine}
 use Rattle.meta_model.specs.Text.{is_in}
-use Rattle.task_model.specs.Leads.{View, view_of, is_key_name}
+use Rattle.task_model.specs.Leads.{View, view_of, has_part}
 use Rattle.task_model.specs.Keys.{key, key_over}
 use Rattle.meta_model.specs.Ascending.{Above, Ascending}
 use Rattle.task_model.proofs.Least.{reached_ascending}
@@ -61,6 +61,6 @@ key_has_no_order store task made other e = All-from_recursion (λ l. is_order l 
         by true h =
             let view = viewed store task made e in
             let is : name ≡ order_name = same_text name order_name h in
-            let fits : (is_key_name name || bytes_eq name view.0.task) ≡ true = names_fit_in view.0 made name view.1 there in
-            let same : bytes_eq order_name task ≡ true = subst (λ n. (is_key_name n || bytes_eq n task) ≡ true) is (subst (λ t. (is_key_name name || bytes_eq name t) ≡ true) view.2 fits) in
+            let fits : (has_part name || bytes_eq name view.0.task) ≡ true = names_fit_in view.0 made name view.1 there in
+            let same : bytes_eq order_name task ≡ true = subst (λ n. (has_part n || bytes_eq n task) ≡ true) is (subst (λ t. (has_part name || bytes_eq name t) ≡ true) view.2 fits) in
             not_both (bytes_eq task order_name) (subst (λ t. bytes_eq t order_name ≡ true) (same_text order_name task same) (text_itself order_name)) other

@@ -1,7 +1,7 @@
 // The names that all files together set and refer to.
 
 use crate::files::{Files, SourceFile, first_part};
-use meta_model::Statement;
+use meta_model::{Statement, form_of};
 use std::alloc::Global;
 use std::collections::BTreeMap;
 use tree_model::Mem;
@@ -45,11 +45,30 @@ pub(crate) struct Known {
     pub(crate) set: Names,
     /// The names that are referred to, each with the first place.
     pub(crate) referred: Referred,
+    /// The names in whose values a form seeks words.
+    pub(crate) asked: Names,
     /// The tasks that are taken away somewhere.
     pub(crate) dropped: Names,
 }
 
-/// Notes the references of a text. A name is looked for behind each `${`, up to the next brace.
+/// Notes what stands between `${` and `}`: a form, by the name that it asks for, or a name that is referred to.
+fn note_inside(
+    known: &mut Known,
+    alloc: Global,
+    number: usize,
+    line: u32,
+    inside: &str,
+) -> Result<(), Mem> {
+    if let Some(form) = form_of(alloc, inside)? {
+        return put_name(&mut known.asked, alloc, form.name.as_str());
+    }
+    if known.referred.get(inside).is_none() {
+        put_value(&mut known.referred, alloc, inside, (number, line))?;
+    }
+    Ok(())
+}
+
+/// Notes the references and forms of a text. They are looked for behind each `${`, up to the next brace.
 fn note_references(
     known: &mut Known,
     alloc: Global,
@@ -58,10 +77,8 @@ fn note_references(
     text: &str,
 ) -> Result<(), Mem> {
     for piece in text.split("${").skip(1) {
-        if let Some((name, _)) = piece.split_once('}')
-            && known.referred.get(name).is_none()
-        {
-            put_value(&mut known.referred, alloc, name, (number, line))?;
+        if let Some((inside, _)) = piece.split_once('}') {
+            note_inside(known, alloc, number, line, inside)?;
         }
     }
     Ok(())
@@ -136,6 +153,7 @@ pub(crate) fn known_of(alloc: Global, files: &Files, set: Names) -> Result<Known
     let mut known = Known {
         set,
         referred: BTreeMap::new(alloc),
+        asked: BTreeMap::new(alloc),
         dropped: BTreeMap::new(alloc),
     };
     for name in BUILT_IN {

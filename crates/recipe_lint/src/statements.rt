@@ -56,8 +56,8 @@ fn check_name(
 ) -> Result<(), Mem> {
     check_spelling(alloc, place, name, notes)?;
     let first = first_part(name);
-    // (what a value refers to has the effect that the project gives it)
-    if known.referred.get(first).is_some() {
+    // (what a value refers to, or a form asks for, has the effect that the project gives it)
+    if known.referred.get(first).is_some() || known.asked.get(first).is_some() {
         return Ok(());
     }
     check_effect(alloc, place, first, effect_of(first.as_bytes()), notes)

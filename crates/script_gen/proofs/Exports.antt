@@ -12,7 +12,7 @@ use Rattle.task_model.proofs.Faithful.{faithful}
 use Rattle.task_model.proofs.ScriptLaw.{filter_in, told_same}
 
 -- a name whose value has the flag `export` has it in the store
-flagged : (store : List EntryLine) (task x : List ℕ) (m : Result (Option Resolved) Refusal) → seen_by task (find_in store) x ≡ m → has_flag (codes "export") (known m) ≡ true → is_some (flag store x (codes "export")) ≡ true
+flagged : (store : List EntryLine) (task x : List ℕ) (m : Result (Option Resolved) Refusal) → (seen_by task (find_in store)).at x ≡ m → has_flag (codes "export") (known m) ≡ true → is_some (flag store x (codes "export")) ≡ true
 flagged store task x (Ok (Some found)) e h = sym (ap is_some ((faithful store task [] []).exported x found e)) ∙ h
 flagged store task x (Ok None) e h = absurd cc
 flagged store task x (Err refusal) e h = absurd cc
@@ -25,4 +25,4 @@ exports_told store task =
     let test : List ℕ → Bool = λ n. is_some (flag store n (codes "export")) in
     told_same (codes "export") find find (filter test (names store)) (names store)
     (λ x h k t. (filter_in test (names store) x h, t))
-    (λ x h k t. (filtered_in test (names store) x (λ e. h) ∙ flagged store task x (find x) refl t, t))
+    (λ x h k t. (filtered_in test (names store) x (λ e. h) ∙ flagged store task x (find.at x) refl t, t))

@@ -13,7 +13,7 @@ use Rattle.task_model.specs.Views.{is_function, seen_by}
 use Rattle.task_model.specs.Leads.{is_key_name}
 use Rattle.task_model.specs.Keys.{key}
 use Rattle.task_model.specs.TaskRefusal.{TaskRefusal, bad_flag, ◌>>=◌, asked, require}
-use Rattle.task_model.specs.Scripts.{Flags, Frame, flag_at, places_of, script_of, value_at, all_functions, all_places, body, flag_text, folders, functions_in, is_on, is_path, line_names, paired, place_of, places_from, script, script_from, store_flags, told_names, told_values}
+use Rattle.task_model.specs.Scripts.{Flags, Frame, find_at, flag_at, places_of, script_of, value_at, all_functions, all_places, body, flag_text, folders, functions_in, is_on, is_path, line_names, paired, place_of, places_from, script, script_from, store_flags, told_names, told_values}
 use Rattle.script_gen.specs.Steps.{called, place_in, told_value, begun, written, placed, side}
 use Rattle.script_gen.specs.declared.fault.ScriptFault.{ScriptFault}
 use Rattle.script_gen.specs.Faults.{IsScriptFault}
@@ -40,7 +40,7 @@ value_step (Ok text) name n = refl
 value_step (Err refusal) name n = refl
 
 pub functions_in_turn : (find : Find) (f : List ℕ) → IsInTurn (called find f) (all_functions find f)
-functions_in_turn find f word rest = called_step (is_key_name word) (asked (find word)) (bad_flag f word) word (all_functions find f rest)
+functions_in_turn find f word rest = called_step (is_key_name word) (asked (find.at word)) (bad_flag f word) word (all_functions find f rest)
 
 pub places_in_turn : (f : List ℕ) → IsInTurn (place_in f) (all_places f)
 places_in_turn f word rest = required (bytes_eq (place_of word) (codes ".") || is_path (place_of word)) (bad_flag f word) (place_of word) (all_places f rest)
@@ -74,7 +74,7 @@ body_written find names functions task frame false = refl
 
 pub script_steps : (find : Find) (flags : Flags) (names functions : Names) (task : List ℕ) → script_from find flags names functions task ≡ (begun find flags task >>= written find (told_names (codes "export") find names) (told_names (codes "func") find functions) task)
 script_steps find flags names functions task =
-    begun_then (folders find flags (codes "cleandirs")) (folders find flags (codes "dirs")) (flag_text find flags (codes "noexec")) (functions_in find flags (codes "postfuncs")) (functions_in find flags (codes "prefuncs")) (asked (find task))
+    begun_then (folders find flags (codes "cleandirs")) (folders find flags (codes "dirs")) (flag_text find flags (codes "noexec")) (functions_in find flags (codes "postfuncs")) (functions_in find flags (codes "prefuncs")) (asked (find.at task))
     (body find names functions task) (written find (told_names (codes "export") find names) (told_names (codes "func") find functions) task) (body_written find names functions task)
 
 -- the script of a task whose key is known
@@ -136,25 +136,22 @@ both_given find flags inputs outputs e f = goes_on (side find flags (codes "ssta
 
 -- by the lines of a key
 
-abbrev pub lines_find : List KeyLine → Find
-lines_find lines name = Ok (value_at lines name)
-
 abbrev pub lines_flags : List KeyLine → List ℕ → Flags
 lines_flags lines task f = flag_at f (value_at lines task)
 
-pub places_by : (made : Key) (lines : List KeyLine) (task t : List ℕ) → lines ≡ made.lines → t ≡ task → places_of made task ≡ placed (seen_by t (lines_find lines)) (lines_flags lines t)
+pub places_by : (made : Key) (lines : List KeyLine) (task t : List ℕ) → lines ≡ made.lines → t ≡ task → places_of made task ≡ placed (seen_by t (find_at lines)) (lines_flags lines t)
 places_by made lines task t l e =
-    places_steps (seen_by task (lines_find made.lines)) (lines_flags made.lines task)
-    ∙ ap (λ ls. placed (seen_by task (lines_find ls)) (lines_flags ls task)) (sym l)
-    ∙ ap (λ n. placed (seen_by n (lines_find lines)) (lines_flags lines n)) (sym e)
+    places_steps (seen_by task (find_at made.lines)) (lines_flags made.lines task)
+    ∙ ap (λ ls. placed (seen_by task (find_at ls)) (lines_flags ls task)) (sym l)
+    ∙ ap (λ n. placed (seen_by n (find_at lines)) (lines_flags lines n)) (sym e)
 
 pub script_by : (made : Key) (lines : List KeyLine) (task t : List ℕ) → lines ≡ made.lines → t ≡ task
-    → script_of made task ≡ (begun (seen_by t (lines_find lines)) (lines_flags lines t) task >>= written (seen_by t (lines_find lines)) (told_names (codes "export") (seen_by t (lines_find lines)) (line_names made)) (told_names (codes "func") (seen_by t (lines_find lines)) (line_names made)) task)
+    → script_of made task ≡ (begun (seen_by t (find_at lines)) (lines_flags lines t) task >>= written (seen_by t (find_at lines)) (told_names (codes "export") (seen_by t (find_at lines)) (line_names made)) (told_names (codes "func") (seen_by t (find_at lines)) (line_names made)) task)
 script_by made lines task t l e =
     let by : Find → Flags → Result (List ℕ) TaskRefusal = λ find flags. begun find flags task >>= written find (told_names (codes "export") find (line_names made)) (told_names (codes "func") find (line_names made)) task in
-    script_steps (seen_by task (lines_find made.lines)) (lines_flags made.lines task) (line_names made) (line_names made) task
-    ∙ ap (λ ls. by (seen_by task (lines_find ls)) (lines_flags ls task)) (sym l)
-    ∙ ap (λ n. by (seen_by n (lines_find lines)) (lines_flags lines n)) (sym e)
+    script_steps (seen_by task (find_at made.lines)) (lines_flags made.lines task) (line_names made) (line_names made) task
+    ∙ ap (λ ls. by (seen_by task (find_at ls)) (lines_flags ls task)) (sym l)
+    ∙ ap (λ n. by (seen_by n (find_at lines)) (lines_flags lines n)) (sym e)
 
 -- a name with its value
 pub value_told : (find : Find) (name : List ℕ) (text : Option (List ℕ)) (made : List ℕ) → value_by find name ≡ Ok text → made ≡ unwrap_or text [] → told_value find name ≡ Ok (name, made)

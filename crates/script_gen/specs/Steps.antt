@@ -18,7 +18,7 @@ folder_of f word = do
 abbrev pub called : Find → List ℕ → List ℕ → Result (List ℕ) TaskRefusal
 called find f word = do
   named ← require (is_key_name word) (bad_flag f word)
-  found ← asked (find word)
+  found ← asked (find.at word)
   there ← require (is_function found) (bad_flag f word)
   Ok word
 
@@ -67,7 +67,7 @@ framed find flags = do
 abbrev pub begun : Find → Flags → List ℕ → Result (Option Frame) TaskRefusal
 begun find flags task = do
   frame ← framed find flags
-  own ← asked (find task)
+  own ← asked (find.at task)
   Ok (if is_function own && not (is_on frame.1) then Some frame.0 else None)
 
 -- the text of a script

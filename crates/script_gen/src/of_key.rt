@@ -2,11 +2,11 @@
 ghost use Rattle.std.specs.Prelude.{◌≡◌, ◌++◌, ◌∷◌, [], IfOk, map, option_copied};
 ghost use Rattle.std.specs.Bool.{OnTrue};
 ghost use Rattle.meta_model.specs.Text.{in_byte_order};
-ghost use Rattle.task_model.specs.Scripts.{value_at};
+ghost use Rattle.task_model.specs.Scripts.{value_at, words_of_line};
 ghost use Rattle.script_gen.specs.Index.{IsIndex};
 
 use crate::sight::Sight;
-use meta_model::{Key, KeyLine, Resolved, copy_value};
+use meta_model::{Key, KeyLine, Resolved, copy_value, told_name, words};
 use name_walk::place_of;
 use std::alloc::Global;
 use tree_model::{Mem, Text, Texts};
@@ -97,16 +97,30 @@ impl OfKey<'_> {
     }
 }
 
-impl Lookup for OfKey<'_> {
-    ghost use Rattle.std.specs.Prelude.{Ok};
-    ghost use Rattle.task_model.specs.Views.{seen_by};
-    ghost use Rattle.task_model.specs.Scripts.{value_at};
+/// The words that the line of a form tells.
+fn words_of_line(alloc: Global, found: Option<&Resolved>) -> Result<Texts, Mem>
+    ensures { IfOk result (λ made. made ≡ words_of_line (option_copied found.entry)) }
+{
+    match found {
+        Some(found) => words(alloc, found.text.as_str()),
+        None => Ok(Texts::new(alloc)),
+    }
+}
 
-    ghost finds = { λ s. seen_by s.task.now (λ name. Ok (value_at s.lines.now name)) };
+impl Lookup for OfKey<'_> {
+    ghost use Rattle.task_model.specs.Views.{seen_by};
+    ghost use Rattle.task_model.specs.Scripts.{find_at};
+
+    ghost finds = { λ s. seen_by s.task.now (find_at s.lines.now) };
 
     fn find(&self, alloc: Global, name: &str) -> Result<Option<Resolved>, ExpandFault> {
         let found = copy_value(self.value_of(name))?;
         Ok(unless_bare(found, name == self.task))
+    }
+
+    fn known(&self, alloc: Global, name: &str, wanted: &[Text]) -> Result<Option<Texts>, Mem> {
+        let line = told_name(alloc, name, wanted)?;
+        Ok(Some(words_of_line(alloc, self.value_of(line.as_str()))?))
     }
 }
 

@@ -4,6 +4,7 @@ ghost use Rattle.std.specs.Prelude.{◌≡◌, List, ℕ, Option, option_copied}
 use datastore::Datastore;
 use meta_model::Resolved;
 use std::alloc::Global;
+use tree_model::{Mem, Text, Texts};
 use var_deps::found_by;
 use var_expand::{ExpandFault, Lookup};
 
@@ -32,6 +33,10 @@ impl Lookup for OfStore<'_> {
 
     fn find(&self, alloc: Global, name: &str) -> Result<Option<Resolved>, ExpandFault> {
         found_by(alloc, self.store, self.task, name)
+    }
+
+    fn known(&self, _alloc: Global, _name: &str, _wanted: &[Text]) -> Result<Option<Texts>, Mem> {
+        Ok(None)
     }
 }
 

@@ -16,7 +16,7 @@ use var_expand::{ExpandFault, Lookup, value};
 
 /// Whether a name has a value and the flag. A name of which nothing can be found has none.
 fn is_flagged<L: Lookup>(alloc: Global, from: &L, flag: &str, name: &str) -> Result<bool, Mem>
-    ensures { IfOk result (λ made. made ≡ has_flag flag.now (known (L.finds from.now name.now))) }
+    ensures { IfOk result (λ made. made ≡ has_flag flag.now (known ((L.finds from.now).at name.now))) }
 {
     match from.find(alloc, name) {
         Ok(Some(found)) => Ok(flag_of(&found, flag).is_some()),

@@ -200,12 +200,18 @@ impl<
     fn take_told(&mut self, max: &Size) -> io::Result<Option<Tree>>
         ensures { self.new.faults ≡ self.old.faults }
     {
+        let excess = self.site.excess(max)?;
         let taken = self.site.take(max)?;
         if let Some(kept) = &self.kept {
             let site = &self.site;
             match &self.script {
                 Some(script) if taken.is_none() => {
-                    kept.keep_too_large(&site.rt, site.folder(), script.as_str())?;
+                    kept.keep_too_large(
+                        &site.rt,
+                        site.folder(),
+                        script.as_str(),
+                        excess.as_deref(),
+                    )?;
                 }
                 _ => kept.keep_log(&site.rt, site.folder())?,
             }
@@ -306,6 +312,14 @@ impl<'a, R: Files<File = File> + Env + Processes + Clock + AllocGlobal + Clone +
         match left {
             Some(items) if is_within(&items, max) => self.read_items(work, items, max),
             _ => Ok(None),
+        }
+    }
+
+    /// What of the work folder exceeds the limit, where that is told by what was found there.
+    fn excess(&self, max: &Size) -> Result<Option<String>, AllocError> {
+        match &self.left {
+            Some(items) => excess_of(self.rt.alloc(), items, max),
+            None => Ok(None),
         }
     }
 
@@ -434,6 +448,36 @@ impl<
 /// The times of a file that is laid.
 fn laid_times() -> FileTimes {
     FileTimes::new().set_modified(UNIX_EPOCH + Duration::from_secs(LAID_AT))
+}
+
+/// What of these exceeds the limit, in words, where something does.
+fn excess_of(alloc: Global, items: &[Item], max: &Size) -> Result<Option<String>, AllocError> {
+    let number = items.len() as u64;
+    if number > max.entries {
+        let most = max.entries;
+        let said = format!(in alloc; "{number} files and links, of at most {most}")?;
+        return Ok(Some(said));
+    }
+    let mut bytes = 0u64;
+    for item in items {
+        let length = item.facts.length;
+        bytes = bytes.saturating_add(length);
+        if length > max.largest {
+            let (path, most) = (item.path.as_str(), max.largest);
+            let said = format!(in alloc;
+                "{length} bytes in {path}, of at most {most} in one file"
+            )?;
+            return Ok(Some(said));
+        }
+    }
+    if bytes <= max.bytes {
+        return Ok(None);
+    }
+    let most = max.bytes;
+    let said = format!(in alloc;
+        "{bytes} bytes in {number} files and links, of at most {most} in all"
+    )?;
+    Ok(Some(said))
 }
 
 /// Whether the sum of the lengths, and each of them, is within the limit.

@@ -134,12 +134,25 @@ impl Kept {
         Ok(())
     }
 
-    /// Keeps what a task had whose output is too large.
+    /// Keeps what a task had whose output is too large, and shows on standard error what of it is, where that is known.
     pub fn keep_too_large<
         R: Files<File = File> + Env + Processes + Telling + AllocGlobal + Clone + Drop,
-    >(&self, rt: &R, bench: &str, script: &str) -> Result<(), AllocError> {
+    >(&self, rt: &R, bench: &str, script: &str, excess: Option<&str>) -> Result<(), AllocError> {
         self.keep_log(rt, bench)?;
-        rt.tell(self.trial(rt, bench, script)?.as_str());
+        let trial = self.trial(rt, bench, script)?;
+        match excess {
+            Some(excess) => {
+                let mut said = format!(in rt.alloc();
+                    "bitbake: limit: {} left ",
+                    self.task.as_str()
+                )?;
+                put_escaped(&mut said, excess.as_bytes())?;
+                said.push('\n')?;
+                said.push_str(trial.as_str())?;
+                rt.tell(said.as_str());
+            }
+            None => rt.tell(trial.as_str()),
+        }
         Ok(())
     }
 

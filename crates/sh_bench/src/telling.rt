@@ -1,4 +1,5 @@
 // Standard error.
+use progress_line::tell;
 
 /// A runtime that can write to standard error.
 pub trait Telling {
@@ -8,6 +9,6 @@ pub trait Telling {
 
 impl Telling for HostRuntime {
     fn tell(&self, text: &str) {
-        let _ = self.stderr().write_all(text.as_bytes());
+        tell(self, text);
     }
 }

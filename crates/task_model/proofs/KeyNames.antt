@@ -1,5 +1,5 @@
 -- The names of a key, and what its task's line says.
-use Rattle.std.proofs.Common.{◌≡◌, ◌++◌, refl, sym, ◌∙◌, ap, subst, ℕ, List, ◌∷◌, Bool, true, false, Option, Some, None, is_some, Result, Ok, bytes_eq, codes, if◌then◌else◌}
+use Rattle.std.proofs.Common.{◌≡◌, ◌++◌, refl, sym, ◌∙◌, ap, subst, ℕ, List, ◌∷◌, Bool, true, false, ◌||◌, Option, Some, None, is_some, Result, Ok, bytes_eq, codes, if◌then◌else◌}
 use Rattle.meta_model.proofs.Bools.{or_first, text_itself}
 use Rattle.meta_model.proofs.Room.{ok_parts}
 use Rattle.meta_model.specs.declared.entry.EntryLine.{EntryLine}
@@ -7,6 +7,7 @@ use Rattle.meta_model.specs.declared.value.Resolved.{Resolved}
 use Rattle.meta_model.specs.declared.value.Key.{Key}
 use Rattle.meta_model.specs.Refusal.{Refusal, ◌>>=◌}
 use Rattle.meta_model.specs.Text.{is_in, in_byte_order}
+use Rattle.meta_model.specs.Forms.{asked_by}
 use Rattle.task_model.specs.Leads.{View, Led, view_of, value_words, flag_words, exported, starting, without}
 use Rattle.task_model.specs.Keys.{led_to, Told, IsLeast, key, key_over, lines_of, reached, own_value, task_value}
 use Rattle.task_model.specs.Scripts.{line_names, value_at, flag_at, is_sstate_of}
@@ -75,7 +76,7 @@ names_are_reached view made start e s =
 -- a key starts with its task
 
 abbrev start_of : View → Led → Led
-start_of view others = record { names = view.task ∷ others.names; left_out = others.left_out }
+start_of view others = record { names = view.task ∷ others.names; left_out = is_some (asked_by view.task) || others.left_out }
 
 task_starts : (view : View) (start : Led) → starting view ≡ Ok start → is_in view.task start.names ≡ true
 task_starts view start e =

@@ -7,7 +7,8 @@
 //! (`specs/Views`). `specs/Meeting` says what names meet in expansion.
 //!
 //! The crate has no code: its public functions have empty bodies, and their contracts are the laws (`laws`) and worked
-//! examples (`key_examples`). Proved are the law of keys, that the names of a key are the least set, that other lines in a key
+//! examples (`key_examples`). Proved are the law of keys (a key
+//! tells of the name that a form asks for which of the form's words are there, and nothing else), that the names of a key are the least set, that other lines in a key
 //! change nothing, what tasks of one store share, and two laws of kept values.
 #![tactic(auto)]
 
@@ -15,8 +16,8 @@ mod key_examples;
 mod laws;
 
 pub use key_examples::{
-    example_of_calls, example_of_corners, example_of_exclusion, example_of_exports,
-    example_of_hello, example_of_key_flags, example_of_library, example_of_places,
-    example_of_script_flags,
+    example_of_asked_words, example_of_calls, example_of_corners, example_of_exclusion,
+    example_of_exports, example_of_hello, example_of_key_flags, example_of_library,
+    example_of_places, example_of_script_flags,
 };
 pub use laws::{depth_laws, key_laws, least_laws, other_line_laws, shared_laws, table_laws};

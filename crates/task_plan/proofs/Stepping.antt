@@ -43,17 +43,20 @@ module _ (files : Files) (file : List ℕ) (store : List EntryLine) (task : List
   abbrev behind : Key → Result Parts PlanRefusal
   behind made = task_inputs files file store task bytes >>= λ inputs. shell_of file store task >>= λ shell. Ok (parts_with task made inputs shell)
 
+  -- the same, as it is defined
+  abbrev after_key : Key → Result Parts PlanRefusal
+  after_key made = task_inputs files file store task bytes >>= λ inputs. script_told file store task >>= λ text. places_told file store task >>= λ pairs. nostamp_told file store task >>= λ nostamp. refused_as (no_value file) (is_shared store task) >>= λ shared. Ok (record { key = made; inputs = inputs; script = text; places = pairs; nostamp = nostamp; sstate = shared })
+
   pub parts_is : (made : Key) → key store task ≡ Ok made → parts_of files file store task bytes ≡ behind made
   parts_is made e =
       let told : key_told file store task ≡ Ok made = ap (refused_as (no_value file)) e in
       let shared : refused_as (no_value file) (is_shared store task) ≡ Ok (is_sstate_of made task) = ap (refused_as (no_value file)) (shared_is store task made e) in
-      goes_on (key_told file store task) made
-      (λ made. task_inputs files file store task bytes >>= λ inputs. script_told file store task >>= λ text. places_told file store task >>= λ pairs. nostamp_told file store task >>= λ nostamp. refused_as (no_value file) (is_shared store task) >>= λ shared. Ok (record { key = made; inputs = inputs; script = text; places = pairs; nostamp = nostamp; sstate = shared })) told
-      ∙ whole task made (task_inputs files file store task bytes) (script_told file store task) (places_told file store task) (nostamp_told file store task) (refused_as (no_value file) (is_shared store task)) shared
+      let first : parts_of files file store task bytes ≡ after_key made = goes_on (key_told file store task) made after_key told in
+      let second : after_key made ≡ behind made = whole task made (task_inputs files file store task bytes) (script_told file store task) (places_told file store task) (nostamp_told file store task) (refused_as (no_value file) (is_shared store task)) shared in
+      first ∙ second
 
   pub key_refused : (fault : PlanFault) → IsPlanFault fault (key_told file store task) → IsPlanFault fault (parts_of files file store task bytes)
-  key_refused fault h = plan_on fault (key_told file store task)
-      (λ made. task_inputs files file store task bytes >>= λ inputs. script_told file store task >>= λ text. places_told file store task >>= λ pairs. nostamp_told file store task >>= λ nostamp. refused_as (no_value file) (is_shared store task) >>= λ shared. Ok (record { key = made; inputs = inputs; script = text; places = pairs; nostamp = nostamp; sstate = shared })) h
+  key_refused fault h = plan_on fault (key_told file store task) after_key h
 
   pub inputs_refused : (made : Key) (fault : PlanFault) → key store task ≡ Ok made → IsPlanFault fault (task_inputs files file store task bytes) → IsPlanFault fault (parts_of files file store task bytes)
   inputs_refused made fault e h = plan_same fault (parts_of files file store task bytes) (behind made) (parts_is made e) (plan_on fault (task_inputs files file store task bytes) (λ inputs. shell_of file store task >>= λ shell. Ok (parts_with task made inputs shell)) h)

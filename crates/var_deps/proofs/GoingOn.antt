@@ -5,7 +5,7 @@ use Rattle.meta_model.proofs.Room.{ok_parts}
 use Rattle.meta_model.proofs.Winner.{in_filter, filter_passes}
 use Rattle.meta_model.specs.Refusal.{Refusal, ◌>>=◌}
 use Rattle.meta_model.specs.Text.{is_in}
-use Rattle.task_model.specs.Leads.{View, Led, by_value, by_flags, flag_words, is_key_name, without}
+use Rattle.task_model.specs.Leads.{View, Led, by_value, by_flags, flag_words, has_part, is_omitted, without}
 use Rattle.task_model.specs.Keys.{Told, IsLeast, led_to, names_led}
 use Rattle.task_model.proofs.Agree.{in_front, in_behind}
 use Rattle.task_model.proofs.Least.{in_either}
@@ -67,9 +67,9 @@ goes_on_from plain led task names todo reached rest least same more own all some
 
 within_without : (omitted a b : Names) (x : List ℕ) → ((y : List ℕ) → is_in y a ≡ true → is_in y b ≡ true) → is_in x (without omitted a).names ≡ true → is_in x (without omitted b).names ≡ true
 within_without omitted a b x sub h =
-    let there = filter_in (λ n. not (is_in n omitted)) (filter is_key_name a) x h in
-    in_filter (λ n. not (is_in n omitted)) (filter is_key_name b) x (filter_passes (λ n. not (is_in n omitted)) (filter is_key_name a) x h)
-    (in_filter is_key_name b x (filter_passes is_key_name a x there) (sub x (filter_in is_key_name a x there)))
+    let there = filter_in (λ n. not (is_omitted omitted n)) (filter has_part a) x h in
+    in_filter (λ n. not (is_omitted omitted n)) (filter has_part b) x (filter_passes (λ n. not (is_omitted omitted n)) (filter has_part a) x h)
+    (in_filter has_part b x (filter_passes has_part a x there) (sub x (filter_in has_part a x there)))
 
 abbrev led_from : Names → Result Names Refusal → Result Names Refusal → Result Names Refusal → Result Names Refusal → Result Led Refusal
 led_from ignored v f d e = (v >>= λ value. f >>= λ flags. d >>= λ deps. Ok (value ++ (flags ++ deps))) >>= λ all. e >>= λ excluded. Ok (without (ignored ++ excluded) all)
@@ -87,10 +87,10 @@ more_from ignored (Err refusal) f d e led x is h = absurd cc
 
 own_leads_more : (view : View) (name x : List ℕ) (told : Told) → read_line view true name ≡ Ok told → is_in x (names_led (read_led view false name)) ≡ true → is_in x (names_led (read_led view true name)) ≡ true
 own_leads_more view name x told e h =
-    let found = ok_parts (view.find name) (λ found. led_behind view true name found >>= λ led. line_behind view true name found led) told e in
+    let found = ok_parts (view.find.at name) (λ found. led_behind view true name found >>= λ led. line_behind view true name found led) told e in
     let led = ok_parts (led_behind view true name found.0) (λ led. line_behind view true name found.0 led) told found.2 in
-    let less : read_led view false name ≡ led_behind view false name found.0 = goes_on (view.find name) found.0 (led_behind view false name) found.1 in
-    let more : read_led view true name ≡ led_behind view true name found.0 = goes_on (view.find name) found.0 (led_behind view true name) found.1 in
+    let less : read_led view false name ≡ led_behind view false name found.0 = goes_on (view.find.at name) found.0 (led_behind view false name) found.1 in
+    let more : read_led view true name ≡ led_behind view true name found.0 = goes_on (view.find.at name) found.0 (led_behind view true name) found.1 in
     subst (λ l. is_in x (names_led l) ≡ true) (sym more)
     (more_from view.ignored (by_value view name found.0) (by_flags view true) (flag_words view name (codes "vardeps")) (flag_words view name (codes "vardepsexclude")) led.0 x led.1
     (subst (λ l. is_in x (names_led l) ≡ true) less h))

@@ -76,9 +76,8 @@ view_at store task ignored sstate a b =
 
 -- the key of a task is the key over what is kept
 pub key_is : (store : List EntryLine) (task : List ℕ) (own : Option (List ℕ)) (ignored : List (List ℕ)) (sstate : List (List ℕ)) (is : Bool)
-    → value_words store (codes "BB_BASEHASH_IGNORE_VARS") ≡ Ok ignored → value_words store (codes "SSTATETASKS") ≡ Ok sstate → is ≡ is_in task sstate → ((name : List ℕ) → seen_with store own name ≡ seen_by task (find_in store) name)
+    → value_words store (codes "BB_BASEHASH_IGNORE_VARS") ≡ Ok ignored → value_words store (codes "SSTATETASKS") ≡ Ok sstate → is ≡ is_in task sstate → seen_with store own ≡ seen_by task (find_in store)
     → key store task ≡ key_over (view_by store own ignored is task)
 key_is store task own ignored sstate is a b c seen =
-    let e : seen_with store own ≡ seen_by task (find_in store) = λ i. λ name. seen name i in
     ap (λ m. m >>= key_over) (view_at store task ignored sstate a b)
-    ∙ ap (λ f. key_over (record { task = task; find = f; flag = flag store; names = names store; ignored = ignored; sstate = is_in task sstate })) (sym e) ∙ ap (λ s. key_over (view_by store own ignored s task)) (sym c)
+    ∙ ap (λ f. key_over (record { task = task; find = f; flag = flag store; names = names store; ignored = ignored; sstate = is_in task sstate })) (sym seen) ∙ ap (λ s. key_over (view_by store own ignored s task)) (sym c)

@@ -22,7 +22,7 @@ parts_apart ignored (Err refusal) f d e = refl
 
 pub leads_read : (view : View) (own : Bool) (name : List ℕ) → bytes_eq name view.task ≡ own → leads view name ≡ read_led view own name
 leads_read view own name e =
-    rw e (bind_same (view.find name) (view.find name) _ _ refl (λ found h. parts_apart view.ignored (by_value view name found) (by_flags view own) (flag_words view name (codes "vardeps")) (flag_words view name (codes "vardepsexclude"))))
+    rw e (bind_same (view.find.at name) (view.find.at name) _ _ refl (λ found h. parts_apart view.ignored (by_value view name found) (by_flags view own) (flag_words view name (codes "vardeps")) (flag_words view name (codes "vardepsexclude"))))
 
 pub found_once : {A B C : Type 0} (m : Result A Refusal) (l : A → Result B Refusal) (k : A → B → Result C Refusal) → ((m >>= l) >>= λ led. m >>= λ found. k found led) ≡ (m >>= λ found. l found >>= λ led. k found led)
 found_once (Ok a) l k = refl
@@ -30,6 +30,6 @@ found_once (Err refusal) l k = refl
 
 pub line_read : (view : View) (own : Bool) (name : List ℕ) → bytes_eq name view.task ≡ own → line_of view name ≡ read_line view own name
 line_read view own name e =
-    ap (λ m. m >>= λ led. view.find name >>= λ found. line_behind view (bytes_eq name view.task) name found led) (leads_read view own name e)
-    ∙ ap (λ b. read_led view own name >>= λ led. view.find name >>= λ found. line_behind view b name found led) e
-    ∙ found_once (view.find name) (led_behind view own name) (line_behind view own name)
+    ap (λ m. m >>= λ led. view.find.at name >>= λ found. line_behind view (bytes_eq name view.task) name found led) (leads_read view own name e)
+    ∙ ap (λ b. read_led view own name >>= λ led. view.find.at name >>= λ found. line_behind view b name found led) e
+    ∙ found_once (view.find.at name) (led_behind view own name) (line_behind view own name)

@@ -9,7 +9,7 @@ use Rattle.meta_model.specs.declared.value.Resolved.{Resolved}
 use Rattle.task_model.specs.Views.{seen_by, is_bare}
 use Rattle.task_model.specs.Leads.{View}
 use Rattle.task_model.specs.Keys.{led_to, line_of, names_led}
-use Rattle.task_model.proofs.Shared.{seen_as_is}
+use Rattle.task_model.proofs.Shared.{one_find, seen_as_is}
 use Rattle.var_deps.specs.declared.line.Line.{Line}
 use Rattle.var_deps.specs.declared.line.Known.{Known}
 use Rattle.var_deps.specs.declared.table.Shared.{Shared}
@@ -18,6 +18,7 @@ use Rattle.var_deps.specs.Seen.{seen_with}
 use Rattle.var_deps.specs.Reading.{view_by}
 use Rattle.var_deps.specs.Known.{IsKnown, IsLine, read_led, read_line}
 use Rattle.var_deps.specs.Kept.{IsRight, IsReady, IsSame, StaysSo, shared_view, task_view}
+use Rattle.var_deps.specs.Leaders.{shared_led, shared_led_is, task_led, task_led_is}
 use Rattle.var_deps.proofs.Tables.{leads_read, line_read}
 
 pub on_err : {T E P : Type 0} (r : Result T E) → P → OnErr r P
@@ -55,7 +56,7 @@ pub ready_still : (t : Table) (s : Shared) → IsReady t → IsRight s → IsSam
 ready_still t s ready right same = record {
   right = right;
   own = subst (λ v. IsKnown v true t.task t.own) (sym (task_view_same t.shared s t.sstate t.task same)) ready.own;
-  seen = λ name. ap (λ o. seen_with s.seen.store.now o name) same.task ∙ ap (λ l. seen_with l t.shared.seen.task name) same.store ∙ ready.seen name ∙ ap (λ l. seen_by t.task (find_in l) name) (sym same.store);
+  seen = ap (λ o. seen_with s.seen.store.now o) same.task ∙ ap (λ l. seen_with l t.shared.seen.task) same.store ∙ ready.seen ∙ ap (λ l. seen_by t.task (find_in l)) (sym same.store);
 }
 
 -- what a name leads to
@@ -88,8 +89,8 @@ on_ok_pushed (Err x) new before led other e h = tt
 
 -- what is kept of a name by now is what is read of it
 
-pub led_kept : (old new : Shared) (name : List ℕ) (known : Known) (items : List (List ℕ)) → IsRight new → IsSame old new → get_by_text new.known name ≡ Some known → items ≡ known.led.items → items ≡ names_led (read_led (shared_view old) false name)
-led_kept old new name known items right same is e = let read = right.known name known is in e ∙ read.led ∙ ap (λ v. names_led (read_led v false name)) (view_same old new same)
+pub led_kept : (old new : Shared) (name : List ℕ) (known : Known) (items : List (List ℕ)) → IsRight new → IsSame old new → get_by_text new.known name ≡ Some known → items ≡ known.led.items → items ≡ shared_led old name
+led_kept old new name known items right same is e = let read = right.known name known is in e ∙ read.led ∙ ap (λ v. names_led (read_led v false name)) (view_same old new same) ∙ sym (ap (λ f. f name) (shared_led_is old))
 
 pub line_kept : (old new : Shared) (name name' : List ℕ) (known : Known) → IsRight new → IsSame old new → get_by_text new.known name' ≡ Some known → name' ≡ name → IsLine known.line name (read_line (shared_view old) false name)
 line_kept old new name name' known right same is e =
@@ -101,14 +102,31 @@ itself shared = record { store = refl; task = refl; ignored = refl }
 
 -- what a task sees
 
-pub seen_bare : (store : List EntryLine) (own : Option (List ℕ)) (text task made : List ℕ) → own ≡ Some text → text ≡ task → made ≡ task → (name : List ℕ) → seen_with store own name ≡ seen_by made (find_in store) name
-seen_bare store own text task made o t m name = ap (λ p. seen_with store p name) o ∙ ap (λ n. seen_by n (find_in store) name) (t ∙ sym m)
+pub seen_bare : (store : List EntryLine) (own : Option (List ℕ)) (text task made : List ℕ) → own ≡ Some text → text ≡ task → made ≡ task → seen_with store own ≡ seen_by made (find_in store)
+seen_bare store own text task made o t m = ap (seen_with store) o ∙ ap (λ n. seen_by n (find_in store)) (t ∙ sym m)
 
-pub seen_plain : (store : List EntryLine) (own : Option (List ℕ)) (task made : List ℕ) → own ≡ None → made ≡ task → ((found : Resolved) → find_in store task ≡ Ok (Some found) → is_bare found ≡ false) → (name : List ℕ) → seen_with store own name ≡ seen_by made (find_in store) name
-seen_plain store own task made o m h name = ap (λ p. seen_with store p name) o ∙ sym (seen_as_is (find_in store) task h name) ∙ ap (λ n. seen_by n (find_in store) name) (sym m)
+pub seen_plain : (store : List EntryLine) (own : Option (List ℕ)) (task made : List ℕ) → own ≡ None → made ≡ task → ((found : Resolved) → (find_in store).at task ≡ Ok (Some found) → is_bare found ≡ false) → seen_with store own ≡ seen_by made (find_in store)
+seen_plain store own task made o m h = ap (seen_with store) o ∙ sym (one_find (seen_by task (find_in store)) (find_in store) (seen_as_is (find_in store) task h)) ∙ ap (λ n. seen_by n (find_in store)) (sym m)
 
 pub stays_view : (a b : Table) → StaysSo a b → task_view b ≡ task_view a
 stays_view a b same =
     ap (λ n. view_by b.shared.seen.store.now b.shared.seen.task b.shared.ignored b.sstate n) same.task
     ∙ ap (λ s. view_by b.shared.seen.store.now b.shared.seen.task b.shared.ignored s a.task) same.sstate
     ∙ task_view_same a.shared b.shared a.sstate a.task same.shared
+
+-- what names lead to stays the same
+
+pub same_led : (old new : Shared) → IsSame old new → shared_led new ≡ shared_led old
+same_led old new same = shared_led_is new ∙ ap (λ v. λ (name : List ℕ). names_led (read_led v false name)) (view_same old new same) ∙ sym (shared_led_is old)
+
+pub stays_led : (t : Table) (s : Shared) → IsSame t.shared s → task_led (record { shared = s; task = t.task; sstate = t.sstate; own = t.own }) ≡ task_led t
+stays_led t s same =
+    let new : Table = record { shared = s; task = t.task; sstate = t.sstate; own = t.own } in
+    task_led_is new ∙ ap led_to (task_view_same t.shared s t.sstate t.task same) ∙ sym (task_led_is t)
+
+-- and is the same for the task, but of its own name
+pub other_shared : (t : Table) (name : List ℕ) → bytes_eq name t.task ≡ false → shared_led t.shared name ≡ task_led t name
+other_shared t name e = ap (λ f. f name) (shared_led_is t.shared) ∙ other_led (task_view t) name e ∙ sym (ap (λ f. f name) (task_led_is t))
+
+pub own_task : (t : Table) (name : List ℕ) (items : List (List ℕ)) → bytes_eq name t.task ≡ true → items ≡ names_led (read_led (task_view t) true t.task) → items ≡ task_led t name
+own_task t name items e h = own_led (task_view t) name items e h ∙ sym (ap (λ f. f name) (task_led_is t))

@@ -33,11 +33,11 @@ found_refused : (task : Option (List ℕ)) (name : List ℕ) (refusal : Refusal)
 found_refused None name refusal = refl
 found_refused (Some task) name refusal = refl
 
-seen_under : (list : List EntryLine) (task : Option (List ℕ)) (name : List ℕ) → seen_with list task name ≡ found_under list task name (active list)
+seen_under : (list : List EntryLine) (task : Option (List ℕ)) (name : List ℕ) → (seen_with list task).at name ≡ found_under list task name (active list)
 seen_under list None name = refl
 seen_under list (Some task) name = refl
 
-absent : (list : List EntryLine) (task : Option (List ℕ)) (name : List ℕ) → is_in name (flat_map fronts (names list)) ≡ false → (under : Result (List (List ℕ)) Refusal) → active list ≡ under → (seen_with list task name ≡ Ok None) ⊎ ((refusal : Refusal) × (seen_with list task name ≡ Err refusal))
+absent : (list : List EntryLine) (task : Option (List ℕ)) (name : List ℕ) → is_in name (flat_map fronts (names list)) ≡ false → (under : Result (List (List ℕ)) Refusal) → active list ≡ under → ((seen_with list task).at name ≡ Ok None) ⊎ ((refusal : Refusal) × ((seen_with list task).at name ≡ Err refusal))
 absent list task name h (Ok under) e = inl (seen_under list task name ∙ ap (found_under list task name) e ∙ ap (λ found. found_by task name (Ok found)) (not_resolved list under name h) ∙ nothing_found task name)
 absent list task name h (Err refusal) e = inr (refusal, seen_under list task name ∙ ap (found_under list task name) e ∙ found_refused task name refusal)
 

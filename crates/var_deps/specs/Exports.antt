@@ -1,7 +1,8 @@
 -- What the exported names of a store lead to.
-use Rattle.std.specs.Prelude.{◌≡◌, ℕ, false, List, [], ◌∷◌, ◌++◌, None, Result, Ok, codes}
+use Rattle.std.specs.Prelude.{◌≡◌, ℕ, false, ◌||◌, is_some, List, [], ◌∷◌, ◌++◌, None, Result, Ok, codes}
 use Rattle.meta_model.specs.declared.entry.EntryLine.{EntryLine}
 use Rattle.meta_model.specs.Refusal.{Refusal, ◌>>=◌}
+use Rattle.meta_model.specs.Forms.{asked_by}
 use Rattle.task_model.specs.Leads.{View, Led, exported, flag_words, without}
 use Rattle.task_model.specs.Keys.{IsLeast, names_led}
 use Rattle.var_deps.specs.declared.exports.Exports.{Exports}
@@ -29,4 +30,4 @@ starting_with view names = do
   after ← flag_words view view.task (codes "postfuncs")
   before ← flag_words view view.task (codes "prefuncs")
   let others = without view.ignored (before ++ (after ++ names)) in
-      Ok (record { names = view.task ∷ others.names; left_out = others.left_out })
+      Ok (record { names = view.task ∷ others.names; left_out = is_some (asked_by view.task) || others.left_out })

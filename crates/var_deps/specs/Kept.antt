@@ -37,7 +37,7 @@ task_view table = view_by table.shared.seen.store.now table.shared.seen.task tab
 pub record IsReady (table : Table) : Type 0 where
   pub right : IsRight table.shared
   pub own : IsKnown (task_view table) true table.task table.own
-  pub seen : (name : List ℕ) → seen_with table.shared.seen.store.now table.shared.seen.task name ≡ seen_by table.task (find_in table.shared.seen.store.now) name
+  pub seen : seen_with table.shared.seen.store.now table.shared.seen.task ≡ seen_by table.task (find_in table.shared.seen.store.now)
 
 -- Two are of one task of one store.
 pub record StaysSo (old new : Table) : Type 0 where

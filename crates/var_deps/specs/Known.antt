@@ -21,12 +21,12 @@ IsLine (Refused fault) name meant = (is_some (refusal_of fault) ≡ true) × IsF
 
 -- what a name leads to, as it is read once
 abbrev pub read_led : View → Bool → List ℕ → Result Led Refusal
-read_led view own name = view.find name >>= led_behind view own name
+read_led view own name = view.find.at name >>= led_behind view own name
 
 -- the line of a name, as it is read once
 abbrev pub read_line : View → Bool → List ℕ → Result Told Refusal
 read_line view own name = do
-  found ← view.find name
+  found ← view.find.at name
   led ← led_behind view own name found
   line_behind view own name found led
 

@@ -4,11 +4,12 @@ use Rattle.meta_model.specs.declared.entry.EntryLine.{EntryLine}
 use Rattle.meta_model.specs.declared.value.Resolved.{Resolved}
 use Rattle.meta_model.specs.Refusal.{Refusal, ◌>>=◌}
 use Rattle.meta_model.specs.Expansion.{Find}
+use Rattle.meta_model.specs.Forms.{asked_by}
 use Rattle.meta_model.specs.Base.{flag, names}
 use Rattle.meta_model.specs.References.{looked_up}
 use Rattle.task_model.specs.Views.{is_function}
 use Rattle.task_model.specs.Leads.{View, Led, flag_words, by_value, by_flags, without}
-use Rattle.task_model.specs.Keys.{Told, line_value, own_value}
+use Rattle.task_model.specs.Keys.{Told, line_value, asked_value, own_value}
 use Rattle.var_deps.specs.Seen.{seen_with}
 
 -- the view of a task
@@ -18,7 +19,7 @@ view_by store own ignored sstate task = record { task = task; find = seen_with s
 -- the name, where it is a function
 abbrev pub function_named : Find → List ℕ → Result (List (List ℕ)) Refusal
 function_named find name = do
-  found ← find name
+  found ← find.at name
   Ok (if is_function found then name ∷ [] else [])
 
 -- what the text of a flag looks up
@@ -41,11 +42,16 @@ led_behind view own name found = do
   excluded ← flag_words view name (codes "vardepsexclude")
   Ok (without (view.ignored ++ excluded) all)
 
+-- the value of a line as it is told: that of a form tells which of its words stand in the value of its name
+abbrev pub told_value : View → List ℕ → Option Resolved → Result (Option Resolved) Refusal
+told_value view name found = line_value view name found >>= asked_value view (asked_by name)
+
 -- the line of a name, where this is found of it and it leads to these
 abbrev pub line_behind : View → Bool → List ℕ → Option Resolved → Led → Result Told Refusal
 line_behind view own name found led = do
   value ← line_value view name found
+  told ← asked_value view (asked_by name) value
   Ok (record {
-    line = record { name = name; value = own_value view own value };
+    line = record { name = name; value = own_value view own told };
     left_out = led.left_out || (is_some found && is_some (view.flag name (codes "vardepvalue")));
   })

@@ -67,7 +67,7 @@ fn not_found(fault: ExpandFault) -> Result<bool, Mem>
 
 /// Whether a name has an empty text and no removes, and is no function. Where nothing can be found it isn't.
 fn is_bare_name(alloc: Global, store: &Datastore, name: &str) -> Result<bool, Mem>
-    ensures { IfOk result (λ made. made ≡ false → (found : Has) → find_in store.now name.now ≡ Ok (Some found)
+    ensures { IfOk result (λ made. made ≡ false → (found : Has) → (find_in store.now).at name.now ≡ Ok (Some found)
         → is_bare found ≡ false) }
 {
     match found_in(alloc, store, name) {

@@ -10,9 +10,10 @@ ghost use Rattle.var_deps.specs.Reading.{view_by, function_named, flag_looked_up
 ghost use Rattle.meta_model.specs.Passing.{behind};
 ghost use Rattle.var_deps.specs.Led.{led_of, kept_more};
 
+use crate::asked::{asked_by, is_omitted};
 use crate::runs::runs;
 use crate::seen::{Seen, is_function};
-use meta_model::{Resolved, is_among};
+use meta_model::Resolved;
 use std::alloc::Global;
 use tree_model::{Mem, Text, Texts};
 use var_expand::{ExpandFault, Lookup, are_name_bytes, expand, references, value, words};
@@ -318,14 +319,21 @@ fn push_led(
     push_words(list, alloc, seen, name, "vardeps")
 }
 
-/// Takes a name up, unless it is left out on request. One that no reference can have isn't counted.
-fn keep(led: &mut Led, ignored: &[Text], excluded: &[Text], name: Text) -> Result<(), Mem>
+/// Takes a name up, unless it is left out on request. One that has no part in keys isn't counted.
+fn keep(
+    alloc: Global,
+    led: &mut Led,
+    ignored: &[Text],
+    excluded: &[Text],
+    name: Text,
+) -> Result<(), Mem>
     ensures { OnOk result (led_of led.new ≡ kept_more (ignored.now ++ excluded.now) name (led_of led.old)) }
 {
-    if !are_name_bytes(name.as_str().as_bytes()) {
+    let asked = asked_by(alloc, name.as_str())?;
+    if asked.is_none() && !are_name_bytes(name.as_str().as_bytes()) {
         return Ok(());
     }
-    if is_among(name.as_str(), ignored) || is_among(name.as_str(), excluded) {
+    if is_omitted(name.as_str(), &asked, ignored, excluded) {
         led.left_out = true;
         return Ok(());
     }
@@ -346,7 +354,7 @@ pub(crate) fn without(
         left_out: false,
     };
     for name in names {
-        keep(&mut led, ignored, excluded, name)?;
+        keep(alloc, &mut led, ignored, excluded, name)?;
     }
     Ok(led)
 }

@@ -9,6 +9,7 @@
 //! `found_by` is what names have for a task; scripts look names up by it, too.
 #![tactic(auto)]
 
+mod asked;
 mod exports;
 mod keys;
 mod led;

@@ -7,10 +7,11 @@ ghost use Rattle.datastore.specs.Faults.{refusal_of};
 ghost use Rattle.task_model.specs.Leads.{Led as LedNames};
 ghost use Rattle.task_model.specs.Keys.{Told, kept_flag, kept_flags, line_value, own_value, task_value, told_flags};
 ghost use Rattle.var_deps.specs.Seen.{seen_with};
-ghost use Rattle.var_deps.specs.Reading.{view_by, led_behind, line_behind};
+ghost use Rattle.var_deps.specs.Reading.{view_by, led_behind, line_behind, told_value};
 ghost use Rattle.var_deps.specs.Led.{led_of};
 ghost use Rattle.var_deps.specs.Known.{IsKnown, IsLine, read_led, told_at};
 
+use crate::asked::asked_value;
 use crate::led::{Led, leads};
 use crate::seen::Seen;
 use datastore::Datastore;
@@ -183,6 +184,22 @@ fn own_value(
     }
 }
 
+/// The value of a line as it is told: of a form that is what it finds.
+fn told_value(
+    alloc: Global,
+    seen: &Seen,
+    name: &str,
+    found: Option<Resolved>,
+) -> Result<Option<Resolved>, ExpandFault>
+    ensures ok { IfOk result (λ made. told_value (view_by seen.now.store.now seen.now.task [] false []) name.now found
+        ≡ Ok made) }
+    ensures err { IfErr result (λ fault. IsFaultOf fault
+        (told_value (view_by seen.now.store.now seen.now.task [] false []) name.now found)) }
+{
+    let value = line_value(alloc, seen, name, found)?;
+    asked_value(alloc, seen, name, value)
+}
+
 /// The line of a name of which this is found and of whose names some were left out, or why there is none.
 fn line_of(
     alloc: Global,
@@ -198,7 +215,7 @@ fn line_of(
         found led)) }
 {
     let replaced = found.is_some() && seen.store.flag(name, "vardepvalue").is_some();
-    match line_value(alloc, seen, name, found) {
+    match told_value(alloc, seen, name, found) {
         Ok(value) => Ok(Line::Told {
             value: own_value(alloc, seen.store, name, sstate, value)?,
             left_out: left_out || replaced,
@@ -227,7 +244,7 @@ fn read_name(
     own: bool,
     name: &str,
 ) -> Result<(Option<Resolved>, Led), ExpandFault>
-    ensures found { IfOk result (λ made. seen_with seen.now.store.now seen.now.task name.now ≡ Ok made.0) }
+    ensures found { IfOk result (λ made. (seen_with seen.now.store.now seen.now.task).at name.now ≡ Ok made.0) }
     ensures led { IfOk result (λ made. led_behind (view_by seen.now.store.now seen.now.task ignored.now false
         name.now) own name.now made.0 ≡ Ok (led_of made.1)) }
     ensures err { IfErr result (λ fault. IsFaultOf fault

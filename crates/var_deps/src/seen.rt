@@ -10,7 +10,7 @@ ghost use Rattle.task_model.specs.Views.{flag_of, is_bare, is_function, seen_by,
 use datastore::{DataFault, Datastore};
 use meta_model::Resolved;
 use std::alloc::Global;
-use tree_model::Text;
+use tree_model::{Mem, Text, Texts};
 use var_expand::{ExpandFault, Lookup};
 
 /// A store as a map from names to what they have, for a task or for all that see it as it is.
@@ -32,6 +32,10 @@ impl Lookup for Seen<'_> {
             Some(task) => found_by(alloc, self.store, task.as_str(), name),
             None => found_in(alloc, self.store, name),
         }
+    }
+
+    fn known(&self, _alloc: Global, _name: &str, _wanted: &[Text]) -> Result<Option<Texts>, Mem> {
+        Ok(None)
     }
 }
 
@@ -94,8 +98,8 @@ pub(crate) fn found_in(
     store: &Datastore,
     name: &str,
 ) -> Result<Option<Resolved>, ExpandFault>
-    ensures ok { IfOk result (λ made. find_in store.now name.now ≡ Ok made) }
-    ensures err { IfErr result (λ fault. IsFaultOf fault (find_in store.now name.now)) }
+    ensures ok { IfOk result (λ made. (find_in store.now).at name.now ≡ Ok made) }
+    ensures err { IfErr result (λ fault. IsFaultOf fault ((find_in store.now).at name.now)) }
 {
     match store.resolved(alloc, name) {
         Ok(found) => Ok(found),
@@ -111,8 +115,8 @@ pub fn found_by(
     task: &str,
     name: &str,
 ) -> Result<Option<Resolved>, ExpandFault>
-    ensures ok { IfOk result (λ made. seen_by task.now (find_in store.now) name.now ≡ Ok made) }
-    ensures err { IfErr result (λ fault. IsFaultOf fault (seen_by task.now (find_in store.now) name.now)) }
+    ensures ok { IfOk result (λ made. (seen_by task.now (find_in store.now)).at name.now ≡ Ok made) }
+    ensures err { IfErr result (λ fault. IsFaultOf fault ((seen_by task.now (find_in store.now)).at name.now)) }
 {
     let found = found_in(alloc, store, name)?;
     Ok(unless_bare(found, name == task))

@@ -6,15 +6,17 @@ ghost use Rattle.meta_model.specs.Active.{find_in};
 ghost use Rattle.meta_model.specs.declared.value.Resolved.{Resolved as Has};
 ghost use Rattle.task_model.specs.Views.{is_bare};
 ghost use Rattle.var_expand.specs.Faults.{IsFaultOf};
-ghost use Rattle.task_model.specs.Keys.{Told, key_over, led_to, line_of, lines_of, names_led};
+ghost use Rattle.task_model.specs.Keys.{Told, key_over, line_of, lines_of, names_led};
 ghost use Rattle.name_walk.specs.Walk.{IsWalk, with_more};
 ghost use Rattle.meta_model.specs.Text.{in_byte_order, is_in};
 ghost use Rattle.var_deps.specs.Known.{IsKnown, IsLine, read_led, read_line};
 ghost use Rattle.var_deps.specs.Reading.{view_by};
 ghost use Rattle.var_deps.specs.Led.{led_of};
 ghost use Rattle.var_deps.specs.Exports.{AreExports, starting_with};
+ghost use Rattle.var_deps.specs.Leaders.{task_led};
 ghost use Rattle.var_deps.specs.Kept.{IsReady, IsRight, IsSame, Shares, StaysSo, key_behind, one_line, shared_view, task_view};
 
+use crate::asked::is_left_out;
 use crate::exports::Exports;
 use crate::led::{Led, all_of, push_all, without, words_of_flag};
 use crate::line::{Known, Line, know};
@@ -141,7 +143,7 @@ impl Leading for Table<'_> {
     ghost use Rattle.var_deps.specs.Kept as kept;
     ghost use Rattle.var_deps.specs.Leaders as named;
 
-    ghost led = { λ t. keys.led_to (kept.task_view t) };
+    ghost led = { named.task_led };
 
     ghost leaders = { λ t. keys.leaders (kept.task_view t) };
 
@@ -240,7 +242,7 @@ impl Table<'_> {
         sstate: bool,
     ) -> Result<(), Mem>
         requires right { IsRight self.old.shared }
-        requires seen { bare ≡ false → (found : Has) → find_in self.old.shared.seen.store.now task.now
+        requires seen { bare ≡ false → (found : Has) → (find_in self.old.shared.seen.store.now).at task.now
             ≡ Ok (Some found) → is_bare found ≡ false }
         ensures right { IsRight self.new.shared }
         ensures ready { OnOk result (IsReady self.new) }
@@ -273,7 +275,11 @@ impl Table<'_> {
         let words = all_of(alloc, before.as_slice(), after.as_slice())?;
         let mut led = without(alloc, words, self.shared.ignored.as_slice(), &[])?;
         led.names.insert(0, self.task.copy()?)?;
-        Ok(led)
+        let left_out = is_left_out(alloc, self.task.as_str(), led.left_out)?;
+        Ok(Led {
+            names: led.names,
+            left_out,
+        })
     }
 
     /// Whether the task sees the store as it is, and its own texts can be read: then all that exported names lead to for others
@@ -294,7 +300,7 @@ impl Table<'_> {
         requires ready { IsReady self.now }
         requires exports { AreExports self.now.shared.seen.store.now self.now.shared.ignored exports.now }
         requires task { is_in self.now.task todo.old.items ≡ true }
-        ensures { IfOk result (λ done. IsWalk (led_to (task_view self.now))
+        ensures { IfOk result (λ done. IsWalk (task_led self.now)
             (todo.old.items ++ exports.now.start.names.items) done.now todo.new.items) }
     {
         if !self.shares() {

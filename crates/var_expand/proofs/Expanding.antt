@@ -8,16 +8,18 @@ use Rattle.meta_model.specs.declared.value.Resolved.{Resolved}
 use Rattle.meta_model.specs.Refusal.{Refusal, value_cycle, too_deep, too_long, require, ◌>>=◌}
 use Rattle.meta_model.specs.Text.{is_in, holds, begins_with, words, drop_words, close_brace}
 use Rattle.meta_model.specs.Names.{is_name_character}
+use Rattle.meta_model.specs.declared.form.Form.{Form}
+use Rattle.meta_model.specs.Forms.{form_text, words_in}
 use Rattle.meta_model.specs.Parts.{Parts, end, plain, parts_of, depth, with_braces}
-use Rattle.meta_model.specs.Expansion.{Find, Values, longest, deepest, innermost, or_reference, look_up, put_before, expanded_parts, expanded, all_expanded, expanded_value, present, met, values_within, value_by, expand_by}
+use Rattle.meta_model.specs.Expansion.{Find, Values, longest, deepest, innermost, or_reference, look_up, put_before, expanded_parts, expanded, all_expanded, expanded_value, present, met, told_or_found, words_there, values_within, value_by, values_by, expand_by}
 use Rattle.var_expand.specs.declared.fault.ExpandFault.{ExpandFault}
 use Rattle.var_expand.specs.declared.fault.ExpandFault.TheVariants.{ValueCycle, TooDeep, TooLong, Unstable, Memory}
-use Rattle.var_expand.specs.declared.parts.Part.{Part, Plain, Ref, Ref', items_hidden-the_row-Part-0}
+use Rattle.var_expand.specs.declared.parts.Part.{Part, Plain, Ref, Ref', Call, items_hidden-the_row-Part-0}
 use Rattle.var_expand.specs.declared.parts.Parts.{Parts as Pieces}
 use Rattle.var_expand.specs.Faults.{IsFaultOf}
 use Rattle.var_expand.specs.Pieces.{text_before, part_before, parts_in, parts_in_list, parts_in_row, shallow_parts}
 use Rattle.var_expand.specs.Standing.{levels}
-use Rattle.var_expand.specs.Expanding.{onto_names, innermost_first, last_name, known, fitting, reference_text, part_text, grown, removed}
+use Rattle.var_expand.specs.Expanding.{call_text, onto_names, innermost_first, last_name, known, fitting, reference_text, part_text, grown, removed}
 use Rattle.var_expand.proofs.Openings.{or_left, or_right, braces_front, plain_levels}
 use Rattle.var_expand.proofs.Pieces.{in_row, row_of, text_depth, ref_part, before_depth}
 use Rattle.meta_model.proofs.White.{drop_none}
@@ -109,7 +111,7 @@ put_grown name sofar piece rest =
 
 -- parts
 
-found_at : (m : Result (Option (List ℕ)) Refusal) (w : Option (List ℕ) → List ℕ) (p q g h : List ℕ → Result (List ℕ) Refusal) → ((piece : List ℕ) → (p piece >>= q) ≡ (g piece >>= h))
+found_at : {A : Type 0} (m : Result A Refusal) (w : A → List ℕ) (p q g h : List ℕ → Result (List ℕ) Refusal) → ((piece : List ℕ) → (p piece >>= q) ≡ (g piece >>= h))
     → ((m >>= (λ f. p (w f))) >>= q) ≡ (((m >>= (λ f. Ok (w f))) >>= g) >>= h)
 found_at (Ok f) w p q g h same = same (w f)
 found_at (Err refusal) w p q g h same = refl
@@ -128,6 +130,12 @@ one_part values name (Plain t) after sofar =
     ap (λ m. m >>= (λ r. Ok (sofar ++ r))) (plain_run values name t after (longest - length sofar)) ∙ put_grown name sofar t (expanded_parts values name after)
 one_part values name (Ref' shape row) after sofar =
     looked_at (expanded_parts values name (parts_in_row row) longest) (λ looked. look_up values looked (list_all is_name_character looked)) or_reference
+    (λ piece. put_before name (longest - length sofar) piece (expanded_parts values name after)) (λ r. Ok (sofar ++ r))
+    (λ piece. require (nat_le (length piece) (longest - length sofar)) (too_long name) >>= (λ fits. Ok (sofar ++ piece)))
+    (λ out. finish values name out after)
+    (λ piece. put_grown name sofar piece (expanded_parts values name after))
+one_part values name (Call f) after sofar =
+    found_at (words_there values f) (form_text f)
     (λ piece. put_before name (longest - length sofar) piece (expanded_parts values name after)) (λ r. Ok (sofar ++ r))
     (λ piece. require (nat_le (length piece) (longest - length sofar)) (too_long name) >>= (λ fits. Ok (sofar ++ piece)))
     (λ out. finish values name out after)
@@ -162,6 +170,34 @@ ref_text values name pieces =
     let row = row_of (Ref pieces) in
     ap (reference_text values name) (in_row row.0 row.1 ∙ ap parts_in_list (items_hidden-the_row-Part-0 pieces.list))
 
+-- what a form of the program's becomes
+pub form_is : (values : Values) (name : List ℕ) (part : Part) (f : Form) → part ≡ Call f → part_text values name part ≡ call_text values f
+form_is values name part f is = ap (part_text values name) is
+
+pub told_words : (values : Values) (f : Form) (told : List (List ℕ)) → values.known f.name f.words ≡ Some told → words_there values f ≡ Ok told
+told_words values f told e = ap (told_or_found values f) e
+
+pub value_words : (values : Values) (f : Form) (value : Option (List ℕ)) (there : List (List ℕ)) → values.known f.name f.words ≡ None → values.at f.name ≡ Ok value → there ≡ words_in f.words value → words_there values f ≡ Ok there
+value_words values f value there none e is = ap (told_or_found values f) none ∙ ap (λ m. m >>= (λ v. Ok (words_in f.words v))) e ∙ ap Ok (sym is)
+
+pub words_fault : (values : Values) (f : Form) (fault : ExpandFault) → values.known f.name f.words ≡ None → IsFaultOf fault (values.at f.name) → IsFaultOf fault (words_there values f)
+words_fault values f fault none h = fault_same fault (words_there values f) (values.at f.name >>= (λ v. Ok (words_in f.words v))) (ap (told_or_found values f) none) (fault_on fault (values.at f.name) (λ v. Ok (words_in f.words v)) h)
+
+pub call_gives : (values : Values) (f : Form) (there : List (List ℕ)) (text : List ℕ) → words_there values f ≡ Ok there → text ≡ form_text f there → call_text values f ≡ Ok text
+call_gives values f there text e is = ap (λ m. m >>= (λ t. Ok (form_text f t))) e ∙ ap Ok (sym is)
+
+pub call_fault : (values : Values) (f : Form) (fault : ExpandFault) → IsFaultOf fault (words_there values f) → IsFaultOf fault (call_text values f)
+call_fault values f fault h = fault_on fault (words_there values f) (λ t. Ok (form_text f t)) h
+
+-- which words are told stays the same in an expansion
+pub known_at : (finds : Find) (left : ℕ) (names : List (List ℕ)) (f : Form) (told : Option (List (List ℕ))) → finds.known f.name f.words ≡ told → (known finds left names).known f.name f.words ≡ told
+unfolding known
+known_at finds left names f told e = e
+
+pub known_known : (finds : Find) (left : ℕ) (names : List (List ℕ)) → (known finds left names).known ≡ finds.known
+unfolding known
+known_known finds left names = refl
+
 -- names in expansion
 
 pub onto_more : (within names : List (List ℕ)) (name : List ℕ) → onto_names within (names ++ name ∷ []) ≡ name ∷ onto_names within names
@@ -191,39 +227,39 @@ in_names x names = in_onto x [] names ∙ or_none (is_in x names)
 met_at : (finds : Find) (names : List (List ℕ)) (name : List ℕ) (expand : Resolved → Result (List ℕ) Refusal) → is_in name names ≡ true → met finds (innermost_first names) name expand ≡ Err (value_cycle name)
 met_at finds names name expand h = rw (in_names name names, h) refl
 
-pub met_none : (finds : Find) (names : List (List ℕ)) (name : List ℕ) (expand : Resolved → Result (List ℕ) Refusal) → is_in name names ≡ false → finds name ≡ Ok None → met finds (innermost_first names) name expand ≡ Ok None
+pub met_none : (finds : Find) (names : List (List ℕ)) (name : List ℕ) (expand : Resolved → Result (List ℕ) Refusal) → is_in name names ≡ false → finds.at name ≡ Ok None → met finds (innermost_first names) name expand ≡ Ok None
 met_none finds names name expand h e = rw (in_names name names, h, e) refl
 
-met_some : (finds : Find) (names : List (List ℕ)) (name : List ℕ) (expand : Resolved → Result (List ℕ) Refusal) (value : Resolved) → is_in name names ≡ false → finds name ≡ Ok (Some value)
+met_some : (finds : Find) (names : List (List ℕ)) (name : List ℕ) (expand : Resolved → Result (List ℕ) Refusal) (value : Resolved) → is_in name names ≡ false → finds.at name ≡ Ok (Some value)
     → met finds (innermost_first names) name expand ≡ (expand value >>= (λ text. Ok (Some text)))
 met_some finds names name expand value h e = rw (in_names name names, h, e) refl
 
-pub known_cycle : (finds : Find) (left : ℕ) (names : List (List ℕ)) (name : List ℕ) → is_in name names ≡ true → known finds left names name ≡ Err (value_cycle name)
+pub known_cycle : (finds : Find) (left : ℕ) (names : List (List ℕ)) (name : List ℕ) → is_in name names ≡ true → (known finds left names).at name ≡ Err (value_cycle name)
 unfolding known
 known_cycle finds zero names name h = met_at finds names name (λ value. Err (too_deep (innermost (innermost_first names)))) h
 known_cycle finds (suc left) names name h = met_at finds names name (expanded_value (values_within left finds (name ∷ innermost_first names)) name) h
 
-pub known_none : (finds : Find) (left : ℕ) (names : List (List ℕ)) (name : List ℕ) → is_in name names ≡ false → finds name ≡ Ok None → known finds left names name ≡ Ok None
+pub known_none : (finds : Find) (left : ℕ) (names : List (List ℕ)) (name : List ℕ) → is_in name names ≡ false → finds.at name ≡ Ok None → (known finds left names).at name ≡ Ok None
 unfolding known
 known_none finds zero names name h e = met_none finds names name (λ value. Err (too_deep (innermost (innermost_first names)))) h e
 known_none finds (suc left) names name h e = met_none finds names name (expanded_value (values_within left finds (name ∷ innermost_first names)) name) h e
 
-met_unfound : (finds : Find) (names : List (List ℕ)) (name : List ℕ) (expand : Resolved → Result (List ℕ) Refusal) (fault : ExpandFault) → is_in name names ≡ false → IsFaultOf fault (finds name)
+met_unfound : (finds : Find) (names : List (List ℕ)) (name : List ℕ) (expand : Resolved → Result (List ℕ) Refusal) (fault : ExpandFault) → is_in name names ≡ false → IsFaultOf fault (finds.at name)
     → IsFaultOf fault (met finds (innermost_first names) name expand)
 met_unfound finds names name expand fault h e =
-    fault_same fault (met finds (innermost_first names) name expand) (finds name >>= present expand) (rw (in_names name names, h) refl) (fault_on fault (finds name) (present expand) e)
+    fault_same fault (met finds (innermost_first names) name expand) (finds.at name >>= present expand) (rw (in_names name names, h) refl) (fault_on fault (finds.at name) (present expand) e)
 
-pub known_unfound : (finds : Find) (left : ℕ) (names : List (List ℕ)) (name : List ℕ) (fault : ExpandFault) → is_in name names ≡ false → IsFaultOf fault (finds name) → IsFaultOf fault (known finds left names name)
+pub known_unfound : (finds : Find) (left : ℕ) (names : List (List ℕ)) (name : List ℕ) (fault : ExpandFault) → is_in name names ≡ false → IsFaultOf fault (finds.at name) → IsFaultOf fault ((known finds left names).at name)
 unfolding known
 known_unfound finds zero names name fault h e = met_unfound finds names name (λ value. Err (too_deep (innermost (innermost_first names)))) fault h e
 known_unfound finds (suc left) names name fault h e = met_unfound finds names name (expanded_value (values_within left finds (name ∷ innermost_first names)) name) fault h e
 
-pub known_deep : (finds : Find) (names : List (List ℕ)) (name : List ℕ) (value : Resolved) → is_in name names ≡ false → finds name ≡ Ok (Some value) → known finds 0 names name ≡ Err (too_deep (last_name names))
+pub known_deep : (finds : Find) (names : List (List ℕ)) (name : List ℕ) (value : Resolved) → is_in name names ≡ false → finds.at name ≡ Ok (Some value) → (known finds 0 names).at name ≡ Err (too_deep (last_name names))
 unfolding known
 known_deep finds names name value h e = met_some finds names name (λ v. Err (too_deep (innermost (innermost_first names)))) value h e
 
-pub known_found : (finds : Find) (left : ℕ) (names : List (List ℕ)) (name : List ℕ) (value : Resolved) → is_in name names ≡ false → finds name ≡ Ok (Some value) → 0 < left
-    → known finds left names name ≡ (expanded_value (known finds (left - 1) (names ++ name ∷ [])) (last_name (names ++ name ∷ [])) value >>= (λ text. Ok (Some text)))
+pub known_found : (finds : Find) (left : ℕ) (names : List (List ℕ)) (name : List ℕ) (value : Resolved) → is_in name names ≡ false → finds.at name ≡ Ok (Some value) → 0 < left
+    → (known finds left names).at name ≡ (expanded_value (known finds (left - 1) (names ++ name ∷ [])) (last_name (names ++ name ∷ [])) value >>= (λ text. Ok (Some text)))
 unfolding known
 known_found finds zero names name value h e some = absurd (omega arith)
 known_found finds (suc left) names name value h e some =
@@ -286,7 +322,7 @@ pub shallow_deep : (t : List ℕ) → deepest < depth (parts_of t) → shallow_p
 shallow_deep t h = ap (λ b. require b (too_deep []) >>= (λ shallow. Ok (parts_of t))) (lt-leb (depth (parts_of t)) deepest h)
 
 -- the start of an expansion
-pub known_start : (finds : Find) → known finds 64 [] ≡ value_by finds
+pub known_start : (finds : Find) → known finds 64 [] ≡ values_by finds
 unfolding known
 known_start finds = refl
 
@@ -355,8 +391,8 @@ positive (suc n) h = omega arith
 pub start_text : (finds : Find) (names : List (List ℕ)) (t : List ℕ) → names ≡ [] → expanded (known finds 64 names) (last_name names) t ≡ expand_by finds t
 start_text finds names t e = ap (λ n. expanded (known finds 64 n) (last_name n) t) e ∙ ap (λ v. expanded v [] t) (known_start finds)
 
-pub start_value : (finds : Find) (names : List (List ℕ)) (name : List ℕ) → names ≡ [] → known finds 64 names name ≡ value_by finds name
-start_value finds names name e = ap (λ n. known finds 64 n name) e ∙ ap (λ v. v name) (known_start finds)
+pub start_value : (finds : Find) (names : List (List ℕ)) (name : List ℕ) → names ≡ [] → (known finds 64 names).at name ≡ value_by finds name
+start_value finds names name e = ap (λ n. (known finds 64 n).at name) e ∙ ap (λ v. v.at name) (known_start finds)
 
 pub same_ok : {T : Type 0} (r : Result T ExpandFault) (m n : Result T Refusal) → m ≡ n → IfOk r (λ made. m ≡ Ok made) → IfOk r (λ made. n ≡ Ok made)
 same_ok (Ok made) m n e h = sym e ∙ h
@@ -366,7 +402,7 @@ pub same_err : {T : Type 0} (r : Result T ExpandFault) (m n : Result T Refusal) 
 same_err (Ok made) m n e h = h
 same_err (Err fault) m n e h = subst (IsFaultOf fault) e h
 
-pub start_parts : (finds : Find) (names : List (List ℕ)) (parts : Parts) → names ≡ [] → expanded_parts (known finds 64 names) (last_name names) parts longest ≡ expanded_parts (value_by finds) [] parts longest
+pub start_parts : (finds : Find) (names : List (List ℕ)) (parts : Parts) → names ≡ [] → expanded_parts (known finds 64 names) (last_name names) parts longest ≡ expanded_parts (values_by finds) [] parts longest
 start_parts finds names parts e = ap (λ n. expanded_parts (known finds 64 n) (last_name n) parts longest) e ∙ ap (λ v. expanded_parts v [] parts longest) (known_start finds)
 
 -- a piece that is put behind what is expanded so far

@@ -44,19 +44,19 @@ grew_on find left a b c same first second = record {
 -- a value that is kept is known
 pub kept_known : (find : Find) (values : BTreeMap (String Global) Known) (name : List ℕ) (kept : Kept) → kept_in values name ≡ Some kept → table_of find values name ≡ Some kept
 unfolding table_of
-kept_known find values name kept is = ap (λ o. option_or o (leaf_of (find name))) is
+kept_known find values name kept is = ap (λ o. option_or o (leaf_of (find.at name))) is
 
 -- so is what needn't be kept, where nothing is
-pub leaf_known : (find : Find) (values : BTreeMap (String Global) Known) (name : List ℕ) (kept : Kept) → ((name : List ℕ) (kept : Kept) → kept_in values name ≡ Some kept → leaf_of (find name) ≡ None) → leaf_of (find name) ≡ Some kept → table_of find values name ≡ Some kept
+pub leaf_known : (find : Find) (values : BTreeMap (String Global) Known) (name : List ℕ) (kept : Kept) → ((name : List ℕ) (kept : Kept) → kept_in values name ≡ Some kept → leaf_of (find.at name) ≡ None) → leaf_of (find.at name) ≡ Some kept → table_of find values name ≡ Some kept
 unfolding table_of
 leaf_known find values name kept apart is = by (kept_in values name) refl
   where
-    by : (found : Option Kept) → kept_in values name ≡ found → option_or (kept_in values name) (leaf_of (find name)) ≡ Some kept
-    by None e = ap (λ o. option_or o (leaf_of (find name))) e ∙ is
+    by : (found : Option Kept) → kept_in values name ≡ found → option_or (kept_in values name) (leaf_of (find.at name)) ≡ Some kept
+    by None e = ap (λ o. option_or o (leaf_of (find.at name))) e ∙ is
     by (Some other) e = absurd (let no : None ≡ Some kept = sym (apart name other e) ∙ is in cc)
 
 -- the value that is known where there is room for it
-pub told_known : (find : Find) (left : ℕ) (a : Going) (name : List ℕ) (kept : Kept) → IsGoing find left a → table_of find a.values name ≡ Some kept → kept.height ≤ left → known find left a.within.items name ≡ Ok kept.value
+pub told_known : (find : Find) (left : ℕ) (a : Going) (name : List ℕ) (kept : Kept) → IsGoing find left a → table_of find a.values name ≡ Some kept → kept.height ≤ left → (known find left a.within.items).at name ≡ Ok kept.value
 unfolding known
 told_known find left a name kept going is low =
     told_value find (table_of find a.values) going.right left (innermost_first a.within.items) name kept is low
@@ -81,7 +81,7 @@ higher_low left (Some most) height low le = omega (arith, low, le)
 pub grew_higher : (find : Find) (left : ℕ) (a b : Going) (height : ℕ) → b.values ≡ a.values → b.height ≡ higher a.height height → IsGoing find left a → height ≤ left → Grew find left a b
 grew_higher find left a b height same is going le = record {
   right = subst (λ v. IsTable find (table_of find v)) (sym same) going.right;
-  apart = subst (λ v. (name : List ℕ) (kept : Kept) → kept_in v name ≡ Some kept → leaf_of (find name) ≡ None) (sym same) going.apart;
+  apart = subst (λ v. (name : List ℕ) (kept : Kept) → kept_in v name ≡ Some kept → leaf_of (find.at name) ≡ None) (sym same) going.apart;
   kept = λ name kept k. ap (λ v. table_of find v name) same ∙ k;
   within = λ name there. ap (λ v. table_of find v name) same;
   low = subst (IsLow left) (sym is) (higher_low left a.height height going.low le);
@@ -89,20 +89,20 @@ grew_higher find left a b height same is going le = record {
 }
 
 -- what is known up to the height that is met is told
-pub higher_told : (find : Find) (a b : Going) (kept : Kept) (name : List ℕ) → b.height ≡ higher a.height kept.height → table_of find b.values name ≡ Some kept → AllTelling find b (λ values. values name ≡ Ok kept.value)
-higher_told find a b kept name is there values tells = by a.height refl
+pub higher_told : (find : Find) (a b : Going) (kept : Kept) (name : List ℕ) → b.height ≡ higher a.height kept.height → table_of find b.values name ≡ Some kept → AllTelling find b (λ values. values.at name ≡ Ok kept.value)
+higher_told find a b kept name is there values same tells = by a.height refl
   where
-    by : (met : Option ℕ) → a.height ≡ met → values name ≡ Ok kept.value
+    by : (met : Option ℕ) → a.height ≡ met → values.at name ≡ Ok kept.value
     by None e = absurd (subst (λ h. Tells (table_of find b.values) h values) (is ∙ ap (λ h. higher h kept.height) e) tells)
     by (Some most) e =
         let t : Tells (table_of find b.values) (Some (max most kept.height)) values = subst (λ h. Tells (table_of find b.values) h values) (is ∙ ap (λ h. higher h kept.height) e) tells in
         t name kept there (omega arith)
 
 -- what is no higher than anything
-pub lowest_told : (find : Find) (a : Going) (kept : Kept) (name : List ℕ) → kept.height ≡ 0 → table_of find a.values name ≡ Some kept → AllTelling find a (λ values. values name ≡ Ok kept.value)
-lowest_told find a kept name none there values tells = by a.height refl
+pub lowest_told : (find : Find) (a : Going) (kept : Kept) (name : List ℕ) → kept.height ≡ 0 → table_of find a.values name ≡ Some kept → AllTelling find a (λ values. values.at name ≡ Ok kept.value)
+lowest_told find a kept name none there values same tells = by a.height refl
   where
-    by : (met : Option ℕ) → a.height ≡ met → values name ≡ Ok kept.value
+    by : (met : Option ℕ) → a.height ≡ met → values.at name ≡ Ok kept.value
     by None e = absurd (subst (λ h. Tells (table_of find a.values) h values) e tells)
     by (Some most) e = let t : Tells (table_of find a.values) (Some most) values = subst (λ h. Tells (table_of find a.values) h values) e tells in t name kept there (omega (arith, none))
 
@@ -114,7 +114,7 @@ no_leaf : (found : Resolved) → has_no_more found ≡ false → leaf_of (Ok (So
 no_leaf found more = ap (λ b. if_fits found (b && nat_le (length found.text) longest)) more
 
 -- what is known of a name that meets others is kept
-only_kept : (find : Find) (values : BTreeMap (String Global) Known) (name : List ℕ) (o : Option Kept) → leaf_of (find name) ≡ None → table_of find values name ≡ o → kept_in values name ≡ o
+only_kept : (find : Find) (values : BTreeMap (String Global) Known) (name : List ℕ) (o : Option Kept) → leaf_of (find.at name) ≡ None → table_of find values name ≡ o → kept_in values name ≡ o
 unfolding table_of
 only_kept find values name o leaf is = or_none (kept_in values name) ∙ ap (option_or (kept_in values name)) (sym leaf) ∙ is
   where
@@ -124,21 +124,21 @@ only_kept find values name o leaf is = or_none (kept_in values name) ∙ ap (opt
 
 same_known : (find : Find) (values other : BTreeMap (String Global) Known) (name : List ℕ) → kept_in values name ≡ kept_in other name → table_of find values name ≡ table_of find other name
 unfolding table_of
-same_known find values other name e = ap (λ o. option_or o (leaf_of (find name))) e
+same_known find values other name e = ap (λ o. option_or o (leaf_of (find.at name))) e
 
 -- a name that stands behind those in expansion may be kept where it is too high
-pub entered : (find : Find) (left : ℕ) (a b : Going) (name : List ℕ) (found : Resolved) → IsGoing find left a → find name ≡ Ok (Some found) → has_no_more found ≡ false → IsBeyond (kept_in a.values) left name
+pub entered : (find : Find) (left : ℕ) (a b : Going) (name : List ℕ) (found : Resolved) → IsGoing find left a → find.at name ≡ Ok (Some found) → has_no_more found ≡ false → IsBeyond (kept_in a.values) left name
     → b.within.items ≡ a.within.items ++ name ∷ [] → b.values ≡ a.values → b.height ≡ Some 0 → IsGoing find (left - 1) b
 entered find left a b name found going is more beyond names values height = record {
   right = subst (λ v. IsTable find (table_of find v)) (sym values) going.right;
-  apart = subst (λ v. (name : List ℕ) (kept : Kept) → kept_in v name ≡ Some kept → leaf_of (find name) ≡ None) (sym values) going.apart;
+  apart = subst (λ v. (name : List ℕ) (kept : Kept) → kept_in v name ≡ Some kept → leaf_of (find.at name) ≡ None) (sym values) going.apart;
   clear = λ other there kept known.
       let known' : table_of find a.values other ≡ Some kept = ap (λ v. table_of find v other) (sym values) ∙ known in
       let all : is_in other (name ∷ innermost_first a.within.items) ≡ true = subst (λ l. is_in other l ≡ true) (ap innermost_first names ∙ onto_more [] a.within.items name) there in
       elim (either_way (bytes_eq other name)) [
         | inl same ↦
             let e = same_text other name same in
-            let leaf : leaf_of (find other) ≡ None = ap (λ n. leaf_of (find n)) e ∙ ap leaf_of is ∙ no_leaf found more in
+            let leaf : leaf_of (find.at other) ≡ None = ap (λ n. leaf_of (find.at n)) e ∙ ap leaf_of is ∙ no_leaf found more in
             let above = beyond kept (ap (kept_in a.values) (sym e) ∙ only_kept find a.values other (Some kept) leaf known') in omega (arith, above)
         | inr apart ↦ let above = going.clear other (from_or (bytes_eq other name) (is_in other (innermost_first a.within.items)) all apart) kept known' in omega (arith, above)
       ];
@@ -146,8 +146,8 @@ entered find left a b name found going is more beyond names values height = reco
 }
 
 -- the table with one name more
-module _ (find : Find) (old new : BTreeMap (String Global) Known) (name value : List ℕ) (met : Option ℕ) (height : ℕ) (found : Resolved) (put : IsPutAt old new name met value height) (is : find name ≡ Ok (Some found)) (more : has_no_more found ≡ false) where
-  leafless : leaf_of (find name) ≡ None
+module _ (find : Find) (old new : BTreeMap (String Global) Known) (name value : List ℕ) (met : Option ℕ) (height : ℕ) (found : Resolved) (put : IsPutAt old new name met value height) (is : find.at name ≡ Ok (Some found)) (more : has_no_more found ≡ false) where
+  leafless : leaf_of (find.at name) ≡ None
   leafless = ap leaf_of is ∙ no_leaf found more
 
   unknown : table_of find old name ≡ None
@@ -188,40 +188,43 @@ module _ (find : Find) (old new : BTreeMap (String Global) Known) (name value : 
   pub kept_still : (other : List ℕ) (kept : Kept) → table_of find old other ≡ Some kept → table_of find new other ≡ Some kept
   kept_still other kept known = still other (other_name other kept known) ∙ known
 
-  below_more : (h : ℕ) → Wider (below (table_of find old) h) (below (table_of find new) h)
-  below_more h other a told = by (table_of find old other) refl
+  below_at : (h : ℕ) (other : List ℕ) (a : Option (List ℕ)) → (below find.known (table_of find old) h).at other ≡ Ok a → (below find.known (table_of find new) h).at other ≡ Ok a
+  below_at h other a told = by (table_of find old other) refl
     where
-      by : (o : Option Kept) → table_of find old other ≡ o → below (table_of find new) h other ≡ Ok a
+      by : (o : Option Kept) → table_of find old other ≡ o → (below find.known (table_of find new) h).at other ≡ Ok a
       by None e = absurd (let no : told_below other h None ≡ Ok a = ap (told_below other h) (sym e) ∙ told in cc)
       by (Some kept) e = ap (told_below other h) (kept_still other kept e ∙ sym e) ∙ told
+
+  below_more : (h : ℕ) → Wider (below find.known (table_of find old) h) (below find.known (table_of find new) h)
+  below_more h = record { known = refl; at = λ other a told. below_at h other a told }
 
   right_still : (other : List ℕ) (kept : Kept) → IsRight find (table_of find old) other kept → IsRight find (table_of find new) other kept
   right_still other kept right = record {
     found = right.found;
     found_is = right.found_is;
-    value_is = present_wider (expanded_value (below (table_of find old) kept.height) other) (expanded_value (below (table_of find new) kept.height) other)
-        (λ r t e. value_wider (below (table_of find old) kept.height) (below (table_of find new) kept.height) (below_more kept.height) other r t e) right.found kept.value right.value_is;
+    value_is = present_wider (expanded_value (below find.known (table_of find old) kept.height) other) (expanded_value (below find.known (table_of find new) kept.height) other)
+        (λ r t e. value_wider (below find.known (table_of find old) kept.height) (below find.known (table_of find new) kept.height) (below_more kept.height) other r t e) right.found kept.value right.value_is;
     none = right.none;
   }
 
   -- lower names are told below the height of the name
-  lower_told : Tells (table_of find old) met (below (table_of find new) height)
-  lower_told = subst (λ m. Tells (table_of find old) m (below (table_of find new) height)) (sym put.met_is) (λ other kept known low.
+  lower_told : Tells (table_of find old) met (below find.known (table_of find new) height)
+  lower_told = subst (λ m. Tells (table_of find old) m (below find.known (table_of find new) height)) (sym put.met_is) (λ other kept known low.
       ap (told_below other height) (kept_still other kept known)
       ∙ told_lower other kept height (let h = put.height_is in omega (arith, low, h)))
     where
       told_lower : (other : List ℕ) (kept : Kept) (h : ℕ) → kept.height < h → told_below other h (Some kept) ≡ Ok kept.value
       told_lower other kept h lt = ap (λ b. elim b as (λ _. Result (Option (List ℕ)) Refusal) [ true ↦ Ok kept.value | false ↦ Err (value_cycle other) ]) (lt-ltb kept.height h lt)
 
-  own_right : ((values : Values) → Tells (table_of find old) met values → expanded_value values name found ≡ Ok value) → IsRight find (table_of find new) name own_kept
+  own_right : ((values : Values) → values.known ≡ find.known → Tells (table_of find old) met values → expanded_value values name found ≡ Ok value) → IsRight find (table_of find new) name own_kept
   own_right told = record {
     found = Some found;
     found_is = is;
-    value_is = ap (λ m. m >>= (λ text. Ok (Some text))) (told (below (table_of find new) height) lower_told);
+    value_is = ap (λ m. m >>= (λ text. Ok (Some text))) (told (below find.known (table_of find new) height) refl lower_told);
     none = λ zero. absurd (let h = put.height_is in omega (arith, zero, h));
   }
 
-  pub put_right : IsTable find (table_of find old) → ((values : Values) → Tells (table_of find old) met values → expanded_value values name found ≡ Ok value) → IsTable find (table_of find new)
+  pub put_right : IsTable find (table_of find old) → ((values : Values) → values.known ≡ find.known → Tells (table_of find old) met values → expanded_value values name found ≡ Ok value) → IsTable find (table_of find new)
   put_right right told other kept known = elim (either_way (bytes_eq other name)) [
     | inl same ↦
         let e = same_text other name same in
@@ -230,9 +233,9 @@ module _ (find : Find) (old new : BTreeMap (String Global) Known) (name value : 
     | inr apart ↦ right_still other kept (right other kept (sym (still other apart) ∙ known))
   ]
 
-  pub put_apart : ((other : List ℕ) (kept : Kept) → kept_in old other ≡ Some kept → leaf_of (find other) ≡ None) → (other : List ℕ) (kept : Kept) → kept_in new other ≡ Some kept → leaf_of (find other) ≡ None
+  pub put_apart : ((other : List ℕ) (kept : Kept) → kept_in old other ≡ Some kept → leaf_of (find.at other) ≡ None) → (other : List ℕ) (kept : Kept) → kept_in new other ≡ Some kept → leaf_of (find.at other) ≡ None
   put_apart before other kept there = elim (either_way (bytes_eq other name)) [
-    | inl same ↦ ap (λ n. leaf_of (find n)) (same_text other name same) ∙ leafless
+    | inl same ↦ ap (λ n. leaf_of (find.at n)) (same_text other name same) ∙ leafless
     | inr apart ↦ before other kept (sym (away other apart) ∙ there)
   ]
 
@@ -244,7 +247,7 @@ fresh_apart names name other fresh there = elim (either_way (bytes_eq other name
 ]
 
 -- what a name in expansion met counts for it alone, and its value, once it is kept, for those before
-module _ (find : Find) (left : ℕ) (a b m c : Going) (name value : List ℕ) (found : Resolved) (going : IsGoing find left a) (is : find name ≡ Ok (Some found)) (more : has_no_more found ≡ false) (fresh : is_in name a.within.items ≡ false) (room : 1 ≤ left)
+module _ (find : Find) (left : ℕ) (a b m c : Going) (name value : List ℕ) (found : Resolved) (going : IsGoing find left a) (is : find.at name ≡ Ok (Some found)) (more : has_no_more found ≡ false) (fresh : is_in name a.within.items ≡ false) (room : 1 ≤ left)
     (names : b.within.items ≡ a.within.items ++ name ∷ []) (values : b.values ≡ a.values) (grew : Grew find (left - 1) b m) (told : AllTelling find m (λ v. expanded_value v name found ≡ Ok value)) where
   before : (other : List ℕ) → is_in other (innermost_first a.within.items) ≡ true → table_of find m.values other ≡ table_of find a.values other
   before other there =
@@ -257,7 +260,7 @@ module _ (find : Find) (left : ℕ) (a b m c : Going) (name value : List ℕ) (f
   pub left_unkept : c.values ≡ m.values → c.height ≡ joined a.height None → Grew find left a c
   left_unkept same height = record {
     right = subst (λ v. IsTable find (table_of find v)) (sym same) grew.right;
-    apart = subst (λ v. (name : List ℕ) (kept : Kept) → kept_in v name ≡ Some kept → leaf_of (find name) ≡ None) (sym same) grew.apart;
+    apart = subst (λ v. (name : List ℕ) (kept : Kept) → kept_in v name ≡ Some kept → leaf_of (find.at name) ≡ None) (sym same) grew.apart;
     kept = λ other kept known. ap (λ v. table_of find v other) same ∙ kept_on other kept known;
     within = λ other there. ap (λ v. table_of find v other) same ∙ before other there;
     low = subst (IsLow left) (sym height) tt;
@@ -290,18 +293,18 @@ module _ (find : Find) (left : ℕ) (a b m c : Going) (name value : List ℕ) (f
       by None same height = left_unkept same height
       by (Some own) put height = left_kept own put height
 
-  pub left_told : IsLeft m c a.height name value → AllTelling find c (λ v. v name ≡ Ok (Some value))
-  left_told gone v tells = by gone.own gone.put gone.height
+  pub left_told : IsLeft m c a.height name value → AllTelling find c (λ v. v.at name ≡ Ok (Some value))
+  left_told gone v telling tells = by gone.own gone.put gone.height
     where
-      by : (own : Option ℕ) → IsPut m.values c.values name m.height value own → c.height ≡ joined a.height own → v name ≡ Ok (Some value)
+      by : (own : Option ℕ) → IsPut m.values c.values name m.height value own → c.height ≡ joined a.height own → v.at name ≡ Ok (Some value)
       by None same height = absurd (subst (λ h. Tells (table_of find c.values) h v) height tells)
-      by (Some own) put height = higher_told find a c (record { height = own; value = Some value }) name height (now_known find m.values c.values name value m.height own found put is more) v tells
+      by (Some own) put height = higher_told find a c (record { height = own; value = Some value }) name height (now_known find m.values c.values name value m.height own found put is more) v telling tells
 
 -- A value at hand
 
 -- it is kept
 pub kept_at_hand : (find : Find) (left : ℕ) (a b : Going) (name : List ℕ) (kept : Kept) → IsGoing find left a → kept_in a.values name ≡ Some kept → kept.height ≤ left → b.values ≡ a.values → b.height ≡ higher a.height kept.height
-    → (known find left a.within.items name ≡ Ok kept.value) × Grew find left a b × AllTelling find b (λ v. v name ≡ Ok kept.value)
+    → ((known find left a.within.items).at name ≡ Ok kept.value) × Grew find left a b × AllTelling find b (λ v. v.at name ≡ Ok kept.value)
 kept_at_hand find left a b name kept going is low values height =
     let there = kept_known find a.values name kept is in (
       told_known find left a name kept going there low,
@@ -310,8 +313,8 @@ kept_at_hand find left a b name kept going is low values height =
     )
 
 -- there is none
-pub none_at_hand : (find : Find) (left : ℕ) (a : Going) (name : List ℕ) → IsGoing find left a → find name ≡ Ok None → is_in name a.within.items ≡ false
-    → (known find left a.within.items name ≡ Ok None) × Grew find left a a × AllTelling find a (λ v. v name ≡ Ok None)
+pub none_at_hand : (find : Find) (left : ℕ) (a : Going) (name : List ℕ) → IsGoing find left a → find.at name ≡ Ok None → is_in name a.within.items ≡ false
+    → ((known find left a.within.items).at name ≡ Ok None) × Grew find left a a × AllTelling find a (λ v. v.at name ≡ Ok None)
 none_at_hand find left a name going is fresh =
     let kept : Kept = record { height = 0; value = None } in (
       known_none find left a.within.items name fresh is,
@@ -331,61 +334,61 @@ no_opening : (found : Resolved) → has_no_more found ≡ true → holds (codes 
 no_opening found e = no_text (holds (codes "${") found.text) (and_left (not (holds (codes "${") found.text)) (is_empty found.removes) e)
 
 -- it meets no other name
-pub plain_at_hand : (find : Find) (left : ℕ) (a b : Going) (name value : List ℕ) (found : Resolved) → IsGoing find left a → find name ≡ Ok (Some found) → is_in name a.within.items ≡ false → 1 ≤ left → has_no_more found ≡ true
+pub plain_at_hand : (find : Find) (left : ℕ) (a b : Going) (name value : List ℕ) (found : Resolved) → IsGoing find left a → find.at name ≡ Ok (Some found) → is_in name a.within.items ≡ false → 1 ≤ left → has_no_more found ≡ true
     → value ≡ found.text → length found.text ≤ longest → b.values ≡ a.values → b.height ≡ higher a.height 1
-    → (known find left a.within.items name ≡ Ok (Some value)) × Grew find left a b × AllTelling find b (λ v. v name ≡ Ok (Some value))
+    → ((known find left a.within.items).at name ≡ Ok (Some value)) × Grew find left a b × AllTelling find b (λ v. v.at name ≡ Ok (Some value))
 plain_at_hand find left a b name value found going is fresh room plain same fits values height =
     let kept : Kept = record { height = 1; value = Some found.text } in
     let names = a.within.items ++ name ∷ [] in
     let v = known find (left - 1) names in
-    let leaf : leaf_of (find name) ≡ Some kept = ap leaf_of is ∙ ap (if_fits found) (both (has_no_more found) (nat_le (length found.text) longest) plain (le-leb (length found.text) longest fits)) in
+    let leaf : leaf_of (find.at name) ≡ Some kept = ap leaf_of is ∙ ap (if_fits found) (both (has_no_more found) (nat_le (length found.text) longest) plain (le-leb (length found.text) longest fits)) in
     let there = leaf_known find a.values name kept going.apart leaf in
     let text : Some found.text ≡ Some value = ap Some (sym same) in (
       known_found find left a.within.items name found fresh is room
           ∙ ap (λ m. m >>= (λ t. Ok (Some t))) (value_alone v (last_name names) found found.text (plain_ok v (last_name names) found.text (no_opening found plain) fits) (nothing found.removes (and_right (not (holds (codes "${") found.text)) (is_empty found.removes) plain)))
           ∙ ap Ok text,
       grew_higher find left a b 1 values height going room,
-      λ w tells. higher_told find a b kept name height (ap (λ u. table_of find u name) values ∙ there) w tells ∙ ap Ok text,
+      λ w telling tells. higher_told find a b kept name height (ap (λ u. table_of find u name) values ∙ there) w telling tells ∙ ap Ok text,
     )
 
 -- or is too long
-pub plain_too_long : (find : Find) (left : ℕ) (names : List (List ℕ)) (name : List ℕ) (found : Resolved) (fault : ExpandFault) → find name ≡ Ok (Some found) → is_in name names ≡ false → 1 ≤ left → has_no_more found ≡ true
-    → IsFaultOf fault (require (nat_le (length found.text) longest) (too_long name)) → IsFaultOf fault (known find left names name)
+pub plain_too_long : (find : Find) (left : ℕ) (names : List (List ℕ)) (name : List ℕ) (found : Resolved) (fault : ExpandFault) → find.at name ≡ Ok (Some found) → is_in name names ≡ false → 1 ≤ left → has_no_more found ≡ true
+    → IsFaultOf fault (require (nat_le (length found.text) longest) (too_long name)) → IsFaultOf fault ((known find left names).at name)
 plain_too_long find left names name found fault is fresh room plain long =
     let v = known find (left - 1) (names ++ name ∷ []) in
     let n = last_name (names ++ name ∷ []) in
-    fault_same fault (known find left names name) (expanded_value v n found >>= (λ text. Ok (Some text))) (known_found find left names name found fresh is room)
+    fault_same fault ((known find left names).at name) (expanded_value v n found >>= (λ text. Ok (Some text))) (known_found find left names name found fresh is room)
     (fault_on fault (expanded_value v n found) (λ text. Ok (Some text))
     (value_fault v n found fault (plain_long v n found.text fault (no_opening found plain) (subst (λ m. IsFaultOf fault (require (nat_le (length found.text) longest) (too_long m))) (sym (last_is names name)) long))))
 
 -- the start
 
-leaf_alone : (find : Find) (values : BTreeMap (String Global) Known) (name : List ℕ) → kept_in values name ≡ None → table_of find values name ≡ leaf_of (find name)
+leaf_alone : (find : Find) (values : BTreeMap (String Global) Known) (name : List ℕ) → kept_in values name ≡ None → table_of find values name ≡ leaf_of (find.at name)
 unfolding table_of
-leaf_alone find values name none = ap (λ o. option_or o (leaf_of (find name))) none
+leaf_alone find values name none = ap (λ o. option_or o (leaf_of (find.at name))) none
 
 pub started : (find : Find) (left : ℕ) (a : Going) → a.within.items ≡ [] → ((name : List ℕ) → kept_in a.values name ≡ None) → a.height ≡ Some 0 → IsGoing find left a
 started find left a names none height = record {
-  right = λ name kept known. leaf_right name kept (find name) refl (sym (leaf_alone find a.values name (none name)) ∙ known);
+  right = λ name kept known. leaf_right name kept (find.at name) refl (sym (leaf_alone find a.values name (none name)) ∙ known);
   apart = λ name kept there. absurd (let no : None ≡ Some kept = sym (none name) ∙ there in cc);
   clear = λ name there kept known. not_both false (subst (λ l. is_in name (innermost_first l) ≡ true) names there) refl;
   low = subst (IsLow left) (sym height) (omega arith);
 }
   where
-    fitting_right : (name : List ℕ) (kept : Kept) (found : Resolved) (b : Bool) → find name ≡ Ok (Some found) → (has_no_more found && nat_le (length found.text) longest) ≡ b → if_fits found b ≡ Some kept → IsRight find (table_of find a.values) name kept
+    fitting_right : (name : List ℕ) (kept : Kept) (found : Resolved) (b : Bool) → find.at name ≡ Ok (Some found) → (has_no_more found && nat_le (length found.text) longest) ≡ b → if_fits found b ≡ Some kept → IsRight find (table_of find a.values) name kept
     fitting_right name kept found true is fits e =
         let same : record { height = 1; value = Some found.text } ≡ kept = let two : Some (record { height = 1; value = Some found.text }) ≡ Some kept = e in cc in
         subst (IsRight find (table_of find a.values) name) same (record {
           found = Some found;
           found_is = is;
-          value_is = ap (λ m. m >>= (λ t. Ok (Some t))) (value_alone (below (table_of find a.values) 1) name found found.text
-              (plain_ok (below (table_of find a.values) 1) name found.text (no_opening found (and_left (has_no_more found) (nat_le (length found.text) longest) fits)) (leb-true (length found.text) longest (and_right (has_no_more found) (nat_le (length found.text) longest) fits)))
+          value_is = ap (λ m. m >>= (λ t. Ok (Some t))) (value_alone (below find.known (table_of find a.values) 1) name found found.text
+              (plain_ok (below find.known (table_of find a.values) 1) name found.text (no_opening found (and_left (has_no_more found) (nat_le (length found.text) longest) fits)) (leb-true (length found.text) longest (and_right (has_no_more found) (nat_le (length found.text) longest) fits)))
               (nothing found.removes (and_right (not (holds (codes "${") found.text)) (is_empty found.removes) (and_left (has_no_more found) (nat_le (length found.text) longest) fits))));
           none = λ zero. absurd (omega (arith, zero));
         })
     fitting_right name kept found false is fits e = absurd (let no : None ≡ Some kept = e in cc)
 
-    leaf_right : (name : List ℕ) (kept : Kept) (r : Result (Option Resolved) Refusal) → find name ≡ r → leaf_of (find name) ≡ Some kept → IsRight find (table_of find a.values) name kept
+    leaf_right : (name : List ℕ) (kept : Kept) (r : Result (Option Resolved) Refusal) → find.at name ≡ r → leaf_of (find.at name) ≡ Some kept → IsRight find (table_of find a.values) name kept
     leaf_right name kept (Ok None) is e =
         let same : record { height = 0; value = None } ≡ kept = let two : Some (record { height = 0; value = None }) ≡ Some kept = ap leaf_of (sym is) ∙ e in cc in
         subst (IsRight find (table_of find a.values) name) same (record { found = None; found_is = is; value_is = refl; none = λ zero. refl })
@@ -415,19 +418,19 @@ put_at old new name value copy most met is none same put = record {
 -- A name that isn't at hand
 
 deeper_known : (find : Find) (left : ℕ) (a b c : Going) (name : List ℕ) (found : Resolved) → IsAtHand find left a b name (Deeper found) → c.within.items ≡ b.within.items ++ name ∷ []
-    → known find left a.within.items name ≡ (expanded_value (known find (left - 1) c.within.items) (last_name c.within.items) found >>= (λ text. Ok (Some text)))
+    → (known find left a.within.items).at name ≡ (expanded_value (known find (left - 1) c.within.items) (last_name c.within.items) found >>= (λ text. Ok (Some text)))
 deeper_known find left a b c name found at names =
     known_found find left a.within.items name found at.3 at.4 at.1
     ∙ ap (λ l. expanded_value (known find (left - 1) l) (last_name l) found >>= (λ text. Ok (Some text))) (ap (λ g. g.within.items ++ name ∷ []) (sym at.0) ∙ sym names)
 
 pub deeper_fault : (find : Find) (left : ℕ) (a b c : Going) (name : List ℕ) (found : Resolved) (fault : ExpandFault) → IsAtHand find left a b name (Deeper found) → c.within.items ≡ b.within.items ++ name ∷ []
-    → IsFaultOf fault (expanded_value (known find (left - 1) c.within.items) (last_name c.within.items) found) → IsFaultOf fault (known find left a.within.items name)
+    → IsFaultOf fault (expanded_value (known find (left - 1) c.within.items) (last_name c.within.items) found) → IsFaultOf fault ((known find left a.within.items).at name)
 deeper_fault find left a b c name found fault at names h =
-    fault_same fault (known find left a.within.items name) (expanded_value (known find (left - 1) c.within.items) (last_name c.within.items) found >>= (λ text. Ok (Some text))) (deeper_known find left a b c name found at names)
+    fault_same fault ((known find left a.within.items).at name) (expanded_value (known find (left - 1) c.within.items) (last_name c.within.items) found >>= (λ text. Ok (Some text))) (deeper_known find left a b c name found at names)
     (fault_on fault (expanded_value (known find (left - 1) c.within.items) (last_name c.within.items) found) (λ text. Ok (Some text)) h)
 
 pub deeper_ok : (find : Find) (left : ℕ) (a b c : Going) (name value : List ℕ) (found : Resolved) → IsAtHand find left a b name (Deeper found) → c.within.items ≡ b.within.items ++ name ∷ []
-    → expanded_value (known find (left - 1) c.within.items) (last_name c.within.items) found ≡ Ok value → known find left a.within.items name ≡ Ok (Some value)
+    → expanded_value (known find (left - 1) c.within.items) (last_name c.within.items) found ≡ Ok value → (known find left a.within.items).at name ≡ Ok (Some value)
 deeper_ok find left a b c name value found at names h = deeper_known find left a b c name found at names ∙ ap (λ m. m >>= (λ text. Ok (Some text))) h
 
 module _ (find : Find) (left : ℕ) (a b c : Going) (name : List ℕ) (found : Resolved) (at : IsAtHand find left a b name (Deeper found)) (going : IsGoing find left a) (names : c.within.items ≡ b.within.items ++ name ∷ []) (values : c.values ≡ b.values) where
@@ -442,7 +445,7 @@ module _ (find : Find) (left : ℕ) (a b c : Going) (name : List ℕ) (found : R
 
   module _ (m e : Going) (outer : Option ℕ) (value : List ℕ) (height : outer ≡ b.height) (grew : Grew find (left - 1) c m) (told : AllTelling find m (λ v. expanded_value v (last_name c.within.items) found ≡ Ok value)) (gone : IsLeft m e outer name value) where
     own_told : AllTelling find m (λ v. expanded_value v name found ≡ Ok value)
-    own_told v tells = subst (λ n. expanded_value v n found ≡ Ok value) (ap last_name names_behind ∙ last_is a.within.items name) (told v tells)
+    own_told v telling tells = subst (λ n. expanded_value v n found ≡ Ok value) (ap last_name names_behind ∙ last_is a.within.items name) (told v telling tells)
 
     gone_before : IsLeft m e a.height name value
     gone_before = subst (λ h. IsLeft m e h name value) (height ∙ ap (λ g. g.height) at.0) gone
@@ -450,11 +453,11 @@ module _ (find : Find) (left : ℕ) (a b c : Going) (name : List ℕ) (found : R
     pub deeper_grew : Grew find left a e
     deeper_grew = left_grew find left a c m e name value found going at.4 at.5 at.3 at.1 names_behind values_same grew own_told gone_before
 
-    pub deeper_told : AllTelling find e (λ v. v name ≡ Ok (Some value))
+    pub deeper_told : AllTelling find e (λ v. v.at name ≡ Ok (Some value))
     deeper_told = left_told find left a c m e name value found going at.4 at.5 at.3 at.1 names_behind values_same grew own_told gone_before
 
 -- a piece that is put behind what is expanded so far, whoever tells what is known
-pub put_told : {T : Type 0} (P : Values → Type 0) (name : List ℕ) (part : Part) (out piece piece' new : List ℕ) (r : Result T ExpandFault) → ((v : Values) → P v → part_text v name part ≡ Ok piece) → piece' ≡ piece
-    → OnOk r (length piece' ≤ longest - length out) → OnOk r (new ≡ out ++ piece') → OnOk r ((v : Values) → P v → grown v name part out ≡ Ok new)
-put_told P name part out piece piece' new (Ok made) e same fits is = λ v p. put_ok v name part out piece piece' new (Ok made) (e v p) same fits is
-put_told P name part out piece piece' new (Err fault) e same fits is = is
+pub put_told : {T : Type 0} (find : Find) (going : Going) (name : List ℕ) (part : Part) (out piece piece' new : List ℕ) (r : Result T ExpandFault) → AllTelling find going (λ v. part_text v name part ≡ Ok piece) → piece' ≡ piece
+    → OnOk r (length piece' ≤ longest - length out) → OnOk r (new ≡ out ++ piece') → OnOk r (AllTelling find going (λ v. grown v name part out ≡ Ok new))
+put_told find going name part out piece piece' new (Ok made) e same fits is = λ v telling tells. put_ok v name part out piece piece' new (Ok made) (e v telling tells) same fits is
+put_told find going name part out piece piece' new (Err fault) e same fits is = is

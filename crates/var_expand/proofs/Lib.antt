@@ -4,6 +4,7 @@ pub mod Growing
 pub mod Noting
 pub mod Openings
 pub mod Pieces
+pub mod Seeking
 pub mod Steps
 pub mod Table
 pub mod Wider

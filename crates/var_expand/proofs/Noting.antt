@@ -3,14 +3,16 @@ use Rattle.std.proofs.Common.{◌≡◌, refl, sym, ◌∙◌, ap, subst, ℕ, �
 use Rattle.std.specs.List.{list_all}
 use Rattle.meta_model.specs.Refusal.{Refusal, ◌>>=◌}
 use Rattle.meta_model.specs.Text.{into_order}
+use Rattle.meta_model.specs.declared.form.Form.{Form}
+use Rattle.meta_model.specs.Forms.{told_name}
 use Rattle.meta_model.specs.Names.{is_name_character}
-use Rattle.meta_model.specs.Parts.{Parts, end, reference}
+use Rattle.meta_model.specs.Parts.{Parts, end, reference, form}
 use Rattle.meta_model.specs.Expansion.{Values, longest, expanded_parts}
 use Rattle.var_expand.specs.declared.fault.ExpandFault.{ExpandFault}
 use Rattle.var_expand.specs.declared.fault.ExpandFault.TheVariants.{ValueCycle, TooDeep, TooLong, Unstable, Memory}
-use Rattle.var_expand.specs.declared.parts.Part.{Part, Plain, Ref, Ref'}
+use Rattle.var_expand.specs.declared.parts.Part.{Part, Plain, Ref, Ref', Call}
 use Rattle.var_expand.specs.declared.parts.Parts.{Parts as Pieces}
-use Rattle.var_expand.specs.Faults.{IsFaultOf}
+use Rattle.var_expand.specs.Faults.{IsFaultOf, IsWantOfMemory}
 use Rattle.var_expand.specs.Pieces.{text_before, part_before, parts_in, parts_in_row}
 use Rattle.meta_model.specs.References.{names_looked_up, noted}
 use Rattle.var_expand.proofs.Pieces.{ref_part}
@@ -50,6 +52,12 @@ part_next values (Plain t) after names some e =
     noted_plain values t after names ∙ ap (noted values after) (ok_same names some (noted values (text_before t end) names) (noted_plain values t end names) e)
 part_next values (Ref' shape row) after names some e =
     after_reference (expanded_parts values [] (parts_in_row row) longest) (names_looked_up values (parts_in_row row)) (names_looked_up values after) names some e
+part_next values (Call f) after names some e =
+    after_form (names_looked_up values after) (told_name f.name f.words) (ok_same (into_order names (told_name f.name f.words)) some (Ok (into_order names (told_name f.name f.words))) refl e)
+  where
+    after_form : (m : Result (List (List ℕ)) Refusal) (told : List ℕ) → into_order names told ≡ some → ((m >>= (λ rest. Ok (told ∷ rest))) >>= (λ list. Ok (fold into_order names list))) ≡ (m >>= (λ list. Ok (fold into_order some list)))
+    after_form (Ok rest) told k = ap (λ s. Ok (fold into_order s rest)) k
+    after_form (Err refusal) told k = refl
 
 no_fault : {A B : Type 0} (fault : ExpandFault) (m : Result A Refusal) (a : A) (n : Result B Refusal) → m ≡ Ok a → IsFaultOf fault m → IsFaultOf fault n
 no_fault (ValueCycle name) m a n e f = absurd cc
@@ -72,6 +80,8 @@ pub part_fault : (values : Values) (part : Part) (after : Parts) (names : List (
 part_fault values (Plain t) after names fault h = no_fault fault (noted values (text_before t end) names) names (noted values (text_before t after) names) (noted_plain values t end names) h
 part_fault values (Ref' shape row) after names fault h =
     fault_after fault (expanded_parts values [] (parts_in_row row) longest) (names_looked_up values (parts_in_row row)) (names_looked_up values after) names h
+part_fault values (Call f) after names fault h =
+    no_fault fault (noted values (form f end) names) (into_order names (told_name f.name f.words)) (noted values (form f after) names) refl h
 
 pub part_is : (values : Values) (part : Part) (pieces : Pieces) (names : List (List ℕ)) → part ≡ Ref pieces → noted values (part_before part end) names ≡ noted values (reference (parts_in pieces) end) names
 part_is values part pieces names is = ap (λ p. noted values (part_before p end) names) is ∙ ap (λ p. noted values p names) (ref_part pieces end)
@@ -90,3 +100,15 @@ pub ref_err : {T : Type 0} (values : Values) (part : Part) (pieces : Pieces) (na
     → IfErr r (λ fault. IsFaultOf fault (noted values (reference (parts_in pieces) end) names)) → IfErr r (λ fault. IsFaultOf fault (noted values (part_before part end) names))
 ref_err values part pieces names (Ok u) is h = h
 ref_err values part pieces names (Err fault) is h = subst (IsFaultOf fault) (sym (part_is values part pieces names is)) h
+
+-- a form is noted by the name under which a key tells it
+
+pub call_ok : {T : Type 0} (values : Values) (part : Part) (f : Form) (names new : List (List ℕ)) (r : Result T ExpandFault) → part ≡ Call f
+    → OnOk r (new ≡ into_order names (told_name f.name f.words)) → OnOk r (noted values (part_before part end) names ≡ Ok new)
+call_ok values part f names new (Ok u) is h = ap (λ p. noted values (part_before p end) names) is ∙ ap Ok (sym h)
+call_ok values part f names new (Err fault) is h = h
+
+pub call_err : {T : Type 0} (values : Values) (part : Part) (names : List (List ℕ)) (r : Result T ExpandFault)
+    → IfErr r IsWantOfMemory → IfErr r (λ fault. IsFaultOf fault (noted values (part_before part end) names))
+call_err values part names (Ok u) h = h
+call_err values part names (Err fault) h = subst (λ f. IsFaultOf f (noted values (part_before part end) names)) (sym h) tt

@@ -1,12 +1,16 @@
 -- How parts are put together, and what openings, braces and runs of plain text make of them.
-use Rattle.std.proofs.Common.{◌≡◌, refl, sym, ◌∙◌, ap, subst, arith, ℕ, suc, ◌+◌, ◌<◌, ◌≤◌, le_trans, le_refl, max, List, [], ◌∷◌, ◌++◌, length, take, drop, Bool, true, false, ◌&&◌, ◌||◌, ◌⊎◌, inl, inr, eq-eqb, ne_eqb, ◌==◌, codes, get_or, add-one}
+use Rattle.std.proofs.Common.{◌≡◌, refl, sym, ◌∙◌, ap, subst, arith, ℕ, suc, ◌+◌, ◌<◌, ◌≤◌, le_trans, le_refl, max, List, [], ◌∷◌, ◌++◌, length, take, drop, Bool, true, false, Option, Some, None, ◌&&◌, ◌||◌, ◌⊎◌, inl, inr, eq-eqb, ne_eqb, ◌==◌, codes, get_or, add-one}
 use Rattle.std.proofs.lemmas.Bool.{cases_eq, cases_Bool, true≢false}
 use Rattle.std.proofs.Math.Seq.{drop-cons, take-suc}
-use Rattle.meta_model.specs.Text.{begins_with, dollar, open_brace, close_brace}
+use Rattle.meta_model.proofs.RoundTrip.{mapped, form_parts}
+use Rattle.meta_model.specs.declared.form.Form.{Form}
+use Rattle.meta_model.specs.Forms.{is_form_character, form_of}
+use Rattle.std.specs.List.{list_all}
+use Rattle.meta_model.specs.Text.{◌>>=◌, begins_with, dollar, open_brace, close_brace}
 use Rattle.meta_model.specs.Names.{is_name_character}
-use Rattle.meta_model.specs.Parts.{Parts, end, plain, reference, Token, opening, byte, Levels, last, before_brace, onto, opened, plain_opening, is_name, is_nothing, are_name_parts, dollar_before, tokens_of, joined_with, with_braces, depth}
+use Rattle.meta_model.specs.Parts.{Parts, end, plain, reference, form, plain_bytes, form_in, Token, opening, byte, Levels, last, before_brace, onto, opened, plain_opening, is_name, is_nothing, are_name_parts, dollar_before, tokens_of, joined_with, with_braces, depth}
 use Rattle.var_expand.specs.Pieces.{text_before}
-use Rattle.var_expand.specs.Standing.{levels, in_front, wrapped, flattened}
+use Rattle.var_expand.specs.Standing.{IsPlainInside, levels, in_front, wrapped, flattened}
 
 -- no test is both
 pub not_both : {A : Type 0} (b : Bool) → b ≡ true → b ≡ false → A
@@ -26,11 +30,13 @@ pub joined_end : (p : Parts) → joined_with p end ≡ p
 joined_end end = refl
 joined_end (plain c rest) = ap (plain c) (joined_end rest)
 joined_end (reference name rest) = ap (reference name) (joined_end rest)
+joined_end (form f rest) = ap (form f) (joined_end rest)
 
 pub joined_assoc : (p q r : Parts) → joined_with (joined_with p q) r ≡ joined_with p (joined_with q r)
 joined_assoc end q r = refl
 joined_assoc (plain c rest) q r = ap (plain c) (joined_assoc rest q r)
 joined_assoc (reference name rest) q r = ap (reference name) (joined_assoc rest q r)
+joined_assoc (form f rest) q r = ap (form f) (joined_assoc rest q r)
 
 pub front_front : (p q : Parts) (rest : Levels) → in_front p (in_front q rest) ≡ in_front (joined_with p q) rest
 front_front p q (last text) = ap last (sym (joined_assoc p q text))
@@ -47,6 +53,10 @@ front_plain c (before_brace text rest) = refl
 pub front_reference : (name : Parts) (rest : Levels) → onto (reference name) rest ≡ in_front (reference name end) rest
 front_reference name (last text) = refl
 front_reference name (before_brace text rest) = refl
+
+pub front_form : (f : Form) (rest : Levels) → onto (form f) rest ≡ in_front (form f end) rest
+front_form f (last text) = refl
+front_form f (before_brace text rest) = refl
 
 pub braces_front : (p : Parts) (rest : Levels) → with_braces (in_front p rest) ≡ joined_with p (with_braces rest)
 braces_front p (last text) = refl
@@ -107,6 +117,7 @@ nothing_after : (f : Parts) (t : Parts) → are_name_parts (joined_with f (plain
 nothing_after end t = refl
 nothing_after (plain c rest) t = rw (nothing_after rest t) (elim (cases_Bool (is_name_character c)) [ inl e ↦ rw e refl | inr e ↦ rw e refl ])
 nothing_after (reference name rest) t = nothing_after rest t
+nothing_after (form f rest) t = refl
 
 no_name : (p : Parts) → are_name_parts p ≡ false → is_name p ≡ false
 no_name p h = rw h (elim (cases_Bool (is_nothing p)) [ inl e ↦ rw e refl | inr e ↦ rw e refl ])
@@ -119,6 +130,7 @@ later_bad : (f t : Parts) → are_name_parts t ≡ false → are_name_parts (joi
 later_bad end t h = h
 later_bad (plain c rest) t h = rw (later_bad rest t h) (elim (cases_Bool (is_name_character c)) [ inl e ↦ rw e refl | inr e ↦ rw e refl ])
 later_bad (reference name rest) t h = later_bad rest t h
+later_bad (form f rest) t h = refl
 
 earlier_bad : (f t : Parts) → are_name_parts f ≡ false → are_name_parts (joined_with f t) ≡ false
 earlier_bad end t h = not_both true refl h
@@ -127,24 +139,75 @@ earlier_bad (plain c rest) t h = elim (cases_Bool (is_name_character c)) [
   | inr e ↦ rw e refl
 ]
 earlier_bad (reference name rest) t h = earlier_bad rest t h
+earlier_bad (form f rest) t h = refl
 
 joined_no_name : (f t : Parts) → is_name f ≡ false → is_name t ≡ false → is_name (joined_with f t) ≡ false
 joined_no_name end t h k = k
 joined_no_name (plain c rest) t h k = earlier_bad (plain c rest) t h
 joined_no_name (reference name rest) t h k = earlier_bad (reference name rest) t h
+joined_no_name (form f rest) t h k = earlier_bad (form f rest) t h
+
+-- An opening is no part of a form, so what has one in it is the inside of none.
+
+abbrev are_signs : Parts → Bool
+are_signs end = true
+are_signs (plain c rest) = is_form_character c && are_signs rest
+are_signs (reference name rest) = are_signs rest
+are_signs (form f rest) = are_signs rest
+
+no_signs : (q x : Parts) → are_signs (joined_with q (plain_opening x)) ≡ false
+no_signs end x = refl
+no_signs (plain c rest) x = rw (no_signs rest x) (and_false (is_form_character c))
+  where
+    and_false : (b : Bool) → (b && false) ≡ false
+    and_false true = refl
+    and_false false = refl
+no_signs (reference name rest) x = no_signs rest x
+no_signs (form f rest) x = no_signs rest x
+
+later_signs : (p t : Parts) → are_signs p ≡ false → are_signs (joined_with p t) ≡ false
+later_signs end t h = not_both true refl h
+later_signs (plain c rest) t h = elim (cases_Bool (is_form_character c)) [
+  | inl e ↦ rw e (later_signs rest t (subst (λ b. (b && are_signs rest) ≡ false) e h))
+  | inr e ↦ rw e refl
+]
+later_signs (reference name rest) t h = later_signs rest t h
+later_signs (form f rest) t h = later_signs rest t h
+
+bytes_signs : (p : Parts) (bytes : List ℕ) → plain_bytes p ≡ Some bytes → list_all is_form_character bytes ≡ are_signs p
+bytes_signs end bytes e = let k : Some [] ≡ Some bytes = e in subst (λ b. list_all is_form_character b ≡ true) (let same : [] ≡ bytes = cc in same) refl
+bytes_signs (plain c rest) bytes e =
+    let m = mapped (λ b. c ∷ b) (plain_bytes rest) bytes e in
+    subst (λ b. list_all is_form_character b ≡ (is_form_character c && are_signs rest)) m.2 (ap (λ b. is_form_character c && b) (bytes_signs rest m.0 m.1))
+bytes_signs (reference name rest) bytes e = absurd cc
+bytes_signs (form f rest) bytes e = absurd cc
+
+pub no_inside : (p : Parts) → are_signs p ≡ false → form_in p ≡ None
+no_inside p h = by (plain_bytes p) refl
+  where
+    by : (o : Option (List ℕ)) → plain_bytes p ≡ o → (o >>= form_of) ≡ None
+    by None e = refl
+    by (Some bytes) e = let none : list_all is_form_character bytes ≡ false = bytes_signs p bytes e ∙ h in rw none refl
+
+joined_no_form : (outer : List Parts) (t : Parts) → form_in t ≡ None → form_in (joined_with (flattened outer) t) ≡ None
+joined_no_form [] t h = h
+joined_no_form (p ∷ outer) t h = no_inside (joined_with (flattened (p ∷ outer)) t) (later_signs (flattened (p ∷ outer)) t (no_signs p (flattened outer)))
 
 pub collapsed_last : (outer : List Parts) (t : Parts) → wrapped outer (last t) ≡ last (joined_with (flattened outer) t)
 collapsed_last [] t = refl
 collapsed_last (p ∷ outer) t = ap (λ l. in_front p (opened l)) (collapsed_last outer t) ∙ ap last (sym (joined_assoc p (plain_opening (flattened outer)) t))
 
-opened_bad : (t : Parts) (rest : Levels) → is_name t ≡ false → opened (before_brace t rest) ≡ before_brace (plain_opening t) rest
-opened_bad t rest h = rw h refl
+opened_bad : (t : Parts) (rest : Levels) → is_name t ≡ false → form_in t ≡ None → opened (before_brace t rest) ≡ before_brace (plain_opening t) rest
+opened_bad t rest h k = rw (h, k) refl
 
-pub collapsed_brace : (outer : List Parts) (t : Parts) (rest : Levels) → is_name t ≡ false → wrapped outer (before_brace t rest) ≡ before_brace (joined_with (flattened outer) t) rest
+opened_form_in : (t : Parts) (rest : Levels) (f : Form) → is_name t ≡ false → form_in t ≡ Some f → opened (before_brace t rest) ≡ onto (form f) rest
+opened_form_in t rest f h k = rw (h, k) refl
+
+pub collapsed_brace : (outer : List Parts) (t : Parts) (rest : Levels) → IsPlainInside t → wrapped outer (before_brace t rest) ≡ before_brace (joined_with (flattened outer) t) rest
 collapsed_brace [] t rest h = refl
 collapsed_brace (p ∷ outer) t rest h =
     ap (λ l. in_front p (opened l)) (collapsed_brace outer t rest h)
-    ∙ ap (in_front p) (opened_bad (joined_with (flattened outer) t) rest (joined_no_name (flattened outer) t (flattened_no_name outer) h))
+    ∙ ap (in_front p) (opened_bad (joined_with (flattened outer) t) rest (joined_no_name (flattened outer) t (flattened_no_name outer) h.name) (joined_no_form outer t h.form))
     ∙ ap (λ q. before_brace q rest) (sym (joined_assoc p (plain_opening (flattened outer)) t))
 
 opened_name : (t : Parts) (rest : Levels) → is_name t ≡ true → opened (before_brace t rest) ≡ onto (reference t) rest
@@ -158,12 +221,21 @@ closed_name outer p t rest h =
     ∙ ap (λ l. wrapped outer (in_front p l)) (opened_name t rest h ∙ front_reference t rest)
     ∙ ap (wrapped outer) (front_front p (reference t end) rest)
 
+-- a brace closes a form
+pub closed_form : (outer : List Parts) (p t : Parts) (f : Form) (rest : Levels) → is_name t ≡ false → form_in t ≡ Some f → wrapped (outer ++ p ∷ []) (in_front t (before_brace end rest)) ≡ wrapped outer (in_front (joined_with p (form f end)) rest)
+closed_form outer p t f rest h k =
+    wrapped_more outer p (in_front t (before_brace end rest))
+    ∙ ap (λ q. wrapped outer (in_front p (opened (before_brace q rest)))) (joined_end t)
+    ∙ ap (λ l. wrapped outer (in_front p l)) (opened_form_in t rest f h k ∙ front_form f rest)
+    ∙ ap (wrapped outer) (front_front p (form f end) rest)
+
 -- how deep references nest
 
 pub joined_depth : (p q : Parts) → depth (joined_with p q) ≡ max (depth p) (depth q)
 joined_depth end q = omega arith
 joined_depth (plain c rest) q = joined_depth rest q
 joined_depth (reference name rest) q = let e = joined_depth rest q in grind (arith, e)
+joined_depth (form f rest) q = joined_depth rest q
 
 abbrev deepest_of : Levels → ℕ
 deepest_of (last text) = depth text
@@ -181,12 +253,26 @@ own_depth : (p : Parts) (rest : Levels) → depth p ≤ deepest_of (in_front p r
 own_depth p (last text) = let e = joined_depth p text in grind (arith, e)
 own_depth p (before_brace text rest) = let e = joined_depth p text in grind (arith, e)
 
+plain_depth : (p : Parts) (bytes : List ℕ) → plain_bytes p ≡ Some bytes → depth p ≡ 0
+plain_depth end bytes e = refl
+plain_depth (plain c rest) bytes e = let m = mapped (λ b. c ∷ b) (plain_bytes rest) bytes e in plain_depth rest m.0 m.1
+plain_depth (reference name rest) bytes e = absurd cc
+plain_depth (form f rest) bytes e = absurd cc
+
 opened_depth : (rest : Levels) → deepest_of rest ≤ deepest_of (opened rest)
 opened_depth (last text) = le_refl (depth text)
 opened_depth (before_brace text rest) = elim (cases_Bool (is_name text)) [
   | inl e ↦ rw (opened_name text rest e, front_reference text rest) (raised text rest)
-  | inr e ↦ rw (opened_bad text rest e) (le_refl (max (depth text) (deepest_of rest)))
+  | inr e ↦ by_form e (form_in text) refl
 ] where
+  by_form : is_name text ≡ false → (o : Option Form) → form_in text ≡ o → max (depth text) (deepest_of rest) ≤ deepest_of (opened (before_brace text rest))
+  by_form e None k = rw (opened_bad text rest e k) (le_refl (max (depth text) (deepest_of rest)))
+  by_form e (Some f) k =
+      let p = form_parts (plain_bytes text) f k in
+      let none = plain_depth text p.0 p.1 in
+      let rest_is = front_depth (form f end) rest in
+      rw (opened_form_in text rest f e k, front_form f rest) (omega (arith, none, rest_is))
+
   raised : (t : Parts) (l : Levels) → max (depth t) (deepest_of l) ≤ deepest_of (in_front (reference t end) l)
   raised t (last text) = omega arith
   raised t (before_brace text l) = omega arith
@@ -227,7 +313,7 @@ flat_next w q qs t =
     ∙ ap (λ p. joined_with w (plain_opening p)) (sym (flat_first q qs t))
 
 -- a brace that closes nothing
-pub plain_brace : (outer : List Parts) (t : Parts) (rest : Levels) → (is_name t ≡ false) ⊎ (outer ≡ [])
+pub plain_brace : (outer : List Parts) (t : Parts) (rest : Levels) → IsPlainInside t ⊎ (outer ≡ [])
     → with_braces (wrapped outer (in_front t (before_brace end rest))) ≡ joined_with (joined_with (joined_with (flattened outer) t) (plain close_brace end)) (with_braces rest)
 plain_brace outer t rest (inl h) =
     ap (λ q. with_braces (wrapped outer (before_brace q rest))) (joined_end t)

@@ -1,10 +1,11 @@
 -- The parts that the program has.
-use Rattle.std.proofs.Common.{◌≡◌, refl, sym, ◌∙◌, ap, arith, ℕ, max, List, [], ◌∷◌, ◌++◌, Bool, true, false, not, ◌&&◌, ◌||◌}
+use Rattle.std.proofs.Common.{◌≡◌, refl, sym, ◌∙◌, ap, arith, ℕ, max, ◌+◌, ◌<◌, List, [], ◌∷◌, ◌++◌, length, drop, get_or, append_assoc, Option, Some, None, option_map, Bool, true, false, not, ◌&&◌, ◌||◌}
 use mathlib.Core.Former.{Count}
+use Rattle.std.proofs.lemmas.List.{drop_more}
 use Rattle.std.specs.List.{list_all, list_any}
 use Rattle.meta_model.specs.Names.{is_name_character}
-use Rattle.meta_model.specs.Parts.{Parts, end, reference, is_name, is_nothing, are_name_parts, joined_with, depth}
-use Rattle.var_expand.specs.declared.parts.Part.{Part, Plain, Ref, Ref', Row_of-Part, end_of-Part, more_of-Part, items-the_row-Part, items_hidden-the_row-Part-0}
+use Rattle.meta_model.specs.Parts.{Parts, end, reference, plain_bytes, is_name, is_nothing, are_name_parts, joined_with, depth}
+use Rattle.var_expand.specs.declared.parts.Part.{Part, Plain, Ref, Ref', Call, Row_of-Part, end_of-Part, more_of-Part, items-the_row-Part, items_hidden-the_row-Part-0}
 use Rattle.var_expand.specs.declared.parts.Parts.{Parts as Pieces}
 use Rattle.var_expand.specs.Pieces.{text_before, part_before, parts_in_row, parts_in_list, parts_in, is_name_part, is_something}
 use Rattle.var_expand.proofs.Openings.{joined_assoc, text_joined, joined_depth}
@@ -13,6 +14,7 @@ use Rattle.var_expand.proofs.Openings.{joined_assoc, text_joined, joined_depth}
 pub before_joined : (part : Part) (after : Parts) → part_before part after ≡ joined_with (part_before part end) after
 before_joined (Plain text) after = text_joined text after
 before_joined (Ref' shape row) after = refl
+before_joined (Call f) after = refl
 
 pub list_append : (xs ys : List Part) → parts_in_list (xs ++ ys) ≡ joined_with (parts_in_list xs) (parts_in_list ys)
 list_append [] ys = refl
@@ -32,6 +34,7 @@ in_row n (more_of-Part part rest) = ap (part_before part) (in_row _ rest)
 abbrev pub row_of : Part → (n : Count) × Row_of-Part n
 row_of (Ref' _ row) = (_, row)
 row_of (Plain _) = (_, end_of-Part)
+row_of (Call _) = (_, end_of-Part)
 
 -- a reference is one
 pub ref_part : (pieces : Pieces) (after : Parts) → part_before (Ref pieces) after ≡ reference (parts_in pieces) after
@@ -49,6 +52,33 @@ depth_text p t = let e = joined_depth p (text_before t end) in let f = text_dept
 pub before_depth : (part : Part) (after : Parts) → depth (part_before part after) ≡ max (depth (part_before part end)) (depth after)
 before_depth part after = ap depth (before_joined part after) ∙ joined_depth (part_before part end) after
 
+-- the bytes of plain parts
+
+mapped_on : (t u : List ℕ) (o : Option (List ℕ)) → option_map (λ b. t ++ b) (option_map (λ b. u ++ b) o) ≡ option_map (λ b. (t ++ u) ++ b) o
+mapped_on t u None = refl
+mapped_on t u (Some b) = ap Some (sym (append_assoc t u b))
+
+text_bytes : (t : List ℕ) (after : Parts) → plain_bytes (text_before t after) ≡ option_map (λ b. t ++ b) (plain_bytes after)
+text_bytes [] after = same (plain_bytes after)
+  where
+    same : (o : Option (List ℕ)) → o ≡ option_map (λ b. b) o
+    same None = refl
+    same (Some b) = refl
+text_bytes (c ∷ t) after = ap (option_map (λ b. c ∷ b)) (text_bytes t after) ∙ both (plain_bytes after)
+  where
+    both : (o : Option (List ℕ)) → option_map (λ b. c ∷ b) (option_map (λ b. t ++ b) o) ≡ option_map (λ b. c ∷ (t ++ b)) o
+    both None = refl
+    both (Some b) = refl
+
+-- one plain part more
+pub bytes_more : (list : List Part) (i : ℕ) (t made : List ℕ) (d : Part) → Plain t ≡ get_or list i d → i < length list
+    → option_map (λ b. made ++ b) (plain_bytes (parts_in_list (drop i list))) ≡ option_map (λ b. (made ++ t) ++ b) (plain_bytes (parts_in_list (drop (i + 1) list)))
+bytes_more list i t made d is lt =
+    ap (λ l. option_map (λ b. made ++ b) (plain_bytes (parts_in_list l))) (drop_more list i d lt)
+    ∙ ap (λ p. option_map (λ b. made ++ b) (plain_bytes (part_before p (parts_in_list (drop (i + 1) list))))) (sym is)
+    ∙ ap (option_map (λ b. made ++ b)) (text_bytes t (parts_in_list (drop (i + 1) list)))
+    ∙ mapped_on made t (plain_bytes (parts_in_list (drop (i + 1) list)))
+
 -- names
 
 something_text : (t : List ℕ) (after : Parts) → is_nothing (text_before t after) ≡ (not (is_something (Plain t)) && is_nothing after)
@@ -58,6 +88,7 @@ something_text (c ∷ t) after = refl
 nothing_part : (part : Part) (after : Parts) → is_nothing (part_before part after) ≡ (not (is_something part) && is_nothing after)
 nothing_part (Plain text) after = something_text text after
 nothing_part (Ref' shape row) after = refl
+nothing_part (Call f) after = refl
 
 not_or : (a b : Bool) → (not a && not b) ≡ not (a || b)
 not_or true b = refl
@@ -78,6 +109,7 @@ name_text (c ∷ t) after = ap (λ b. is_name_character c && b) (name_text t aft
 name_part : (part : Part) (after : Parts) → are_name_parts (part_before part after) ≡ (is_name_part part && are_name_parts after)
 name_part (Plain text) after = name_text text after
 name_part (Ref' shape row) after = refl
+name_part (Call f) after = refl
 
 name_list : (list : List Part) → are_name_parts (parts_in_list list) ≡ list_all is_name_part list
 name_list [] = refl

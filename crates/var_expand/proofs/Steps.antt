@@ -1,14 +1,15 @@
 -- The steps of reading a text.
-use Rattle.std.proofs.Common.{◌≡◌, refl, sym, ◌∙◌, ap, arith, ◌<◌, List, [], ◌∷◌, ◌++◌, length, map, true, false, ◌⊎◌, inl, inr, Result, Ok, Err, IfOk, reverse}
+use Rattle.std.proofs.Common.{◌≡◌, refl, sym, ◌∙◌, ap, arith, ◌<◌, List, [], ◌∷◌, ◌++◌, length, map, true, false, Some, ◌⊎◌, inl, inr, Result, Ok, Err, IfOk, reverse}
 use Rattle.std.proofs.lemmas.List.{reverse-append, reverse-reverse}
 use Rattle.meta_model.specs.Text.{close_brace}
-use Rattle.meta_model.specs.Parts.{Parts, end, plain, reference, Levels, last, before_brace, opened, plain_opening, is_name, joined_with, with_braces, depth}
+use Rattle.meta_model.specs.declared.form.Form.{Form}
+use Rattle.meta_model.specs.Parts.{Parts, end, plain, reference, form, form_in, Levels, last, before_brace, opened, plain_opening, is_name, joined_with, with_braces, depth}
 use Rattle.meta_model.specs.Expansion.{deepest}
 use Rattle.var_expand.specs.declared.frame.Frame.{Frame}
 use Rattle.var_expand.specs.declared.standing.Standing.{Standing}
-use Rattle.var_expand.specs.Standing.{in_front, wrapped, flattened}
+use Rattle.var_expand.specs.Standing.{IsPlainInside, in_front, wrapped, flattened}
 use Rattle.var_expand.specs.ReadOn.{held, read_on}
-use Rattle.var_expand.proofs.Openings.{front_end, wrapped_more, closed_name, inner_depth, braces_front, plain_brace, text_end, flat_step, flat_first, flat_next, joined_depth}
+use Rattle.var_expand.proofs.Openings.{front_end, wrapped_more, closed_name, closed_form, inner_depth, braces_front, plain_brace, text_end, flat_step, flat_first, flat_next, joined_depth}
 
 map_more : {A B : Type 0} (f : A → B) (xs : List A) (x : A) → map f (xs ++ x ∷ []) ≡ map f xs ++ f x ∷ []
 map_more f [] x = refl
@@ -32,6 +33,15 @@ one_less old new frame inner made rest e n f =
     ∙ sym (ap with_braces (ap (λ l. wrapped l (in_front (held inner) (before_brace end rest))) (ap (map held) e ∙ map_more held new frame)
     ∙ closed_name (map held new) (held frame) (held inner) rest n))
 
+-- one less, which a form closes
+pub one_form : (old new : List Frame) (frame inner made : Frame) (f : Form) (rest : Levels) → old ≡ new ++ frame ∷ [] → is_name (held inner) ≡ false → form_in (held inner) ≡ Some f
+    → held made ≡ joined_with (held frame) (form f end)
+    → with_braces (wrapped (map held new) (in_front (held made) rest)) ≡ with_braces (wrapped (map held old) (in_front (held inner) (before_brace end rest)))
+one_form old new frame inner made f rest e n k g =
+    ap (λ p. with_braces (wrapped (map held new) (in_front p rest))) g
+    ∙ sym (ap with_braces (ap (λ l. wrapped l (in_front (held inner) (before_brace end rest))) (ap (map held) e ∙ map_more held new frame)
+    ∙ closed_form (map held new) (held frame) (held inner) f rest n k))
+
 -- a list that isn't empty has a last item
 last_one : {A : Type 0} (xs : List A) → 0 < length xs → (ys : List A) × (y : A) × (xs ≡ ys ++ y ∷ [])
 last_one [] h = absurd (omega arith)
@@ -51,7 +61,7 @@ too_deep_inside outer inner rest some n e =
     rw whole (grind (arith, below, here, e))
 
 -- a brace that closes nothing
-pub plain_one : (self : Standing) (whole made : Frame) (none : List Frame) (rest : Levels) → none ≡ [] → (is_name (held self.inner) ≡ false) ⊎ (self.outer.items ≡ [])
+pub plain_one : (self : Standing) (whole made : Frame) (none : List Frame) (rest : Levels) → none ≡ [] → IsPlainInside (held self.inner) ⊎ (self.outer.items ≡ [])
     → held whole ≡ joined_with (flattened (map held self.outer.items)) (held self.inner) → held made ≡ joined_with (held whole) (plain close_brace end)
     → with_braces (wrapped (map held none) (in_front (held made) rest)) ≡ read_on self (before_brace end rest)
 plain_one self whole made none rest n h e f =
@@ -60,7 +70,7 @@ plain_one self whole made none rest n h e f =
     ∙ ap (λ p. joined_with p (with_braces rest)) (f ∙ ap (λ p. joined_with p (plain close_brace end)) e)
     ∙ sym (plain_brace (map held self.outer.items) (held self.inner) rest (as_parts h))
   where
-    as_parts : (is_name (held self.inner) ≡ false) ⊎ (self.outer.items ≡ []) → (is_name (held self.inner) ≡ false) ⊎ (map held self.outer.items ≡ [])
+    as_parts : IsPlainInside (held self.inner) ⊎ (self.outer.items ≡ []) → IsPlainInside (held self.inner) ⊎ (map held self.outer.items ≡ [])
     as_parts (inl a) = inl a
     as_parts (inr b) = inr (ap (map held) b)
 

@@ -4,9 +4,11 @@ use Rattle.std.specs.List.{list_all}
 use Rattle.meta_model.specs.Refusal.{Refusal, too_long, require, ◌>>=◌}
 use Rattle.meta_model.specs.Text.{words}
 use Rattle.meta_model.specs.Names.{is_name_character}
+use Rattle.meta_model.specs.declared.form.Form.{Form}
+use Rattle.meta_model.specs.Forms.{form_text}
 use Rattle.meta_model.specs.Parts.{Parts}
-use Rattle.meta_model.specs.Expansion.{Find, Values, longest, innermost, or_reference, look_up, expanded_parts, all_expanded, values_within}
-use Rattle.var_expand.specs.declared.parts.Part.{Part, Plain, Ref'}
+use Rattle.meta_model.specs.Expansion.{Find, Values, longest, innermost, or_reference, look_up, words_there, expanded_parts, all_expanded, values_within}
+use Rattle.var_expand.specs.declared.parts.Part.{Part, Plain, Ref', Call}
 use Rattle.var_expand.specs.Pieces.{parts_in_row}
 
 -- names behind others, each in front of those before it
@@ -38,10 +40,17 @@ reference_text values name inner = do
   found ← look_up values looked (list_all is_name_character looked)
   Ok (or_reference looked found)
 
+-- what a form becomes
+abbrev pub call_text : Values → Form → Result (List ℕ) Refusal
+call_text values f = do
+  there ← words_there values f
+  Ok (form_text f there)
+
 -- what a part becomes
 abbrev pub part_text : Values → List ℕ → Part → Result (List ℕ) Refusal
 part_text values name (Plain text) = Ok text
 part_text values name (Ref' shape row) = reference_text values name (parts_in_row row)
+part_text values name (Call f) = call_text values f
 
 -- what is expanded so far, with one part more
 abbrev pub grown : Values → List ℕ → Part → List ℕ → Result (List ℕ) Refusal

@@ -50,12 +50,12 @@ leaf_of (Err refusal) = None
 
 -- all that is known
 unfoldable pub table_of : Find → BTreeMap (String Global) Known → Table
-table_of find values name = option_or (kept_in values name) (leaf_of (find name))
+table_of find values name = option_or (kept_in values name) (leaf_of (find.at name))
 
 -- the names that are known up to a height have their values
 abbrev pub Tells : Table → Option ℕ → Values → Type 0
 Tells table None values = ⊥
-Tells table (Some height) values = (name : List ℕ) (kept : Kept) → table name ≡ Some kept → kept.height ≤ height → values name ≡ Ok kept.value
+Tells table (Some height) values = (name : List ℕ) (kept : Kept) → table name ≡ Some kept → kept.height ≤ height → values.at name ≡ Ok kept.value
 
 -- what was met is no higher than there is room for
 abbrev pub IsLow : ℕ → Option ℕ → Type 0
@@ -65,22 +65,22 @@ IsLow left (Some height) = height ≤ left
 -- What is known is right, kept of names that meet others alone, and of those in expansion only where they are too high for the room.
 pub record IsGoing (find : Find) (left : ℕ) (going : Going) : Type 0 where
   pub right : IsTable find (table_of find going.values)
-  pub apart : (name : List ℕ) (kept : Kept) → kept_in going.values name ≡ Some kept → leaf_of (find name) ≡ None
+  pub apart : (name : List ℕ) (kept : Kept) → kept_in going.values name ≡ Some kept → leaf_of (find.at name) ≡ None
   pub clear : (name : List ℕ) → is_in name (innermost_first going.within.items) ≡ true → IsBeyond (table_of find going.values) left name
   pub low : IsLow left going.height
 
 -- What was known stays known; of the names in expansion nothing new is; and whoever tells what is known by now tells what was met before.
 pub record Grew (find : Find) (left : ℕ) (old new : Going) : Type 0 where
   pub right : IsTable find (table_of find new.values)
-  pub apart : (name : List ℕ) (kept : Kept) → kept_in new.values name ≡ Some kept → leaf_of (find name) ≡ None
+  pub apart : (name : List ℕ) (kept : Kept) → kept_in new.values name ≡ Some kept → leaf_of (find.at name) ≡ None
   pub kept : (name : List ℕ) (kept : Kept) → table_of find old.values name ≡ Some kept → table_of find new.values name ≡ Some kept
   pub within : (name : List ℕ) → is_in name (innermost_first old.within.items) ≡ true → table_of find new.values name ≡ table_of find old.values name
   pub low : IsLow left new.height
   pub tells : (values : Values) → Tells (table_of find new.values) new.height values → Tells (table_of find old.values) old.height values
 
--- whoever tells what is known
+-- whoever tells what is known, and which words are told
 abbrev pub AllTelling : Find → Going → (Values → Type 0) → Type 0
-AllTelling find going P = (values : Values) → Tells (table_of find going.values) going.height values → P values
+AllTelling find going P = (values : Values) → values.known ≡ find.known → Tells (table_of find going.values) going.height values → P values
 
 -- A value is kept under a height of one more than what its name met.
 pub record IsPutAt (old new : BTreeMap (String Global) Known) (name : List ℕ) (met : Option ℕ) (value : List ℕ) (height : ℕ) : Type 0 where
@@ -103,10 +103,10 @@ pub record IsLeft (old new : Going) (outer : Option ℕ) (name value : List ℕ)
 
 -- What a name has, where it isn't in expansion and there is room for one more.
 abbrev pub IsFresh : Find → ℕ → List (List ℕ) → List ℕ → Option Resolved → Type 0
-IsFresh find left names name None = (find name ≡ Ok None) × (is_in name names ≡ false)
-IsFresh find left names name (Some found) = (find name ≡ Ok (Some found)) × (is_in name names ≡ false) × (1 ≤ left)
+IsFresh find left names name None = (find.at name ≡ Ok None) × (is_in name names ≡ false)
+IsFresh find left names name (Some found) = (find.at name ≡ Ok (Some found)) × (is_in name names ≡ false) × (1 ≤ left)
 
 -- A name's value is known, or it has to be expanded.
 abbrev pub IsAtHand : Find → ℕ → Going → Going → List ℕ → AtHand → Type 0
-IsAtHand find left old new name (Value made) = (known find left old.within.items name ≡ Ok made) × (new.within.items ≡ old.within.items) × Grew find left old new × AllTelling find new (λ values. values name ≡ Ok made)
-IsAtHand find left old new name (Deeper found) = (new ≡ old) × (1 ≤ left) × IsBeyond (kept_in old.values) left name × (is_in name old.within.items ≡ false) × (find name ≡ Ok (Some found)) × (has_no_more found ≡ false)
+IsAtHand find left old new name (Value made) = ((known find left old.within.items).at name ≡ Ok made) × (new.within.items ≡ old.within.items) × Grew find left old new × AllTelling find new (λ values. values.at name ≡ Ok made)
+IsAtHand find left old new name (Deeper found) = (new ≡ old) × (1 ≤ left) × IsBeyond (kept_in old.values) left name × (is_in name old.within.items ≡ false) × (find.at name ≡ Ok (Some found)) × (has_no_more found ≡ false)

@@ -1,12 +1,12 @@
 -- The parts that the program reads, as the parts of the definitions.
-use Rattle.std.specs.Prelude.{ℕ, Bool, true, not, nat_le, List, [], ◌∷◌, Result, Ok}
+use Rattle.std.specs.Prelude.{ℕ, Bool, true, false, not, nat_le, List, [], ◌∷◌, Result, Ok}
 use Rattle.std.specs.List.{list_all}
 use Rattle.meta_model.specs.Text.{is_empty}
 use Rattle.meta_model.specs.Names.{is_name_character}
-use Rattle.var_expand.specs.declared.parts.Part.{Part, Plain, Ref', Row_of-Part, end_of-Part, more_of-Part}
+use Rattle.var_expand.specs.declared.parts.Part.{Part, Plain, Ref', Call, Row_of-Part, end_of-Part, more_of-Part}
 use Rattle.var_expand.specs.declared.parts.Parts.{Parts as Pieces}
 use Rattle.meta_model.specs.Refusal.{Refusal, too_deep, require, ◌>>=◌}
-use Rattle.meta_model.specs.Parts.{Parts, end, plain, reference, parts_of, depth}
+use Rattle.meta_model.specs.Parts.{Parts, end, plain, reference, form, parts_of, depth}
 use Rattle.meta_model.specs.Expansion.{deepest}
 
 -- a text as plain bytes before other parts
@@ -18,6 +18,7 @@ abbrev mutual
   pub part_before : Part → Parts → Parts
   part_before (Plain text) after = text_before text after
   part_before (Ref' shape row) after = reference (parts_in_row row) after
+  part_before (Call f) after = form f after
 
   pub parts_in_row : {m : _} → Row_of-Part m → Parts
   parts_in_row end_of-Part = end
@@ -35,11 +36,13 @@ parts_in pieces = parts_in_list pieces.list.items
 abbrev pub is_name_part : Part → Bool
 is_name_part (Plain text) = list_all is_name_character text
 is_name_part (Ref' shape row) = true
+is_name_part (Call f) = false
 
 -- the part isn't an empty text
 abbrev pub is_something : Part → Bool
 is_something (Plain text) = not (is_empty text)
 is_something (Ref' shape row) = true
+is_something (Call f) = true
 
 -- The parts of a text; more than 64 references in one another are refused (own rule).
 abbrev pub shallow_parts : List ℕ → Result Parts Refusal

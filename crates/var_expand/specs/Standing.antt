@@ -1,10 +1,15 @@
 -- Where the reading of a text stands: what stands before the references that are open, and in each of them.
-use Rattle.std.specs.Prelude.{ℕ, List, [], ◌∷◌}
-use Rattle.meta_model.specs.Parts.{Parts, end, Levels, last, before_brace, opened, plain_opening, tokens_of, levels_of, joined_with}
+use Rattle.std.specs.Prelude.{◌≡◌, ℕ, false, None, List, [], ◌∷◌}
+use Rattle.meta_model.specs.Parts.{Parts, end, Levels, last, before_brace, opened, plain_opening, form_in, is_name, tokens_of, levels_of, joined_with}
 
 -- the levels of a text
 abbrev pub levels : List ℕ → Levels
 levels text = levels_of (tokens_of text)
+
+-- what stands behind an opening is neither a reference's name nor the inside of a form
+pub record IsPlainInside (parts : Parts) : Type 0 where
+  pub name : is_name parts ≡ false
+  pub form : form_in parts ≡ None
 
 -- parts in front of the first level
 abbrev pub in_front : Parts → Levels → Levels

@@ -1,10 +1,11 @@
 // Expansion of references.
 ghost use Rattle.std.specs.Prelude.{◌≡◌, [], ◌∷◌, ◌≤◌, ◌-◌, ◌++◌, IfOk, IfErr, OnOk, MatchOption, None, Ok, codes, length};
-ghost use Rattle.meta_model.specs.Expansion.{Values, deepest, longest, expanded_parts, expanded, expanded_value, expand_by, value_by};
+ghost use Rattle.meta_model.specs.Expansion.{Values, deepest, longest, expanded_parts, expanded, expanded_value, expand_by, value_by, values_by, words_there};
+ghost use Rattle.meta_model.specs.Forms.{words_in};
 ghost use Rattle.meta_model.specs.Parts.{depth};
 ghost use Rattle.var_expand.specs.Faults.{IsFaultOf};
 ghost use Rattle.var_expand.specs.Pieces.{parts_in};
-ghost use Rattle.var_expand.specs.Expanding.{fitting, grown, known, last_name, reference_text, removed};
+ghost use Rattle.var_expand.specs.Expanding.{call_text, fitting, grown, known, last_name, reference_text, removed};
 ghost use Rattle.var_expand.specs.Going.{AllTelling, Grew, IsGoing};
 
 use crate::fault::{ExpandFault, ReadFault};
@@ -12,8 +13,8 @@ use crate::going::{AtHand, Going, LONGEST, at_hand, enter, innermost_name, leave
 use crate::lookup::Lookup;
 use crate::parts::{Part, Parts};
 use crate::reading::read;
-use crate::scan::{are_name_bytes, holds_opening};
-use meta_model::{Resolved, drop_words, push_words};
+use crate::scan::holds_opening;
+use meta_model::{Form, Resolved, are_name_bytes, drop_words, push_words, words_in};
 use std::alloc::Global;
 use tree_model::{Mem, Text, Texts};
 
@@ -84,6 +85,10 @@ fn expand_part<L: Lookup>(
             let piece = expand_reference(alloc, from, going, left, name)?;
             put_piece(alloc, going.within.as_slice(), out, piece.as_str())
         }
+        Part::Call(form) => {
+            let piece = expand_form(alloc, from, going, left, form)?;
+            put_piece(alloc, going.within.as_slice(), out, piece.as_str())
+        }
     }
 }
 
@@ -144,6 +149,68 @@ fn expand_reference<L: Lookup>(
     }
 }
 
+/// Those of the words that stand in a value; none where there is no value.
+fn found_words(alloc: Global, wanted: &[Text], value: Option<Text>) -> Result<Texts, Mem>
+    ensures { IfOk result (λ made. made ≡ words_in wanted.now value) }
+{
+    match value {
+        Some(text) => words_in(alloc, wanted, text.as_str()),
+        None => Ok(Texts::new(alloc)),
+    }
+}
+
+/// The words of a form that are told to be there.
+fn told_words<L: Lookup>(alloc: Global, from: &L, form: &Form) -> Result<Option<Texts>, Mem>
+    ensures { IfOk result (λ told. (L.finds from.now).known form.now.name form.now.words ≡ told) }
+{
+    from.known(alloc, form.name.as_str(), form.words.as_slice())
+}
+
+/// The words of a form that are there: as they are told, or else those that stand in the expanded value of its name.
+#[cycle(expansion)]
+fn words_there<L: Lookup>(
+    alloc: Global,
+    from: &L,
+    going: &mut Going,
+    left: usize,
+    form: &Form,
+) -> Result<Texts, ExpandFault>
+    requires going { IsGoing (L.finds from.now) left going.old }
+    ensures ok { IfOk result (λ made. words_there (known (L.finds from.now) left going.old.within.items) form.now ≡ Ok made) }
+    ensures err { IfErr result (λ fault. IsFaultOf fault (words_there (known (L.finds from.now) left going.old.within.items) form.now)) }
+    ensures same { OnOk result (going.new.within.items ≡ going.old.within.items) }
+    ensures grew { OnOk result (Grew (L.finds from.now) left going.old going.new) }
+    ensures told { IfOk result (λ made. AllTelling (L.finds from.now) going.new
+        (λ values. words_there values form.now ≡ Ok made)) }
+{
+    if let Some(told) = told_words(alloc, from, form)? {
+        return Ok(told);
+    }
+    let value = value_within(alloc, from, going, left, form.name.as_str())?;
+    Ok(found_words(alloc, form.words.as_slice(), value)?)
+}
+
+/// What a form becomes.
+#[cycle(expansion)]
+fn expand_form<L: Lookup>(
+    alloc: Global,
+    from: &L,
+    going: &mut Going,
+    left: usize,
+    form: &Form,
+) -> Result<Text, ExpandFault>
+    requires going { IsGoing (L.finds from.now) left going.old }
+    ensures ok { IfOk result (λ made. call_text (known (L.finds from.now) left going.old.within.items) form.now ≡ Ok made) }
+    ensures err { IfErr result (λ fault. IsFaultOf fault (call_text (known (L.finds from.now) left going.old.within.items) form.now)) }
+    ensures same { OnOk result (going.new.within.items ≡ going.old.within.items) }
+    ensures grew { OnOk result (Grew (L.finds from.now) left going.old going.new) }
+    ensures told { IfOk result (λ made. AllTelling (L.finds from.now) going.new
+        (λ values. call_text values form.now ≡ Ok made)) }
+{
+    let there = words_there(alloc, from, going, left, form)?;
+    Ok(form.text(alloc, there.as_slice())?)
+}
+
 /// The expanded value of a name in the expansion of others.
 #[cycle(expansion)]
 fn value_within<L: Lookup>(
@@ -154,12 +221,12 @@ fn value_within<L: Lookup>(
     name: &str,
 ) -> Result<Option<Text>, ExpandFault>
     requires going { IsGoing (L.finds from.now) left going.old }
-    ensures ok { IfOk result (λ made. known (L.finds from.now) left going.old.within.items name.now ≡ Ok made) }
+    ensures ok { IfOk result (λ made. (known (L.finds from.now) left going.old.within.items).at name.now ≡ Ok made) }
     ensures err { IfErr result (λ fault. IsFaultOf fault
-        (known (L.finds from.now) left going.old.within.items name.now)) }
+        ((known (L.finds from.now) left going.old.within.items).at name.now)) }
     ensures same { OnOk result (going.new.within.items ≡ going.old.within.items) }
     ensures grew { OnOk result (Grew (L.finds from.now) left going.old going.new) }
-    ensures told { IfOk result (λ made. AllTelling (L.finds from.now) going.new (λ values. values name.now ≡ Ok made)) }
+    ensures told { IfOk result (λ made. AllTelling (L.finds from.now) going.new (λ values. values.at name.now ≡ Ok made)) }
 {
     let found = match at_hand(alloc, from, going, left, name)? {
         AtHand::Value(made) => return Ok(made),
@@ -308,10 +375,10 @@ pub(crate) fn expand_name<L: Lookup>(
     from: &L,
     name: &Parts,
 ) -> Result<Text, ExpandFault>
-    ensures ok { IfOk result (λ made. expanded_parts (value_by (L.finds from.now)) [] (parts_in name.now) longest
+    ensures ok { IfOk result (λ made. expanded_parts (values_by (L.finds from.now)) [] (parts_in name.now) longest
         ≡ Ok made) }
     ensures err { IfErr result (λ fault. IsFaultOf fault
-        (expanded_parts (value_by (L.finds from.now)) [] (parts_in name.now) longest)) }
+        (expanded_parts (values_by (L.finds from.now)) [] (parts_in name.now) longest)) }
 {
     let mut going = Going::new(alloc);
     expand_parts(alloc, from, &mut going, DEEPEST, name)
@@ -321,7 +388,7 @@ pub(crate) fn expand_name<L: Lookup>(
 /// Expansion").
 ///
 /// Where a name has no value, or holds a character that no name of a reference has, the reference stays, with its inner
-/// parts expanded. What is put in isn't read again, so that glued text makes no reference (own rule). A value's removes
+/// parts expanded. A form becomes what it gives of those of its words that `from` tells, or else that stand in the value of its name. What is put in isn't read again, so that glued text makes no reference (own rule). A value's removes
 /// take their words out of it after both are expanded. Each expanded text has at most 1,048,576 bytes, asked before removes
 /// are applied, and at most 64 names are in expansion at once (own rules).
 ///

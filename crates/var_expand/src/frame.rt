@@ -1,11 +1,11 @@
 // What is read of a text between two openings.
 ghost use Rattle.std.specs.Prelude.{◌≡◌, ◌≤◌, ◌<◌, IfOk};
 ghost use Rattle.std.specs.List.{list_all, list_any};
-ghost use Rattle.meta_model.specs.Parts.{end, reference, joined_with, is_name, depth};
-ghost use Rattle.var_expand.specs.Pieces.{text_before, parts_in, is_name_part, is_something};
+ghost use Rattle.meta_model.specs.Parts.{end, reference, form as form', joined_with, form_in, is_name, plain_bytes, depth};
+ghost use Rattle.var_expand.specs.Pieces.{text_before, parts_in, parts_in_list, is_name_part, is_something};
 
 use crate::parts::{Part, Parts};
-use crate::scan::are_name_bytes;
+use meta_model::{Form, are_name_bytes, form_of};
 use std::alloc::Global;
 use tree_model::{Mem, Text};
 
@@ -25,6 +25,7 @@ fn is_name_part(part: &Part) -> bool
     match part {
         Part::Plain(text) => are_name_bytes(text.as_str().as_bytes()),
         Part::Ref(_) => true,
+        Part::Call(_) => false,
     }
 }
 
@@ -34,7 +35,7 @@ fn is_something(part: &Part) -> bool
 {
     match part {
         Part::Plain(text) => !text.as_str().is_empty(),
-        Part::Ref(_) => true,
+        Part::Ref(_) | Part::Call(_) => true,
     }
 }
 
@@ -50,6 +51,20 @@ fn are_name_parts(parts: &[Part]) -> bool
     ensures { result ≡ list_all is_name_part parts.now }
 {
     parts.iter().all(is_name_part)
+}
+
+/// The bytes of the parts, where all are plain.
+fn plain_text(alloc: Global, parts: &[Part]) -> Result<Option<Text>, Mem>
+    ensures { IfOk result (λ made. plain_bytes (parts_in_list parts.now) ≡ made) }
+{
+    let mut made = Text::new(alloc);
+    for part in parts {
+        match part {
+            Part::Plain(text) => made.push_str(text.as_str())?,
+            Part::Ref(_) | Part::Call(_) => return Ok(None),
+        }
+    }
+    Ok(Some(made))
 }
 
 impl Frame {
@@ -71,6 +86,29 @@ impl Frame {
     {
         let list = self.parts.list.as_slice();
         hold_something(list) && are_name_parts(list)
+    }
+
+    /// The form that the parts are the inside of, if one is.
+    pub(crate) fn form(&self, alloc: Global) -> Result<Option<Form>, Mem>
+        ensures { IfOk result (λ made. form_in (parts_in self.now.parts) ≡ made) }
+    {
+        match plain_text(alloc, self.parts.list.as_slice())? {
+            Some(inside) => form_of(alloc, inside.as_str()),
+            None => Ok(None),
+        }
+    }
+
+    /// The parts with a form behind them.
+    pub(crate) fn with_form(self, form: Form) -> Result<Frame, Mem>
+        ensures { IfOk result (λ made. parts_in made.parts
+            ≡ joined_with (parts_in self.parts) (form' form end)) }
+    {
+        let mut list = self.parts.list;
+        list.push(Part::Call(form))?;
+        Ok(Frame {
+            parts: Parts { list },
+            nested: self.nested,
+        })
     }
 
     /// The parts with plain text behind them.

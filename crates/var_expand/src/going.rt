@@ -118,7 +118,7 @@ fn find_fresh<L: Lookup>(
     name: &str,
 ) -> Result<Option<Resolved>, ExpandFault>
     ensures ok { IfOk result (λ made. IsFresh (L.finds from.now) left within.now name.now made) }
-    ensures err { IfErr result (λ fault. IsFaultOf fault (known (L.finds from.now) left within.now name.now)) }
+    ensures err { IfErr result (λ fault. IsFaultOf fault ((known (L.finds from.now) left within.now).at name.now)) }
 {
     if is_among(name, within) {
         return Err(ExpandFault::ValueCycle {
@@ -169,7 +169,7 @@ pub(crate) fn at_hand<L: Lookup>(
     requires { IsGoing (L.finds from.now) left going.old }
     ensures ok { IfOk result (λ made. IsAtHand (L.finds from.now) left going.old going.new name.now made) }
     ensures err { IfErr result (λ fault. IsFaultOf fault
-        (known (L.finds from.now) left going.old.within.items name.now)) }
+        ((known (L.finds from.now) left going.old.within.items).at name.now)) }
 {
     if let Some(kept) = kept_value(&going.values, left, name)? {
         going.height = higher(going.height, kept.height);

@@ -1,8 +1,10 @@
 // The names that a text looks up.
 ghost use Rattle.std.specs.Prelude.{◌≡◌, IfOk, IfErr, OnOk, Ok};
-ghost use Rattle.meta_model.specs.Expansion.{value_by};
-ghost use Rattle.meta_model.specs.Parts.{end, reference};
-ghost use Rattle.var_expand.specs.Faults.{IsFaultOf};
+ghost use Rattle.meta_model.specs.Expansion.{values_by};
+ghost use Rattle.meta_model.specs.Parts.{end, reference, form as form'};
+ghost use Rattle.meta_model.specs.Forms.{told_name};
+ghost use Rattle.meta_model.specs.Text.{into_order};
+ghost use Rattle.var_expand.specs.Faults.{IsFaultOf, IsWantOfMemory};
 ghost use Rattle.var_expand.specs.Pieces.{part_before, parts_in};
 ghost use Rattle.meta_model.specs.References.{looked_up, noted};
 
@@ -11,8 +13,7 @@ use crate::fault::ExpandFault;
 use crate::lookup::Lookup;
 use crate::parts::{Part, Parts};
 use crate::reading::parse_refs;
-use crate::scan::are_name_bytes;
-use meta_model::{as_texts, put_in_order};
+use meta_model::{Form, are_name_bytes, as_texts, put_in_order, told_name};
 use std::alloc::Global;
 use tree_model::{Text, Texts};
 
@@ -24,10 +25,10 @@ fn note_reference<L: Lookup>(
     names: &mut Vec<Text>,
     name: &Parts,
 ) -> Result<(), ExpandFault>
-    ensures ok { OnOk result (noted (value_by (L.finds from.now)) (reference (parts_in name.now) end) names.old.items
+    ensures ok { OnOk result (noted (values_by (L.finds from.now)) (reference (parts_in name.now) end) names.old.items
         ≡ Ok names.new.items) }
     ensures err { IfErr result (λ fault. IsFaultOf fault
-        (noted (value_by (L.finds from.now)) (reference (parts_in name.now) end) names.old.items)) }
+        (noted (values_by (L.finds from.now)) (reference (parts_in name.now) end) names.old.items)) }
 {
     let looked = expand_name(alloc, from, name)?;
     note_parts(alloc, from, names, name)?;
@@ -35,6 +36,17 @@ fn note_reference<L: Lookup>(
         put_in_order(names, looked)?;
     }
     Ok(())
+}
+
+/// Notes what a form asks for, by the name under which a key tells what it finds.
+fn note_form(alloc: Global, names: &mut Vec<Text>, form: &Form) -> Result<(), ExpandFault>
+    ensures ok { OnOk result (names.new.items ≡ into_order names.old.items (told_name form.now.name form.now.words)) }
+    ensures err { IfErr result IsWantOfMemory }
+{
+    Ok(put_in_order(
+        names,
+        told_name(alloc, form.name.as_str(), form.words.as_slice())?,
+    )?)
 }
 
 /// Notes the names that a part looks up.
@@ -45,14 +57,15 @@ fn note_part<L: Lookup>(
     names: &mut Vec<Text>,
     part: &Part,
 ) -> Result<(), ExpandFault>
-    ensures ok { OnOk result (noted (value_by (L.finds from.now)) (part_before part.now end) names.old.items
+    ensures ok { OnOk result (noted (values_by (L.finds from.now)) (part_before part.now end) names.old.items
         ≡ Ok names.new.items) }
     ensures err { IfErr result (λ fault. IsFaultOf fault
-        (noted (value_by (L.finds from.now)) (part_before part.now end) names.old.items)) }
+        (noted (values_by (L.finds from.now)) (part_before part.now end) names.old.items)) }
 {
     match part {
         Part::Plain(_) => Ok(()),
         Part::Ref(name) => note_reference(alloc, from, names, name),
+        Part::Call(form) => note_form(alloc, names, form),
     }
 }
 
@@ -64,10 +77,10 @@ fn note_parts<L: Lookup>(
     names: &mut Vec<Text>,
     parts: &Parts,
 ) -> Result<(), ExpandFault>
-    ensures ok { OnOk result (noted (value_by (L.finds from.now)) (parts_in parts.now) names.old.items
+    ensures ok { OnOk result (noted (values_by (L.finds from.now)) (parts_in parts.now) names.old.items
         ≡ Ok names.new.items) }
     ensures err { IfErr result (λ fault. IsFaultOf fault
-        (noted (value_by (L.finds from.now)) (parts_in parts.now) names.old.items)) }
+        (noted (values_by (L.finds from.now)) (parts_in parts.now) names.old.items)) }
 {
     for part in &parts.list {
         note_part(alloc, from, names, part)?;
@@ -76,7 +89,8 @@ fn note_parts<L: Lookup>(
 }
 
 /// The names that the references of a text look up, in byte order, each once. Names that stand in the names of references
-/// are among them, and are expanded; the values of the others are not (own rule).
+/// are among them, and are expanded; the values of the others are not (own rule). A form stands among them by `@`, its name and
+/// its words, each behind a blank, as a key tells what it finds.
 ///
 /// Faults are those of these expansions, and `TooDeep` with an empty name, before any other, where the text nests
 /// references more than 64 deep.

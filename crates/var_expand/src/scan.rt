@@ -1,25 +1,11 @@
 // What the bytes of a text say of its references.
-ghost use Rattle.std.specs.Prelude.{◌≡◌, ◌≤◌, ◌<◌, ◌||◌, length, take, drop, slice_index, codes, false};
-ghost use Rattle.std.specs.List.{list_all};
+ghost use Rattle.std.specs.Prelude.{◌≡◌, ◌+◌, ◌≤◌, ◌<◌, ◌||◌, length, take, drop, slice_index, codes, false};
 ghost use Rattle.meta_model.specs.Text.{begins_with, holds};
-ghost use Rattle.meta_model.specs.Names.{is_name_character};
 ghost use Rattle.meta_model.specs.Parts.{end};
 ghost use Rattle.var_expand.specs.Pieces.{text_before};
 ghost use Rattle.var_expand.specs.Standing.{levels, in_front};
 
-/// Whether a byte may stand in the name of a reference.
-fn is_name_byte(byte: &u8) -> bool
-    ensures { result ≡ is_name_character byte.now }
-{
-    byte.is_ascii_alphanumeric() || b"-_+./~:".contains(byte)
-}
-
-/// Whether all bytes may stand in the name of a reference: letters, digits and `- _ + . / ~ :` (own rule).
-pub fn are_name_bytes(bytes: &[u8]) -> bool
-    ensures { result ≡ list_all is_name_character bytes.now }
-{
-    bytes.iter().all(is_name_byte)
-}
+use meta_model::place_of;
 
 /// Whether a brace or an opening stands at the front.
 fn ends_run(bytes: &[u8]) -> bool
@@ -44,16 +30,32 @@ pub(crate) fn run_len(bytes: &[u8]) -> usize
     at
 }
 
-/// Whether `${` stands somewhere, so that there may be a reference.
+/// Whether `${` stands there.
+fn opens_at(bytes: &[u8], at: usize) -> bool
+    requires { at ≤ length bytes.now }
+    ensures { result ≡ begins_with (codes "${") (drop at bytes.now) }
+{
+    bytes[at..].starts_with(b"${")
+}
+
+/// What stands behind the byte there.
+fn behind(bytes: &[u8], at: usize) -> &[u8]
+    requires { at < length bytes.now }
+    ensures { result.now ≡ drop (at + 1) bytes.now }
+{
+    &bytes[at + 1..]
+}
+
+/// Whether `${` stands somewhere, so that there may be a reference. Each `$` is looked at, and else nothing.
 pub fn holds_opening(bytes: &[u8]) -> bool
     ensures { result ≡ holds (codes "${") bytes.now }
 {
     let mut rest = bytes;
-    while !rest.is_empty() {
-        if rest.starts_with(b"${") {
+    while let Some(at) = place_of(rest, b'$') {
+        if opens_at(rest, at) {
             return true;
         }
-        rest = &rest[1..];
+        rest = behind(rest, at);
     }
     false
 }

@@ -1,13 +1,14 @@
 // Where the reading of a text stands.
-ghost use Rattle.std.specs.Prelude.{◌≡◌, ◌<◌, IfOk, IfErr, [], true, false, ◌⊎◌, length, map};
-ghost use Rattle.meta_model.specs.Parts.{Levels, end, opened, before_brace, last, with_braces, joined_with, is_name, depth};
+ghost use Rattle.std.specs.Prelude.{◌≡◌, ◌<◌, IfOk, IfErr, [], true, false, Some, ◌⊎◌, length, map};
+ghost use Rattle.meta_model.specs.Parts.{Levels, end, opened, before_brace, last, with_braces, joined_with, form_in, is_name, depth};
 ghost use Rattle.meta_model.specs.Expansion.{deepest};
 ghost use Rattle.var_expand.specs.Pieces.{text_before};
-ghost use Rattle.var_expand.specs.Standing.{in_front, flattened};
+ghost use Rattle.var_expand.specs.Standing.{IsPlainInside, in_front, flattened};
 ghost use Rattle.var_expand.specs.ReadOn.{held, read_on};
 
 use crate::fault::ReadFault;
 use crate::frame::Frame;
+use meta_model::Form;
 use std::alloc::Global;
 use tree_model::Mem;
 
@@ -89,9 +90,26 @@ impl Standing {
         }
     }
 
+    /// Behind a brace that closes a form.
+    fn with_form(self, form: Form) -> Result<Standing, Mem>
+        requires name { is_name (held self.inner) ≡ false }
+        requires form { form_in (held self.inner) ≡ Some form }
+        requires open { 0 < length self.outer.items }
+        ensures { IfOk result (λ made. (rest : Levels) → read_on made rest ≡ read_on self (before_brace end rest)) }
+    {
+        let mut outer = self.outer;
+        match outer.pop() {
+            Some(frame) => Ok(Standing {
+                outer,
+                inner: frame.with_form(form)?,
+            }),
+            None => unreachable!(),
+        }
+    }
+
     /// Behind a brace that closes nothing.
     fn with_plain_brace(self, alloc: Global) -> Result<Standing, Mem>
-        requires { (is_name (held self.inner) ≡ false) ⊎ (self.outer.items ≡ []) }
+        requires { IsPlainInside (held self.inner) ⊎ (self.outer.items ≡ []) }
         ensures { IfOk result (λ made. (rest : Levels) → read_on made rest ≡ read_on self (before_brace end rest)) }
     {
         let whole = flat(alloc, self.outer, self.inner)?;
@@ -101,7 +119,7 @@ impl Standing {
         })
     }
 
-    /// Behind a brace. Where what stands behind the last opening is no name, no reference that is open is one.
+    /// Behind a brace. Where what stands behind the last opening is no name and no form, no reference that is open is one.
     pub(crate) fn with_brace(self, alloc: Global) -> Result<Standing, ReadFault>
         ensures ok { IfOk result (λ made. (rest : Levels) → read_on made rest ≡ read_on self (before_brace end rest)) }
         ensures deep { IfErr result (λ fault. fault ≡ ReadFault.TooDeep → (rest : Levels)
@@ -113,7 +131,10 @@ impl Standing {
         if self.inner.is_name() {
             return self.with_closing();
         }
-        Ok(self.with_plain_brace(alloc)?)
+        match self.inner.form(alloc)? {
+            Some(form) => Ok(self.with_form(form)?),
+            None => Ok(self.with_plain_brace(alloc)?),
+        }
     }
 
     /// The parts of the text that ends here.

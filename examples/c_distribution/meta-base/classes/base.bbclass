@@ -26,6 +26,7 @@ do_unpack() {
 # What the recipe depends on is gathered beside its sources, so that no path in an output names the place where a task ran.
 do_configure[deptask] = "do_sysroot"
 do_configure[dirs] = "${WORKDIR}/recipe-sysroot ${S}"
+CFLAGS:append = "${@bb.utils.contains('FEATURES', 'fast', ' -O2', '', d)}"
 do_configure() {
     for name in ${DEPENDS}; do
         cp -R "${DEPSDIR}/$name/do_sysroot/." ../recipe-sysroot

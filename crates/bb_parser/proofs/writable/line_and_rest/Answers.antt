@@ -1,6 +1,6 @@
 use Rattle.std.proofs.Common.{sym, ◌∙◌, arith}
 use Rattle.std.proofs.lemmas.Grind.{common_steps}
-use Rattle.bb_parser.proofs.Splits.{split_at_first-some, split_at_first-none}
+use Rattle.meta_model.proofs.Splits.{split_at_first-some, split_at_first-none}
 use Rattle.bb_parser.proofs.writable.line_and_rest.Goals as goal
 
 pub returns-in-Some : goal.returns-in-Some

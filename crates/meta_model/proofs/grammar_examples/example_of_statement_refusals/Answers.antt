@@ -46,3 +46,11 @@ returns-clause-comment_in_join c = refl
 pub returns-clause-no_utf8 : goal.returns-clause-no_utf8
 unfolding statements statement_of fit_of operator quoted logical_lines utf8_valid_len is_utf8 chars encode_utf8
 returns-clause-no_utf8 c = refl
+
+pub returns-clause-python_near_form : goal.returns-clause-python_near_form
+unfolding statements statement_of fit_of operator quoted logical_lines utf8_valid_len is_utf8 chars encode_utf8
+returns-clause-python_near_form c = refl
+
+pub returns-clause-form : goal.returns-clause-form
+unfolding statements statement_of fit_of operator quoted logical_lines utf8_valid_len is_utf8 chars encode_utf8
+returns-clause-form c = refl

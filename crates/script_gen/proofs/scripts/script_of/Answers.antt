@@ -1,13 +1,13 @@
 use Rattle.std.proofs.Common.{◌≡◌, ◌∙◌, ap, sym, subst, map, option_map, codes, IfOk, IfErr, Ok}
 use Rattle.task_model.specs.Views.{seen_by}
 use Rattle.task_model.specs.TaskRefusal.{◌>>=◌}
-use Rattle.task_model.specs.Scripts.{script_of, line_names, told_names}
+use Rattle.task_model.specs.Scripts.{find_at, script_of, line_names, told_names}
 use Rattle.script_gen.specs.Faults.{IsScriptFault}
 use Rattle.script_gen.specs.Frames.{frame_of}
 use Rattle.script_gen.specs.Steps.{begun, written}
 use Rattle.script_gen.proofs.Passing.{out, fault_on, fault_same}
 use Rattle.meta_model.proofs.Passing.{goes_on}
-use Rattle.script_gen.proofs.Parts.{lines_find, lines_flags, script_by}
+use Rattle.script_gen.proofs.Parts.{lines_flags, script_by}
 use Rattle.script_gen.proofs.scripts.script_of.Goals as goal
 
 pub returns-in_err-frame-clause-err : goal.returns-in_err-frame-clause-err
@@ -15,7 +15,7 @@ returns-in_err-frame-clause-err c =
     let from = c.in_ok-from.from in
     let task = c.args.task.now in
     let lines = from.lines.now in
-    let find = seen_by from.task.now (lines_find lines) in
+    let find = seen_by from.task.now (find_at lines) in
     let flags = lines_flags lines from.task.now in
     let told = told_names (codes "export") find (line_names c.args.key.now) in
     let functions = told_names (codes "func") find (line_names c.args.key.now) in
@@ -28,7 +28,7 @@ returns-clause-ok c =
     let from = c.in_ok-from.from in
     let task = c.args.task.now in
     let lines = from.lines.now in
-    let find = seen_by from.task.now (lines_find lines) in
+    let find = seen_by from.task.now (find_at lines) in
     let flags = lines_flags lines from.task.now in
     let told = told_names (codes "export") find (line_names c.args.key.now) in
     let functions = told_names (codes "func") find (line_names c.args.key.now) in
@@ -46,7 +46,7 @@ returns-clause-err c =
     let from = c.in_ok-from.from in
     let task = c.args.task.now in
     let lines = from.lines.now in
-    let find = seen_by from.task.now (lines_find lines) in
+    let find = seen_by from.task.now (find_at lines) in
     let flags = lines_flags lines from.task.now in
     let told = told_names (codes "export") find (line_names c.args.key.now) in
     let functions = told_names (codes "func") find (line_names c.args.key.now) in

@@ -1,13 +1,14 @@
-use Rattle.std.proofs.Common.{arith, rules, ◌≡◌, ◌∙◌, ap, sym, subst, ◌≤◌, ◌+◌, ◌-◌, ◌∷◌, [], length, drop, suc, false, Ok, codes}
+use Rattle.std.proofs.Common.{arith, rules, ◌≡◌, ◌∙◌, ap, sym, subst, ◌≤◌, ◌+◌, ◌-◌, ◌∷◌, [], length, drop, suc, false, Some, None, Ok, codes}
 use Rattle.std.proofs.lemmas.Result.{err_from_is_err_and}
 use Rattle.meta_model.specs.Text.{holds}
+use Rattle.meta_model.specs.Forms.{words_in}
 use Rattle.meta_model.specs.Parts.{end, depth}
 use Rattle.meta_model.specs.Expansion.{longest, expanded_parts, expanded}
 use Rattle.var_expand.specs.Faults.{IsFaultOf}
-use Rattle.var_expand.specs.Going.{IsGoing, Tells, table_of}
+use Rattle.var_expand.specs.Going.{IsGoing}
 use Rattle.var_expand.specs.Pieces.{part_before, parts_in, parts_in_list}
 use Rattle.var_expand.specs.Expanding.{known, last_name, part_text, grown}
-use Rattle.var_expand.proofs.Expanding.{plain_ok, plain_long, fit_whole, ref_depth, ref_is, grown_fault, value_alone, part_depth, cut_part, fault_same, finish, finish_fault, finish_goes_on, put_ok, put_err, same_ok, same_err}
+use Rattle.var_expand.proofs.Expanding.{plain_ok, plain_long, fit_whole, form_is, known_at, told_words, value_words, words_fault, ref_depth, ref_is, grown_fault, value_alone, part_depth, cut_part, fault_same, finish, finish_fault, finish_goes_on, put_ok, put_err, same_ok, same_err}
 use Rattle.var_expand.proofs.Growing.{deeper_fault, deeper_going, deeper_grew, deeper_ok, deeper_told, grew_on, put_told}
 use Rattle.var_expand.proofs.expansion.+expansion.Goals as goal
 
@@ -72,9 +73,9 @@ expand_parts-loop-part-preserved g t c =
           ∙ finish_goes_on values (last_name names) c.part-item.result after c.loop-part.out c.expand_part.new.out
           (subst (λ w. grown (known finds c.args.left w) (last_name w) c.part-item.result c.loop-part.out ≡ Ok c.expand_part.new.out) c.loop-part.invariant.1 c.in_ok-expand_part.ensures.ok),
       grew_on finds c.args.left c.args.going.now c.loop-part.going c.expand_part.new.going c.loop-part.invariant.1 c.loop-part.invariant.3 grew,
-      λ v tells. c.loop-part.invariant.4 v (grew.tells v tells) ∙ ap (finish v (last_name names) c.loop-part.out) cut
+      λ v telling tells. c.loop-part.invariant.4 v telling (grew.tells v tells) ∙ ap (finish v (last_name names) c.loop-part.out) cut
           ∙ finish_goes_on v (last_name names) c.part-item.result after c.loop-part.out c.expand_part.new.out
-          (subst (λ w. grown v (last_name w) c.part-item.result c.loop-part.out ≡ Ok c.expand_part.new.out) c.loop-part.invariant.1 (c.in_ok-expand_part.ensures.told v tells)),
+          (subst (λ w. grown v (last_name w) c.part-item.result c.loop-part.out ≡ Ok c.expand_part.new.out) c.loop-part.invariant.1 (c.in_ok-expand_part.ensures.told v telling tells)),
     )
 
 pub expand_value-returns-then-is_empty-clause-ok : goal.expand_value-returns-then-is_empty-clause-ok
@@ -138,18 +139,18 @@ expand_part-returns-in_ok-piece-in-Ref-clause-err g t c =
 pub expand_owned-returns-clause-told : goal.expand_owned-returns-clause-told
 expand_owned-returns-clause-told g t c =
     let plain : holds (codes "${") c.args.text ≡ false = ap (holds (codes "${")) (sym (c.as_bytes.ensures.value ∙ c.as_str.ensures)) ∙ sym c.holds_opening.ensures ∙ c.if-holds_opening.false in
-    λ v tells. plain_ok v (last_name c.args.going.now.within.items) c.args.text plain (subst (λ s. length s ≤ longest) c.as_str-2.ensures c.in_ok-fit.ensures.ok)
+    λ v telling tells. plain_ok v (last_name c.args.going.now.within.items) c.args.text plain (subst (λ s. length s ≤ longest) c.as_str-2.ensures c.in_ok-fit.ensures.ok)
 
 pub expand_part-returns-in_ok-piece-in-Ref-clause-told : goal.expand_part-returns-in_ok-piece-in-Ref-clause-told
 expand_part-returns-in_ok-piece-in-Ref-clause-told g t c =
     let name = last_name c.args.going.now.within.items in
     let going = c.expand_reference.new.going in
-    put_told (Tells (table_of (g.L.Lookup.finds c.args.from.now) going.values) going.height) name c.args.part.now c.args.out.now c.in_ok-piece-in-Ref.piece c.as_str-in-Ref.result.now c.put_piece-in-Ref.new.out c.put_piece-in-Ref.result
-    (λ v tells. ref_is v name c.args.part.now c.in-Ref.name c.in-Ref.is ∙ c.in_ok-piece-in-Ref.ensures.told v tells) c.as_str-in-Ref.ensures c.put_piece-in-Ref.ensures.fits c.put_piece-in-Ref.ensures.ok
+    put_told (g.L.Lookup.finds c.args.from.now) going name c.args.part.now c.args.out.now c.in_ok-piece-in-Ref.piece c.as_str-in-Ref.result.now c.put_piece-in-Ref.new.out c.put_piece-in-Ref.result
+    (λ v telling tells. ref_is v name c.args.part.now c.in-Ref.name c.in-Ref.is ∙ c.in_ok-piece-in-Ref.ensures.told v telling tells) c.as_str-in-Ref.ensures c.put_piece-in-Ref.ensures.fits c.put_piece-in-Ref.ensures.ok
 
 pub expand_value-returns-then-is_empty-clause-told : goal.expand_value-returns-then-is_empty-clause-told
 expand_value-returns-then-is_empty-clause-told g t c =
-    λ v tells. value_alone v (last_name c.args.going.now.within.items) c.args.found c.in_ok-value.value (c.in_ok-value.ensures.told v tells) (c.is_empty.ensures.0 c.if-is_empty.true)
+    λ v telling tells. value_alone v (last_name c.args.going.now.within.items) c.args.found c.in_ok-value.value (c.in_ok-value.ensures.told v telling tells) (c.is_empty.ensures.0 c.if-is_empty.true)
 
 pub value_within-expand_value-requires : goal.value_within-expand_value-requires
 value_within-expand_value-requires g t c κs within =
@@ -171,3 +172,58 @@ value_within-returns-clause-told g t c =
     let at = rw c.in-Deeper.is at c.in_ok-made.ensures.ok in
     deeper_told (g.L.Lookup.finds c.args.from.now) c.args.left c.args.going.now c.at_hand.new.going c.enter.new.going c.args.name.now c.in-Deeper.found at c.requires.1.1.1 c.in_ok-outer.ensures.within c.in_ok-outer.ensures.values
     c.expand_value.new.going c.leave.new.going c.in_ok-outer.outer c.in_ok-value.value c.in_ok-outer.ensures.before c.in_ok-value.ensures.grew c.in_ok-value.ensures.told c.in_ok-leave.ensures.kept
+
+pub expand_part-returns-in_err-piece-in-Call-clause-err : goal.expand_part-returns-in_err-piece-in-Call-clause-err
+expand_part-returns-in_err-piece-in-Call-clause-err g t c =
+    let names = c.args.going.now.within.items in
+    let values = known (g.L.Lookup.finds c.args.from.now) c.args.left names in
+    let p = err_from_is_err_and c.from_residual-in_err-piece-in-Call.result c.from_residual-in_err-piece-in-Call.ensures.1 in
+    rw (p.1, p.2) (grown_fault values (last_name names) c.args.part.now c.args.out.now c.in_err-piece-in-Call.field-0.0
+    (subst (IsFaultOf c.in_err-piece-in-Call.field-0.0) (sym (form_is values (last_name names) c.args.part.now c.in-Call.form c.in-Call.is)) c.in_err-piece-in-Call.ensures.err))
+
+pub expand_part-returns-in_ok-piece-in-Call-clause-ok : goal.expand_part-returns-in_ok-piece-in-Call-clause-ok
+expand_part-returns-in_ok-piece-in-Call-clause-ok g t c =
+    let names = c.args.going.now.within.items in
+    let values = known (g.L.Lookup.finds c.args.from.now) c.args.left names in
+    put_ok values (last_name names) c.args.part.now c.args.out.now c.in_ok-piece-in-Call.piece c.as_str-in-Call.result.now c.put_piece-in-Call.new.out c.put_piece-in-Call.result
+    (form_is values (last_name names) c.args.part.now c.in-Call.form c.in-Call.is ∙ c.in_ok-piece-in-Call.ensures.ok) c.as_str-in-Call.ensures c.put_piece-in-Call.ensures.fits c.put_piece-in-Call.ensures.ok
+
+pub expand_part-returns-in_ok-piece-in-Call-clause-err : goal.expand_part-returns-in_ok-piece-in-Call-clause-err
+expand_part-returns-in_ok-piece-in-Call-clause-err g t c =
+    let names = c.args.going.now.within.items in
+    let values = known (g.L.Lookup.finds c.args.from.now) c.args.left names in
+    put_err values names c.as_slice-in-Call.result.now c.args.part.now c.args.out.now c.in_ok-piece-in-Call.piece c.as_str-in-Call.result.now c.put_piece-in-Call.result
+    (form_is values (last_name names) c.args.part.now c.in-Call.form c.in-Call.is ∙ c.in_ok-piece-in-Call.ensures.ok) (c.as_slice-in-Call.ensures.value ∙ c.in_ok-piece-in-Call.ensures.same) c.as_str-in-Call.ensures c.put_piece-in-Call.ensures.err
+
+pub expand_part-returns-in_ok-piece-in-Call-clause-told : goal.expand_part-returns-in_ok-piece-in-Call-clause-told
+expand_part-returns-in_ok-piece-in-Call-clause-told g t c =
+    let name = last_name c.args.going.now.within.items in
+    let finds = g.L.Lookup.finds c.args.from.now in
+    let going = c.expand_form.new.going in
+    put_told finds going name c.args.part.now c.args.out.now c.in_ok-piece-in-Call.piece c.as_str-in-Call.result.now c.put_piece-in-Call.new.out c.put_piece-in-Call.result
+    (λ v telling tells. form_is v name c.args.part.now c.in-Call.form c.in-Call.is ∙ c.in_ok-piece-in-Call.ensures.told v telling tells) c.as_str-in-Call.ensures c.put_piece-in-Call.ensures.fits c.put_piece-in-Call.ensures.ok
+
+pub words_there-returns-in-Some-clause-ok : goal.words_there-returns-in-Some-clause-ok
+words_there-returns-in-Some-clause-ok g t c =
+    let finds = g.L.Lookup.finds c.args.from.now in
+    let names = c.args.going.now.within.items in
+    told_words (known finds c.args.left names) c.args.form.now c.in-Some.told (known_at finds c.args.left names c.args.form.now (Some c.in-Some.told) (c.in_ok-told.ensures ∙ c.in-Some.is))
+
+pub words_there-returns-in_err-value-clause-err : goal.words_there-returns-in_err-value-clause-err
+words_there-returns-in_err-value-clause-err g t c =
+    let finds = g.L.Lookup.finds c.args.from.now in
+    let names = c.args.going.now.within.items in
+    let values = known finds c.args.left names in
+    let fault = c.in_err-value.field-0.0 in
+    let none = known_at finds c.args.left names c.args.form.now None (c.in_ok-told.ensures ∙ c.in_default.is) in
+    let p = err_from_is_err_and c.from_residual-in_err-value.result c.from_residual-in_err-value.ensures.1 in
+    rw (p.1, p.2) (words_fault values c.args.form.now fault none (subst (λ n. IsFaultOf fault (values.at n)) c.as_str.ensures c.in_err-value.ensures.err))
+
+pub words_there-returns-clause-ok : goal.words_there-returns-clause-ok
+words_there-returns-clause-ok g t c =
+    let finds = g.L.Lookup.finds c.args.from.now in
+    let names = c.args.going.now.within.items in
+    let values = known finds c.args.left names in
+    let none = known_at finds c.args.left names c.args.form.now None (c.in_ok-told.ensures ∙ c.in_default.is) in
+    value_words values c.args.form.now c.in_ok-value.value c.in_ok-found_words.field-0 none (subst (λ n. values.at n ≡ Ok c.in_ok-value.value) c.as_str.ensures c.in_ok-value.ensures.ok)
+    (c.in_ok-found_words.ensures ∙ ap (λ w. words_in w c.in_ok-value.value) c.as_slice.ensures)

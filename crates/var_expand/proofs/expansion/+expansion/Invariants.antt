@@ -10,11 +10,17 @@ use Rattle.var_expand.proofs.expansion.+expansion.Given as goal
 abbrev pub decreases-value_within : goal.decreases-value_within
 decreases-value_within g l = 1000 * l.left
 
+abbrev pub decreases-words_there : goal.decreases-words_there
+decreases-words_there g l = 1000 * l.left + 1
+
+abbrev pub decreases-expand_form : goal.decreases-expand_form
+decreases-expand_form g l = 1000 * l.left + 2
+
 abbrev pub decreases-expand_reference : goal.decreases-expand_reference
 decreases-expand_reference g l = 1000 * l.left + 10 * depth (parts_in l.name.now) + 8
 
 abbrev pub decreases-expand_part : goal.decreases-expand_part
-decreases-expand_part g l = 1000 * l.left + 10 * depth (part_before l.part.now end)
+decreases-expand_part g l = 1000 * l.left + 10 * depth (part_before l.part.now end) + 3
 
 abbrev pub decreases-expand_parts : goal.decreases-expand_parts
 decreases-expand_parts g l = 1000 * l.left + 10 * depth (parts_in l.parts.now) + 5

@@ -1,5 +1,5 @@
 use Rattle.std.proofs.Common.{[]}
-use Rattle.meta_model.specs.Expansion.{expanded_parts, value_by, longest}
+use Rattle.meta_model.specs.Expansion.{expanded_parts, values_by, longest}
 use Rattle.var_expand.specs.Expanding.{known, last_name}
 use Rattle.var_expand.specs.Pieces.{parts_in}
 use Rattle.var_expand.proofs.Expanding.{start_parts, same_ok, same_err}
@@ -10,14 +10,14 @@ pub returns-clause-ok : goal.returns-clause-ok
 returns-clause-ok g c =
     let finds = g.L.Lookup.finds c.args.from.now in
     let names = c.new-going.result.within.items in
-    same_ok c.expand_parts.result (expanded_parts (known finds 64 names) (last_name names) (parts_in c.args.name.now) longest) (expanded_parts (value_by finds) [] (parts_in c.args.name.now) longest)
+    same_ok c.expand_parts.result (expanded_parts (known finds 64 names) (last_name names) (parts_in c.args.name.now) longest) (expanded_parts (values_by finds) [] (parts_in c.args.name.now) longest)
     (start_parts finds names (parts_in c.args.name.now) c.new-going.ensures.within) c.expand_parts.ensures.ok
 
 pub returns-clause-err : goal.returns-clause-err
 returns-clause-err g c =
     let finds = g.L.Lookup.finds c.args.from.now in
     let names = c.new-going.result.within.items in
-    same_err c.expand_parts.result (expanded_parts (known finds 64 names) (last_name names) (parts_in c.args.name.now) longest) (expanded_parts (value_by finds) [] (parts_in c.args.name.now) longest)
+    same_err c.expand_parts.result (expanded_parts (known finds 64 names) (last_name names) (parts_in c.args.name.now) longest) (expanded_parts (values_by finds) [] (parts_in c.args.name.now) longest)
     (start_parts finds names (parts_in c.args.name.now) c.new-going.ensures.within) c.expand_parts.ensures.err
 
 pub expand_parts-requires : goal.expand_parts-requires

@@ -19,6 +19,6 @@ pub returns-then-left-eq0-clause-err : goal.returns-then-left-eq0-clause-err
 returns-then-left-eq0-clause-err g c =
     let finds = g.L.Lookup.finds c.args.from.now in
     let fresh = sym c.is_among.ensures ∙ c.if-is_among.false in
-    ap (λ n. known finds n c.args.within.now c.args.name.now) c.if-left-eq0.true
+    ap (λ n. (known finds n c.args.within.now).at c.args.name.now) c.if-left-eq0.true
     ∙ known_deep finds c.args.within.now c.args.name.now c.in-Some.found fresh (c.in_ok-found.ensures.ok ∙ ap Ok c.in-Some.is)
     ∙ ap (λ n. Err (too_deep n)) (sym c.in_ok-innermost_name.ensures)

@@ -1,6 +1,6 @@
 use Rattle.std.proofs.Common.{◌≡◌, ◌+◌, ◌*◌, drop}
 use Rattle.meta_model.specs.Parts.{end, depth}
-use Rattle.meta_model.specs.Expansion.{value_by}
+use Rattle.meta_model.specs.Expansion.{values_by}
 use Rattle.var_expand.specs.Pieces.{part_before, parts_in, parts_in_list}
 use Rattle.meta_model.specs.References.{noted}
 use Rattle.var_expand.proofs.names.+noting.Given as goal
@@ -16,4 +16,4 @@ decreases-note_parts g l = 3 * depth (parts_in l.parts.now) + 1
 
 abbrev pub invariant-note_parts-loop-part : goal.invariant-note_parts-loop-part
 invariant-note_parts-loop-part g l =
-    noted (value_by (g.L.Lookup.finds l.from)) (parts_in l.parts) l.fn.names.items ≡ noted (value_by (g.L.Lookup.finds l.from)) (parts_in_list (drop l.part-index l.part-items)) l.names.items
+    noted (values_by (g.L.Lookup.finds l.from)) (parts_in l.parts) l.fn.names.items ≡ noted (values_by (g.L.Lookup.finds l.from)) (parts_in_list (drop l.part-index l.part-items)) l.names.items

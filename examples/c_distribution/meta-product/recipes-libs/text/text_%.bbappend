@@ -1,2 +1,2 @@
-# In this product a word may have hyphens.
-CFLAGS:append = " -DHYPHENS=1"
+# In this product a word may have hyphens, where it is asked for.
+CFLAGS:append = " ${@bb.utils.contains('FEATURES', 'hyphens', '-DHYPHENS=1', '-DHYPHENS=0', d)}"

@@ -6,4 +6,4 @@ pub returns-in_ok-resolved_under-in-Settled-clause-ok : goal.returns-in_ok-resol
 returns-in_ok-resolved_under-in-Settled-clause-ok c =
     let list = c.args.self.now.store.now in
     let name = c.args.name.now in
-    ap (λ o. found_over list o name) c.in-Settled.is ∙ ap (λ a. found_under list a name) (sym c.as_slice.ensures) ∙ ap Ok (sym c.in_ok-resolved_under-in-Settled.ensures)
+    ap (λ o. (found_over list o).at name) c.in-Settled.is ∙ ap (λ a. (found_under list a).at name) (sym c.as_slice.ensures) ∙ ap Ok (sym c.in_ok-resolved_under-in-Settled.ensures)

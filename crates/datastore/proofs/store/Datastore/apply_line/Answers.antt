@@ -1,6 +1,5 @@
 use Rattle.std.proofs.Common.{subst, sym, IfSome}
-use Rattle.meta_model.specs.Active as entries
-use Rattle.datastore.specs.Looked.{IsMeant}
+use Rattle.datastore.specs.Looked.{AreOf}
 use Rattle.value_maps.specs.Maps.{Keeps}
 use Rattle.datastore.specs.Store.{all_entries}
 use Rattle.value_maps.proofs.Keeping.{keeps_step}
@@ -18,5 +17,5 @@ invariant_of-self-2 c =
     let more = c.push_reserved.new.self.items in
     record {
       keeps = subst (λ l. Keeps l new) (entries_step old new past own c.reserve.new.self.items more line goes.same c.in_ok-reserve.ensures.items c.push_reserved.ensures.items) (keeps_step (all_entries old past own) old new line c.self.invariant.keeps goes);
-      settles = subst (λ o. IfSome o (λ overrides. IsMeant overrides (entries.active (all_entries new past more)))) (sym c.forget.ensures) tt;
+      settles = subst (λ o. IfSome o (AreOf (all_entries new past more))) (sym c.forget.ensures) tt;
     }

@@ -1,11 +1,11 @@
-use Rattle.std.proofs.Common.{◌≡◌, ◌∙◌, ap, sym, [], ◌++◌, ◌||◌, Ok}
+use Rattle.std.proofs.Common.{◌≡◌, ◌∙◌, ap, sym, subst, [], ◌++◌, ◌||◌, Ok}
 use Rattle.std.proofs.lemmas.Result.{IfOk-weaker}
 use Rattle.meta_model.specs.declared.value.Key.{Key}
 use Rattle.name_walk.specs.Walk.{with_more}
 use Rattle.task_model.specs.Leads.{Led, starting, without}
 use Rattle.task_model.specs.Keys.{key_over, led_to, lines_of, IsLeast}
 use Rattle.var_deps.specs.Kept.{key_behind, task_view}
-use Rattle.var_deps.specs.Leaders.{none_other, stays_itself, stays_on}
+use Rattle.var_deps.specs.Leaders.{none_other, stays_itself, stays_on, task_led_is}
 use Rattle.var_deps.specs.Led.{led_of}
 use Rattle.var_deps.proofs.Tabling.{stays_view}
 use Rattle.var_deps.proofs.Starting.{start_whole, start_refuses}
@@ -35,7 +35,7 @@ returns-clause-ok c =
     ] in
     let key : Key = record { lines = []; excluded = c.if-start.left_out } in
     let starts : starting view ≡ Ok whole = start_whole view start exports c.in_ok-start.ensures.ok (c.requires.exports.start ∙ ap (without view.ignored) c.requires.exports.all) in
-    let least : IsLeast (led_to view) whole.names names = c.in_ok-more.ensures.least whole.names c.in_ok-done.ensures in
+    let least : IsLeast (led_to view) whole.names names = subst (λ f. IsLeast f whole.names names) (task_led_is t) (c.in_ok-more.ensures.least whole.names c.in_ok-done.ensures) in
     let is : key_over view ≡ key_behind key (lines_of view names) = key_is_made view (none_other t c.requires.ready) whole names starts least ∙ ap (λ b. key_behind (let k : Key = record { lines = []; excluded = b } in k) (lines_of view names)) (sym left_out) in
     let same : key_over view ≡ key_behind key (lines_of (task_view c.reach.new.from) (with_more c.in_ok-done.done.now c.as_slice.result.now)) = is ∙ ap (λ v. key_behind key (lines_of v names)) (sym (stays_view t c.reach.new.from c.in_ok-more.ensures.stays)) ∙ ap (λ n. key_behind key (lines_of (task_view c.reach.new.from) (with_more c.in_ok-done.done.now n))) (sym c.as_slice.ensures.value) in
     IfOk-weaker c.lines.result (λ made. key_behind key (lines_of (task_view c.reach.new.from) (with_more c.in_ok-done.done.now c.as_slice.result.now)) ≡ Ok made) (λ made. key_over view ≡ Ok made) (λ made e. same ∙ e) c.lines.ensures.ok
@@ -50,7 +50,7 @@ returns-clause-err c =
     let names = with_more c.in_ok-done.done.now c.in_ok-more.more.items in
     let key : Key = record { lines = []; excluded = whole.left_out } in
     let starts : starting view ≡ Ok whole = start_whole view start exports c.in_ok-start.ensures.ok (c.requires.exports.start ∙ ap (without view.ignored) c.requires.exports.all) in
-    let least : IsLeast (led_to view) whole.names names = c.in_ok-more.ensures.least whole.names c.in_ok-done.ensures in
+    let least : IsLeast (led_to view) whole.names names = subst (λ f. IsLeast f whole.names names) (task_led_is t) (c.in_ok-more.ensures.least whole.names c.in_ok-done.ensures) in
     let is : key_over view ≡ key_behind key (lines_of view names) = key_is_made view (none_other t c.requires.ready) whole names starts least in
     let told = lines_of (task_view c.reach.new.from) (with_more c.in_ok-done.done.now c.as_slice.result.now) in
     let same : key_over view ≡ key_behind key told = is ∙ ap (λ v. key_behind key (lines_of v names)) (sym (stays_view t c.reach.new.from c.in_ok-more.ensures.stays)) ∙ ap (λ n. key_behind key (lines_of (task_view c.reach.new.from) (with_more c.in_ok-done.done.now n))) (sym c.as_slice.ensures.value) in
@@ -61,3 +61,6 @@ returns-clause-stays c = stays_on c.args.self.now c.reach.new.from c.lines.new.s
 
 pub returns-in_err-start-clause-stays : goal.returns-in_err-start-clause-stays
 returns-in_err-start-clause-stays c = stays_itself c.args.self.now
+
+pub lines-requires-clause-done : goal.lines-requires-clause-done
+lines-requires-clause-done c = c.in_ok-done.ensures.ordered

@@ -18,9 +18,9 @@ returns-clause-ready c =
     record {
       right = c.look_as.ensures.right;
       own = subst (λ n. IsKnown (view_by store shared.seen.task shared.ignored c.args.sstate n) true n c.in_ok-own.own) (sym c.in_ok-name.ensures) c.in_ok-own.ensures;
-      seen = elim c.if-bare.branch as (λ _. (name : List ℕ) → seen_with store shared.seen.task name ≡ seen_by made (find_in store) name) [
+      seen = elim c.if-bare.branch as (λ _. seen_with store shared.seen.task ≡ seen_by made (find_in store)) [
         | then-bare+in_ok-from_str w ↦ seen_bare store shared.seen.task w.in_ok-from_str.field-0 task made (c.look_as.ensures.task ∙ w.own_name-is) w.in_ok-from_str.ensures c.in_ok-name.ensures
         | else-bare w ↦ seen_plain store shared.seen.task task made (c.look_as.ensures.task ∙ w.own_name-is) c.in_ok-name.ensures
-            (subst (λ s. (found : Resolved) → find_in s task ≡ Ok (Some found) → is_bare found ≡ false) (sym c.look_as.ensures.store) (c.requires.seen w.if-bare.false))
+            (subst (λ s. (found : Resolved) → (find_in s).at task ≡ Ok (Some found) → is_bare found ≡ false) (sym c.look_as.ensures.store) (c.requires.seen w.if-bare.false))
       ];
     }

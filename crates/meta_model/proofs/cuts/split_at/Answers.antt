@@ -1,8 +1,8 @@
 use Rattle.std.proofs.Common.{sym, ◌∙◌, arith}
 use Rattle.std.proofs.lemmas.Grind.{common_steps}
 use Rattle.std.proofs.lemmas.Str.{IsCharBoundary-after_ascii}
-use Rattle.bb_parser.proofs.Splits.{split_at_first-some, split_at_first-none}
-use Rattle.bb_parser.proofs.scan.split_at.Goals as goal
+use Rattle.meta_model.proofs.Splits.{split_at_first-some, split_at_first-none}
+use Rattle.meta_model.proofs.cuts.split_at.Goals as goal
 
 pub range_from-requires : goal.range_from-requires
 range_from-requires c = λ _. let h = rw c.as_bytes.ensures.value at c.in-Some.ensures.stands in

@@ -2,7 +2,7 @@ use Rattle.std.proofs.Common.{◌≡◌, ◌∙◌, sym, ◌<◌, ◌==◌, ℕ,
 use Rattle.std.proofs.lemmas.Bool.{eqb-true}
 use Rattle.std.proofs.lemmas.List.Quantifiers.{position-Some}
 use Rattle.byte_scan.proofs.Lanes.{one_byte}
-use Rattle.bb_parser.proofs.scan.place_of.Goals as goal
+use Rattle.meta_model.proofs.cuts.place_of.Goals as goal
 
 -- a byte stands where it is found
 stands : (found : Option ℕ) (bytes : List ℕ) (byte : ℕ) → found ≡ position (λ b. b == byte) bytes → IfSome found (λ i. (i < length bytes) × (get_or bytes i 0 ≡ byte))
