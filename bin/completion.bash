@@ -61,7 +61,7 @@ _bitbake() {
             _bitbake_tasks_for "$target"
             ;;
         *,-*)
-            found='-c -f -k -n -e -s -p -g -h --cmd --force --continue --dry-run --environment --show-versions --parse-only --no-setscene --sample --graphviz --help --version --lint'
+            found='-c -f -k -n -e -s -p -g -q -h --cmd --force --continue --dry-run --environment --show-versions --parse-only --no-setscene --sample --graphviz --quiet --help --version --lint'
             ;;
         *,*:*)
             typed=${word#*:}

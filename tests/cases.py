@@ -152,7 +152,7 @@ class Case:
 
     def explained(self, status, text, said):
         """Holds what standard error says of a run to the status and the text. What real files tell besides stands in no case."""
-        said = b"".join(it for it in said.splitlines(True) if not it.startswith((b"bitbake: layers: ", b"bitbake: lint: ", b"bitbake: sandbox: ")))
+        said = b"".join(it for it in said.splitlines(True) if not it.startswith((b"bitbake: layers: ", b"bitbake: lint: ", b"bitbake: sandbox: ", b"bitbake: why: ")))
         said = without_further(said.decode(errors="surrogateescape")).encode(errors="surrogateescape")
         self.said += said
         wanted = [it.encode(errors="surrogateescape") for it in sentences(text.decode(errors="surrogateescape"))]

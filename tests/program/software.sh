@@ -15,6 +15,12 @@ starts() {
     holds "$1" test "$status" -eq 0 -a "$(cat "$room/told")" = "$(cat "$room/wanted")"
     holds "$1, what it prints" test "$(cat build/work/image/do_build/report.txt)" = "$2"
 }
+# Counts a case: build/why says just this of the tasks whose reason isn't another task's output.
+because() {
+    grep -v -e ' gives another output$' -e '^    ' build/why | LC_ALL=C sort >"$room/told"
+    printf '%s\n' "$2" >"$room/wanted"
+    holds "why: $1" sh -c 'cmp -s "$1" "$2" || { cat "$2"; false; }' sh "$room/wanted" "$room/told"
+}
 tasks_of() {
     recipe=$1
     shift
@@ -34,8 +40,11 @@ if command -v cc >/dev/null 2>&1 && command -v ar >/dev/null 2>&1 && command -v 
     starts "comments of metadata" "$built_distribution" ''
     sed -i 's|^/\* .* \*/$|/* other words */|' meta-product/recipes-tools/shout/shout.c
     starts "a comment of a source" "$built_distribution" "$(tasks_of shout unpack configure compile install sysroot)"
+    because "a comment of a source" 'shout:do_unpack: shout.c changed'
     sed -i 's/HYPHENS=1/HYPHENS=2/' meta-product/recipes-libs/text/text_%.bbappend
     starts "a flag that changes no program" "$built_distribution" "$(tasks_of text configure compile install sysroot)"
+    because "a flag in an append" 'text:do_configure: CFLAGS changed, as below'
+    holds "and which" grep -q '^    + .*HYPHENS=2' build/why
     sed -i 's/HYPHENS=2/HYPHENS=0/' meta-product/recipes-libs/text/text_%.bbappend
     above=$(for recipe in shout wordcount image; do tasks_of "$recipe" configure compile install sysroot; done)
     starts "a flag that changes a library" '== report ==
@@ -54,12 +63,25 @@ A WELL-KNOWN TEXT!' 'text:do_configure image:do_build'
     sed -i '/^FEATURES/s/network/hyphens fast/' conf/bblayers.conf
     each=$(for recipe in banner image shout text wordcount; do tasks_of "$recipe" configure compile install sysroot; done)
     starts "a feature that a class asks for" "$built_distribution" "$each image:do_build"
+    because "a feature that a class asks for" 'banner:do_configure: @FEATURES fast: "" -> "fast"
+text:do_configure: @FEATURES fast: "" -> "fast"; @FEATURES hyphens: "" -> "hyphens"'
     sed -i '/^FEATURES/d' conf/bblayers.conf
     starts "the features as they were" "$built_distribution" image:do_build
     (cd meta-base/recipes-libs/text && tar -xf text-1.0.tar && sed -i 's/toupper/tolower/' text-1.0/text.c && tar -cf text-1.0.tar text-1.0 && rm -r text-1.0) || exit 1
     starts "a source in an archive" '== report ==
 3 words
 a well-known text!' "$(tasks_of text unpack configure compile install sysroot) $above image:do_build"
+    because "a source in an archive" 'text:do_unpack: text-1.0.tar changed'
+    sed -i 's/-Wall/-Wall -O3/' meta-base/conf/*.conf meta-base/classes/*
+    runs "$bitbake" image
+    holds "why: a flag that all read" grep -q '^banner:do_configure: .*CFLAGS: "-O1 -Wall.*" -> "-O1 -Wall -O3' build/why
+    holds "what an earlier run gave in between counts" grep -q '^banner:do_configure: @FEATURES fast: "fast" -> ""' build/why
+    rm -r build/work/image/do_build
+    runs "$bitbake" image
+    because "an output that was removed" 'image:do_build: its output is gone, or was changed by hand'
+    rm -r build/work/image build/obj
+    runs "$bitbake" image
+    holds "objects that were removed" grep -q '^image:do_sysroot: its output is gone, or was changed by hand$' build/why
 else
     echo "skipped the distribution in C: there is no cc, ar, make or tar"
 fi

@@ -13,6 +13,14 @@ pub fn is_run(rt: &HostRuntime, words: &[Text]) -> bool {
     }
 }
 
+/// Whether these words ask for the targets' tasks to run whatever is there.
+pub fn is_forced(rt: &HostRuntime, words: &[Text]) -> bool {
+    match read_words(rt.alloc(), words) {
+        Ok(request) => request.force,
+        Err(_) => false,
+    }
+}
+
 /// Reads what opening a store will ask of the disk, and works out what the files under `rec/` say. What fails is left to the run.
 pub fn read_ahead(rt: &HostRuntime, reading: &ReadAhead, ahead: &Ahead) {
     reading.read(rt);

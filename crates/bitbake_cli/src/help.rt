@@ -17,6 +17,7 @@ usage: bitbake [-c TASK] [-f] [-k] [-n] [-e] [-s] [-p] [--no-setscene] [--sample
 \x20     --no-setscene        Objects of the shared state don't count as available.\n\
 \x20     --sample N           Build a generated project of N recipes, 1 to 1000, over devices in memory.\n\
 \x20 -g, --graphviz           Print the graph of the tasks that the targets need, as DOT.\n\
+\x20 -q, --quiet              No line on the terminal says what a run is doing.\n\
 \x20 -h, --help               Print these options, and do nothing else.\n\
 \x20     --version            Print the commit and the kit of the program.\n\
 \x20     --lint               Print what is no fault, and does nothing or something else than it seems to.\n\

@@ -4,6 +4,7 @@
 //! ahead meanwhile; the devices stand in `outside_os` and `sh_bench`. Here the words are taken from the system and the devices made, and standard
 //! error tells of what failed, beside the ends of logs, which the benches show: which tasks gave too much, what is wrong with the metadata
 //! and what to do, who asks for what isn't there, and what a device says of its first fault.
+//! Where that is a terminal, one line there says what a run is doing (`progress_line`), unless `--quiet` is among the words.
 //! Help, the version, remarks and the graph are modes of this program alone, whose words go to no top call (`own_modes`, `linting` over
 //! `recipe_lint`, `graphing` over `target_graph`).
 //! `tests/program.sh` tests it by runs.
@@ -26,7 +27,7 @@ mod streams;
 mod traces;
 
 use about::tell_about;
-use ahead::{is_run, read_ahead};
+use ahead::{is_forced, is_run, read_ahead};
 use bitbake_top::bitbake;
 use build_store::Ahead;
 use failures::tell_too_large;
@@ -35,13 +36,16 @@ use graphing::run_graph;
 use host_files::{Syncs, is_memory};
 use linting::{run_lint, tell_count};
 use outside_os::{FolderDisk, FolderLayers, ReadAhead, StdSink};
-use own_modes::{OwnMode, own_mode, run_help, run_version};
+use own_modes::{OwnMode, other_words, own_mode, run_help, run_version};
+use progress_line::{Progress, Shown, has_place};
 use recipe_lint::Counted;
+use run_reasons::{Known, Stamped, keep_reasons};
 use run_trace::{Timed, micros_now};
 use sh_bench::{Sandboxes, ShBench};
 use std::process::ExitCode;
 use std::sync::Wait;
 use std::thread::{Threads, join};
+use std::time::{Clock, SystemTime};
 use std::{env, io};
 use streams::closed_streams;
 use traces::keep_trace;
@@ -56,11 +60,22 @@ const OUT_OF_MEMORY: u8 = 11;
 /// An option that the command doesn't have. It stands for words that aren't UTF-8, which have no reading either.
 const NO_WORD: &str = "--not-utf-8";
 
+/// The words that ask for no line on the terminal.
+const QUIET: &[&str] = &["-q", "--quiet"];
+
 /// What the devices of a run have besides.
 #[derive(Drop)]
 struct Beside {
     syncs: Syncs,
     sandboxes: Sandboxes,
+
+    /// The line on the terminal, and whether it is drawn.
+    progress: Progress,
+    is_shown: bool,
+
+    /// When the program began: in microseconds of the monotonic clock, and by the calendar.
+    begun: u64,
+    since: SystemTime,
 }
 
 /// Ends with the status of the top call over the current folder and standard output.
@@ -77,27 +92,32 @@ fn main(rt: HostRuntime) -> ExitCode {
     }
 }
 
-/// The status of the top call over the current folder. Where an earlier run left something there, a run reads that in a thread of its own
-/// meanwhile.
-fn run<R: Threads + Wait + Sync>(rt: &HostRuntime, threads: &R) -> io::Result<u8> {
+/// The status of the top call over the current folder, or of a mode of this program alone.
+fn run<R: Threads + Wait + Clock + Sync>(rt: &HostRuntime, threads: &R) -> io::Result<u8> {
     let begun = micros_now(rt);
-    let words = words_of(rt)?;
-    match own_mode(&words) {
+    let all = words_of(rt)?;
+    match own_mode(&all) {
         Some(OwnMode::Help) => return run_help(rt),
         Some(OwnMode::Version) => return run_version(rt),
-        Some(OwnMode::Lint) => return run_lint(rt, &words),
-        Some(OwnMode::Graph) => return run_graph(rt, &words),
+        Some(OwnMode::Lint) => return run_lint(rt, &all),
+        Some(OwnMode::Graph) => return run_graph(rt, &all),
         None => {}
     }
-    let reading = ReadAhead::none();
-    let ahead = Ahead::none();
+    let words = other_words(rt.alloc(), &all, QUIET)?;
+    let is_run = is_run(rt, &words);
     let beside = Beside {
         syncs: Syncs::none(),
         sandboxes: Sandboxes::unknown(),
+        progress: Progress::new(rt.alloc(), begun),
+        is_shown: is_run && words.len() == all.len() && has_place(rt),
+        begun,
+        since: SystemTime::now(rt).unwrap_or(SystemTime::UNIX_EPOCH),
     };
     let mut disk = FolderDisk::new(rt.clone()?, &beside.syncs);
-    if !is_run(rt, &words) || !disk.hold_early(&reading) {
-        return call(rt, threads, &ahead, &words, &beside, disk, begun);
+    let reading = ReadAhead::none();
+    let ahead = Ahead::none();
+    if !is_run || !disk.hold_early(&reading) {
+        return call_shown(rt, threads, &ahead, &words, &beside, disk);
     }
     let ((), status) = join(
         threads,
@@ -105,7 +125,7 @@ fn run<R: Threads + Wait + Sync>(rt: &HostRuntime, threads: &R) -> io::Result<u8
         || -> io::Result<u8>
             requires unharmed { disk.faults ≡ 0 }
         {
-            let status = call(rt, threads, &ahead, &words, &beside, disk, begun);
+            let status = call_shown(rt, threads, &ahead, &words, &beside, disk);
             reading.stop();
             status
         },
@@ -113,15 +133,42 @@ fn run<R: Threads + Wait + Sync>(rt: &HostRuntime, threads: &R) -> io::Result<u8
     status
 }
 
+/// The status of the top call. Where there is a line on the terminal, a thread of its own draws it meanwhile.
+fn call_shown<'b, R: Threads + Wait + Clock + Sync>(
+    rt: &'b HostRuntime,
+    threads: &'b R,
+    ahead: &'b Ahead,
+    words: &'b [Text],
+    beside: &'b Beside,
+    disk: FolderDisk<'b, HostRuntime>,
+) -> io::Result<u8>
+    requires unharmed { disk.faults ≡ 0 }
+{
+    if !beside.is_shown {
+        return call(rt, threads, ahead, words, beside, disk);
+    }
+    let ((), status) = join(
+        threads,
+        || beside.progress.tick(rt, threads),
+        || -> io::Result<u8>
+            requires unharmed { disk.faults ≡ 0 }
+        {
+            let status = call(rt, threads, ahead, words, beside, disk);
+            beside.progress.stop(rt, threads);
+            status
+        },
+    );
+    status
+}
+
 /// The status of the top call over the current folder's layers, this disk, the benches and standard output.
-fn call<R: Threads + Wait + Sync>(
-    rt: &HostRuntime,
-    threads: &R,
-    ahead: &Ahead,
-    words: &[Text],
-    beside: &Beside,
-    disk: FolderDisk<'_, HostRuntime>,
-    begun: u64,
+fn call<'b, R: Threads + Wait + Clock + Sync>(
+    rt: &'b HostRuntime,
+    threads: &'b R,
+    ahead: &'b Ahead,
+    words: &'b [Text],
+    beside: &'b Beside,
+    disk: FolderDisk<'b, HostRuntime>,
 ) -> io::Result<u8>
     requires unharmed { disk.faults ≡ 0 }
 {
@@ -131,7 +178,10 @@ fn call<R: Threads + Wait + Sync>(
     }
     benches.push(ShBench::new(rt.clone()?, LAST_BENCH, &beside.sandboxes, &beside.syncs))?;
     let layers = Counted::new(rt.alloc(), FolderLayers::new(rt.clone()?));
-    let sink = Timed::new(rt.alloc(), StdSink::new(rt.clone()?), rt.clone()?);
+    let progress = beside.is_shown.then_some(&beside.progress);
+    let shown = Shown::new(StdSink::new(rt.clone()?), progress, rt.clone()?, threads);
+    let timed = Timed::new(rt.alloc(), shown, rt.clone()?);
+    let sink = Stamped::new(rt.alloc(), timed, rt.clone()?);
     let mut finish = bitbake(
         threads,
         rt.alloc(),
@@ -147,7 +197,14 @@ fn call<R: Threads + Wait + Sync>(
     }
     finish.disk.close();
     if finish.disk.is_held() {
-        keep_trace(rt, &finish.plans, &finish.tales, finish.sink.lines(), begun);
+        let lines = finish.sink.inner.lines();
+        keep_trace(rt, &finish.plans, &finish.tales, lines, beside.begun);
+        let known = Known {
+            stamps: finish.sink.stamps(),
+            begun: beside.since,
+            is_forced: is_forced(rt, words),
+        };
+        keep_reasons(rt, &finish.plans, &finish.tales, &known);
     }
     tell_too_large(rt, &finish.plans, &finish.tales);
     tell_fault(rt, &finish.status);
@@ -162,7 +219,7 @@ fn call<R: Threads + Wait + Sync>(
     for bench in &finish.benches {
         tell(rt, "bench", bench.first_fault());
     }
-    tell(rt, "output", finish.sink.inner.first_fault());
+    tell(rt, "output", finish.sink.inner.inner.inner.first_fault());
     Ok(finish.status.code())
 }
 

@@ -5,7 +5,7 @@
 //! writes what its tasks do, and takes the line away before each piece, so that it is never mixed into standard output, also where both go to
 //! the same terminal. Who writes to standard error besides, while a run goes on, does it by `tell`, which takes the line away in the same call.
 //!
-//! Promised is that the sink is the one below, to its contract's last clause. The program doesn't draw it yet. (Own rules: BitBake's `knotty` for one line.)
+//! Promised is that the sink is the one below, to its contract's last clause. (Own rules: BitBake's `knotty` for one line.)
 #![tactic(auto)]
 
 mod line;
