@@ -24,3 +24,14 @@ pub mod Noting
 pub mod Piecing
 pub mod Staying
 pub mod Stepping
+pub mod ItemPlaces
+pub mod StepRuns
+pub mod OpeningRuns
+pub mod EndingRuns
+pub mod OpenStaying
+pub mod ItemRuns
+pub mod NotingRuns
+pub mod StepLoop
+pub mod GoingRuns
+pub mod TaskRuns
+pub mod TaskStaying

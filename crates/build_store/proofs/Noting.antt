@@ -18,12 +18,12 @@ use Rattle.build_store.specs.Noting.{AreListed, IsListed, NotedIsHalf, items_for
 
 -- ---- lists of items
 
-due_front : (xs ys : List Item) (q : List ℕ) → IsDue xs q → IsDue (xs ++ ys) q
+pub due_front : (xs ys : List Item) (q : List ℕ) → IsDue xs q → IsDue (xs ++ ys) q
 due_front [] ys q due = absurd due
 due_front (x ∷ xs) ys q (inl same) = inl same
 due_front (x ∷ xs) ys q (inr due) = inr (due_front xs ys q due)
 
-due_behind : (xs ys : List Item) (q : List ℕ) → IsDue ys q → IsDue (xs ++ ys) q
+pub due_behind : (xs ys : List Item) (q : List ℕ) → IsDue ys q → IsDue (xs ++ ys) q
 due_behind [] ys q due = due
 due_behind (x ∷ xs) ys q due = inr (due_behind xs ys q due)
 

@@ -45,7 +45,7 @@ module _ (folder : List ℕ) (object : Option Hash) where
   pub others_same : (h i : Store) → KeepsOthers folder object h i i
   others_same h i = elsewhere h i i (λ other ne. refl) (λ rest. refl) (λ rest. refl)
 
-  others_join : (ha hb i j k : Store) → KeepsOthers folder object ha ha hb → KeepsOthers folder object ha i j → KeepsOthers folder object hb j k → KeepsOthers folder object ha i k
+  pub others_join : (ha hb i j k : Store) → KeepsOthers folder object ha ha hb → KeepsOthers folder object ha i j → KeepsOthers folder object hb j k → KeepsOthers folder object ha i k
   others_join ha hb i j k held first second = record {
     stamps = λ other ne. second.stamps other ne ∙ first.stamps other ne;
     work = λ q at apart. second.work q at apart ∙ first.work q at apart;

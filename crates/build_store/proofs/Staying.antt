@@ -64,7 +64,7 @@ halves_stay p left folder object a b apart objects run half = record {
 
 -- ---- what is put
 
-find_last : {A : Type 0} (q : A → Bool) (xs : List A) (y : A) → q y ≡ false → find q (xs ++ y ∷ []) ≡ find q xs
+pub find_last : {A : Type 0} (q : A → Bool) (xs : List A) (y : A) → q y ≡ false → find q (xs ++ y ∷ []) ≡ find q xs
 find_last q [] y f = rw f refl
 find_last q (x ∷ xs) y f = by (q x) refl (find_last q xs y f)
   where
@@ -72,7 +72,7 @@ find_last q (x ∷ xs) y f = by (q x) refl (find_last q xs y f)
     by true e more = simp e
     by false e more = simp e more
 
-not_for : (s : Signed) (lines : List ManifestLine) (row : EquivRow) → (row.pn ≡ s.sig.pn → row.task ≡ s.sig.task → ⊥) → is_row_for s.sig.pn s.sig.task lines row ≡ false
+pub not_for : (s : Signed) (lines : List ManifestLine) (row : EquivRow) → (row.pn ≡ s.sig.pn → row.task ≡ s.sig.task → ⊥) → is_row_for s.sig.pn s.sig.task lines row ≡ false
 not_for s lines row ne = by (either_way (bytes_eq row.pn s.sig.pn)) (either_way (bytes_eq row.task s.sig.task))
   where
     by : (bytes_eq row.pn s.sig.pn ≡ true) ⊎ (bytes_eq row.pn s.sig.pn ≡ false) → (bytes_eq row.task s.sig.task ≡ true) ⊎ (bytes_eq row.task s.sig.task ≡ false) → is_row_for s.sig.pn s.sig.task lines row ≡ false

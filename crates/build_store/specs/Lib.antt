@@ -13,3 +13,5 @@ pub mod Ending
 pub mod Halves
 pub mod Noting
 pub mod Pieces
+pub mod OpenOnes
+pub mod OpenTasks

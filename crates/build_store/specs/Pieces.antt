@@ -5,9 +5,9 @@ use Rattle.tree_model.specs.declared.entry.Entry.{Entry}
 use Rattle.tree_model.specs.declared.hash.Hash.{Hash}
 use Rattle.tree_model.specs.Hash.{hash_text}
 use Rattle.tree_model.specs.Tree.{IsTree}
-use Rattle.outside_traits.specs.Passes.{Passes}
+use Rattle.outside_traits.specs.Passes.{EachNow, Passes}
 use Rattle.outside_traits.specs.Store.{HoldsTree, IsApart, IsFree, Store}
-use Rattle.outside_traits.specs.Story.{Story}
+use Rattle.outside_traits.specs.Story.{IsSound, Story}
 use Rattle.meta_model.specs.CleanBuild.{Entries}
 use Rattle.store_model.specs.declared.signature.EquivRow.{EquivRow}
 use Rattle.store_model.specs.Available.{object_folder}
@@ -17,7 +17,7 @@ use Rattle.store_model.specs.Spelling.{name_of}
 use Rattle.build_store.specs.Publication.{KeepsOthers, Publishes, publication}
 use Rattle.store_model.specs.Publication.{Publication, stamp_at, work_at}
 use Rattle.build_store.specs.Calls.{Finishes, KeepsStaged, Opens, Works}
-use Rattle.build_store.specs.Halves.{AreApart, IsHalf}
+use Rattle.build_store.specs.Halves.{AreApart, IsHalf, IsOn, Progress}
 use Rattle.build_store.specs.Ending.{HasFolders, KeepsPut}
 use Rattle.build_store.specs.Items.{Does, IsItemOf, Item, writing}
 
@@ -36,6 +36,10 @@ WorksIsPublishing = (p : Publication) (items : List Item) (held old new : Store)
 abbrev pub FinishesIsPublishing : Type 0
 FinishesIsPublishing = (p : Publication) (held old new : Store) → old (stamp_at p.folder) ≡ None → Finishes p old new → IsPublishing p held old new
 
+-- Two calls in a row are one, where no crash between them leaves a stamp of the task.
+abbrev pub InARow : Type 0
+InARow = (p : Publication) (a b c : Story) → IsSound b → EachNow b (λ image. image (stamp_at p.folder) ≡ None) → Passes a b (IsPublishing p a.held) → Passes b c (IsPublishing p b.held) → Passes a c (IsPublishing p a.held)
+
 -- ---- those that are open beside it
 
 -- An open publication stays as it is, whatever another one does, or a restoring: of what others have nothing changes.
@@ -47,6 +51,10 @@ HalvesStay = (p : Publication) (left : List Item) (folder : List ℕ) (object : 
 -- And where it is at its end, all that it has put stays.
 abbrev pub OthersKeepPut : Type 0
 OthersKeepPut = (p r : Publication) (held old new : Store) → AreApart r p → HasFolders p held → IsPublishing r held old new → KeepsPut p old new
+
+-- Together: however far it is, it stays so, whatever another one does that shares nothing with it.
+abbrev pub OpenOnesStay : Type 0
+OpenOnesStay = (p r : Publication) (progress : Progress) (a b : Story) → IsSound a → AreApart r p → Passes a b (IsPublishing r a.held) → IsOn p progress a → IsOn p progress b
 
 -- What is put stays the same, while rows of other tasks and names come behind.
 abbrev pub PublicationStays : Type 0

@@ -2,7 +2,8 @@
 ghost use Rattle.build_store.specs.Ending.{NowIsTicket, PhasesEnd, PhasesStay, RecordGoesOn, StagedAtFirst, StampGoesOn};
 ghost use Rattle.build_store.specs.Laws.{OthersInWorkStay, OthersObjectsStay, OthersStay, OthersUntouched, PublishedIsValid};
 ghost use Rattle.build_store.specs.Noting.{NotedIsHalf};
-ghost use Rattle.build_store.specs.Pieces.{FinishesIsPublishing, HalvesStay, MayBeWritten, OpensIsPublishing, OthersKeepPut, PublicationStays, StepGoesOn, WholeAtLast, WorksIsPublishing};
+ghost use Rattle.build_store.specs.OpenTasks.{OpenTasksStay};
+ghost use Rattle.build_store.specs.Pieces.{FinishesIsPublishing, HalvesStay, InARow, MayBeWritten, OpenOnesStay, OpensIsPublishing, OthersKeepPut, PublicationStays, StepGoesOn, WholeAtLast, WorksIsPublishing};
 
 /// At each moment of a publication a valid store is valid, with the same book or with the publication's line behind it.
 pub fn published_is_valid()
@@ -18,11 +19,13 @@ pub fn others_stay()
     ensures objects { OthersObjectsStay }
 {}
 
-/// Each call of a publication in pieces does at each moment what a publication does, to its own task and to others.
+/// Each call of a publication in pieces does at each moment what a publication does, to its own task and to others; and so do calls in a
+/// row.
 pub fn pieces_publish()
     ensures opens { OpensIsPublishing }
     ensures works { WorksIsPublishing }
     ensures finishes { FinishesIsPublishing }
+    ensures row { InARow }
 {}
 
 /// An open publication stays as it is, whatever another one does, and so does all that it has put where it is at its end; and what it is to
@@ -30,6 +33,8 @@ pub fn pieces_publish()
 pub fn open_ones_stay()
     ensures halves { HalvesStay }
     ensures put { OthersKeepPut }
+    ensures any { OpenOnesStay }
+    ensures task { OpenTasksStay }
     ensures publication { PublicationStays }
 {}
 

@@ -21,9 +21,16 @@
 //! `Ahead`): that counts only where opening reads just these files, so whatever was left there, no clause is another.
 //!
 //! Several publications may stand half staged in one store, each put in pieces: what is kept of one that is open (`specs/Halves`), what each
-//! of its calls does (`Calls`), and what follows (`Pieces`, `Ending`) are stated and proved; no call makes one yet. Each such call is a publication
-//! at each moment (`pieces_publish`); what others do leaves an open one as it is (`open_ones_stay`); its steps lead to folders that hold
-//! exactly the tree (`steps_lead_on`), and tickets in place of syncs to a stamp that never lies (`phases_lead_on`).
+//! of its calls does (`Calls`), and what follows (`Pieces`, `Ending`) are stated and proved. Each such call is a publication at each moment
+//! (`pieces_publish`); what others do leaves an open one as it is (`open_ones_stay`); its steps lead to folders that hold exactly the tree
+//! (`steps_lead_on`), and tickets in place of syncs to a stamp that never lies (`phases_lead_on`).
+//!
+//! The calls of one open publication on a disk are written and proved too (`specs/OpenOnes`), for a store that is to have several; no call of
+//! the store makes one yet. `open_publication` takes the stamp away and notes the items by two listings, with a sync only where a stamp is
+//! held, if it is known to be settled; `go_on` does 64 items (`step`, which writes no entry that is held already), or stages record and stamp,
+//! or ends a ticket and renames one of them, and says what is reached then (`LeadsTo`). Whatever each answers, it did at each moment what a
+//! publication does (`IsPublishing`); and where all is done, each crash leaves all that the stamp tells of. `open_task`, `step_task` and
+//! `close_task` are the same for what a task gave, over the rows of an index (`specs/OpenTasks`).
 //!
 //! `known_name` gives for a PN and the bytes of a signature the name of every signature with these bytes, where it knows one; that it does
 //! isn't promised. `into_disk` gives the disk back, which in every image holds the records of all rows.
@@ -35,18 +42,24 @@
 
 mod comparing;
 mod drafting;
+mod ending;
 mod fault;
 mod finding;
+mod going;
 mod keeping;
 mod kept;
 mod laws;
 mod naming;
+mod opening;
+mod pieces;
 mod places;
 mod publication;
 mod publishing;
 mod refused;
 mod restoring;
 mod store;
+mod tasks;
+mod working;
 
 pub use fault::StoreFault;
 pub use kept::KeptSig;

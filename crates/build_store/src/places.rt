@@ -1,5 +1,6 @@
 // Where a task's files stand.
 ghost use Rattle.std.specs.Prelude.{◌≡◌, IfOk};
+ghost use Rattle.stamp_store.specs.Stamp.{old_path, staged_path};
 ghost use Rattle.store_model.specs.Available.{task_folder, work_folder};
 ghost use Rattle.store_model.specs.Publication.{stamp_at};
 ghost use Rattle.store_opening.specs.Paths.{staged_record_path};
@@ -24,6 +25,24 @@ pub(crate) fn stamp_at(alloc: Global, folder: &str) -> Result<Text, Mem>
     ensures { IfOk result (λ path. path ≡ stamp_at folder.now) }
 {
     let mut path = Text::from_str(alloc, "stamp/")?;
+    path.push_str(folder)?;
+    Ok(path)
+}
+
+/// Where a stamp goes as it is taken away.
+pub(crate) fn old_path(alloc: Global, folder: &str) -> Result<Text, Mem>
+    ensures { IfOk result (λ path. path ≡ old_path folder.now) }
+{
+    let mut path = Text::from_str(alloc, "tmp/old/")?;
+    path.push_str(folder)?;
+    Ok(path)
+}
+
+/// Where a stamp is written first.
+pub(crate) fn staged_path(alloc: Global, folder: &str) -> Result<Text, Mem>
+    ensures { IfOk result (λ path. path ≡ staged_path folder.now) }
+{
+    let mut path = Text::from_str(alloc, "tmp/stamp/")?;
     path.push_str(folder)?;
     Ok(path)
 }

@@ -103,7 +103,7 @@ fn lay<D: Disk>(
 }
 
 /// Writes a record's file to `tmp/rec/`.
-fn write_record<D: Disk>(
+pub(crate) fn write_record<D: Disk>(
     alloc: Global,
     disk: &mut D,
     name: &Hash,

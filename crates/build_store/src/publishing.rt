@@ -77,7 +77,7 @@ pub(crate) fn put_task<D: Disk>(
 }
 
 /// Adds a row, if there is one.
-fn add_row(alloc: Global, index: &mut Index, row: Option<EquivRow>) -> Result<(), Mem>
+pub(crate) fn add_row(alloc: Global, index: &mut Index, row: Option<EquivRow>) -> Result<(), Mem>
     requires { IfSome row (λ new. row_at index.old new.name ≡ None) }
     ensures ok { OnOk result (index.new ≡ rows_behind index.old row) }
     ensures err { OnErr result (index.new ≡ index.old) }
@@ -89,7 +89,7 @@ fn add_row(alloc: Global, index: &mut Index, row: Option<EquivRow>) -> Result<()
 }
 
 /// The file and the row of a new record, if there is one.
-fn parts_of(new: Option<NewRecord>) -> (Option<Entry>, Option<EquivRow>)
+pub(crate) fn parts_of(new: Option<NewRecord>) -> (Option<Entry>, Option<EquivRow>)
     ensures file { result.0 ≡ file_of new }
     ensures row { result.1 ≡ row_of_new new }
 {
@@ -100,7 +100,7 @@ fn parts_of(new: Option<NewRecord>) -> (Option<Entry>, Option<EquivRow>)
 }
 
 /// The object that is written, if one is.
-fn object_of(task: &PlanTask, unihash: Hash) -> Option<Hash>
+pub(crate) fn object_of(task: &PlanTask, unihash: Hash) -> Option<Hash>
     ensures { result ≡ (if task.now.sstate then Some unihash else None) }
 {
     if task.sstate {

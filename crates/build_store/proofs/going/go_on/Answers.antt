@@ -1,0 +1,98 @@
+use Rattle.std.proofs.Common.{sym, refl, inl, inr}
+use Rattle.outside_traits.proofs.Calls.{ends_passes}
+use Rattle.build_store.specs.declared.pieces.Reached.TheVariants.{Working, Staged, Kept, Stored}
+use Rattle.build_store.specs.OpenOnes.{put_by}
+use Rattle.build_store.proofs.EndingRuns.{new_of}
+use Rattle.build_store.proofs.GoingRuns.{finishes_publish, half_file, on_reached, publishing_same, suits_reached, unstamped_at}
+use Rattle.build_store.proofs.going.go_on.Goals as goal
+
+pub work_on-requires-clause-on : goal.work_on-requires-clause-on
+work_on-requires-clause-on g c told = λ f.
+    let o = c.args.one.now in
+    let w = c.requires.on told in
+    half_file o w.0 f _ (g.D.Disk.story c.args.disk.now) (on_reached o o.reached (Working c.in-Working.done) (put_by o w.0) (g.D.Disk.story c.args.disk.now) c.in-Working.is w.1)
+
+pub returns-in_err-work_on-in-Working-clause-publishing : goal.returns-in_err-work_on-in-Working-clause-publishing
+returns-in_err-work_on-in-Working-clause-publishing g c told = λ f on. c.work_on.ensures.publishing told f
+
+pub returns-in_ok-work_on-in-Working-clause-publishing : goal.returns-in_ok-work_on-in-Working-clause-publishing
+returns-in_ok-work_on-in-Working-clause-publishing g c told = λ f on. c.work_on.ensures.publishing told f
+
+pub rename_staged_record-requires-clause-at : goal.rename_staged_record-requires-clause-at
+rename_staged_record-requires-clause-at g c told =
+    let o = c.args.one.now in
+    let w = c.requires.on told in
+    (put_by o w.0, refl, on_reached o o.reached (Staged c.in-Staged.ticket) (put_by o w.0) (g.D.Disk.story c.args.disk.now) c.in-Staged.is w.1)
+
+pub returns-in_err-next-in-Staged-clause-publishing : goal.returns-in_err-next-in-Staged-clause-publishing
+returns-in_err-next-in-Staged-clause-publishing g c told = λ f on.
+    let o = c.args.one.now in
+    let at = on_reached o o.reached (Staged c.in-Staged.ticket) (put_by o f) (g.D.Disk.story c.args.disk.now) c.in-Staged.is on in
+    finishes_publish (put_by o f) (g.met.D.Disk.sound c.args.disk.now told) at.1
+    (c.rename_staged_record.ensures.finishes told (put_by o f) refl (new_of o.new (suits_reached o o.reached (Staged c.in-Staged.ticket) c.in-Staged.is c.requires.suits)) at)
+
+pub returns-in_ok-next-in-Staged-clause-on : goal.returns-in_ok-next-in-Staged-clause-on
+returns-in_ok-next-in-Staged-clause-on g c told = λ f file on.
+    let o = c.args.one.now in
+    c.in_ok-next-in-Staged.ensures.at told (put_by o f) refl (on_reached o o.reached (Staged c.in-Staged.ticket) (put_by o f) (g.D.Disk.story c.args.disk.now) c.in-Staged.is on)
+
+pub returns-in_ok-next-in-Staged-clause-publishing : goal.returns-in_ok-next-in-Staged-clause-publishing
+returns-in_ok-next-in-Staged-clause-publishing g c told = λ f on.
+    let o = c.args.one.now in
+    let at = on_reached o o.reached (Staged c.in-Staged.ticket) (put_by o f) (g.D.Disk.story c.args.disk.now) c.in-Staged.is on in
+    finishes_publish (put_by o f) (g.met.D.Disk.sound c.args.disk.now told) at.1
+    (c.rename_staged_record.ensures.finishes told (put_by o f) refl (new_of o.new (suits_reached o o.reached (Staged c.in-Staged.ticket) c.in-Staged.is c.requires.suits)) at)
+
+pub rename_staged_stamp-requires-clause-at : goal.rename_staged_stamp-requires-clause-at
+rename_staged_stamp-requires-clause-at g c told =
+    let o = c.args.one.now in
+    let w = c.requires.on told in
+    (put_by o w.0, sym c.as_str.ensures, inl (on_reached o o.reached (Kept c.in-Kept.ticket) (put_by o w.0) (g.D.Disk.story c.args.disk.now) c.in-Kept.is w.1))
+
+pub returns-in_err-next-in-Kept-clause-publishing : goal.returns-in_err-next-in-Kept-clause-publishing
+returns-in_err-next-in-Kept-clause-publishing g c told = λ f on.
+    let o = c.args.one.now in
+    let at = on_reached o o.reached (Kept c.in-Kept.ticket) (put_by o f) (g.D.Disk.story c.args.disk.now) c.in-Kept.is on in
+    finishes_publish (put_by o f) (g.met.D.Disk.sound c.args.disk.now told) at.1 (c.rename_staged_stamp.ensures.finishes told (put_by o f) (sym c.as_str.ensures) (inl at))
+
+pub returns-in_ok-next-in-Kept-clause-on : goal.returns-in_ok-next-in-Kept-clause-on
+returns-in_ok-next-in-Kept-clause-on g c told = λ f file on.
+    let o = c.args.one.now in
+    c.in_ok-next-in-Kept.ensures.at told (put_by o f) (sym c.as_str.ensures) (inl (on_reached o o.reached (Kept c.in-Kept.ticket) (put_by o f) (g.D.Disk.story c.args.disk.now) c.in-Kept.is on))
+
+pub returns-in_ok-next-in-Kept-clause-publishing : goal.returns-in_ok-next-in-Kept-clause-publishing
+returns-in_ok-next-in-Kept-clause-publishing g c told = λ f on.
+    let o = c.args.one.now in
+    let at = on_reached o o.reached (Kept c.in-Kept.ticket) (put_by o f) (g.D.Disk.story c.args.disk.now) c.in-Kept.is on in
+    finishes_publish (put_by o f) (g.met.D.Disk.sound c.args.disk.now told) at.1 (c.rename_staged_stamp.ensures.finishes told (put_by o f) (sym c.as_str.ensures) (inl at))
+
+pub rename_staged_stamp-requires-in-Stored-clause-at : goal.rename_staged_stamp-requires-in-Stored-clause-at
+rename_staged_stamp-requires-in-Stored-clause-at g c told =
+    let o = c.args.one.now in
+    let w = c.requires.on told in
+    (put_by o w.0, sym c.as_str-in-Stored.ensures, inr (on_reached o o.reached (Stored c.in-Stored.ticket) (put_by o w.0) (g.D.Disk.story c.args.disk.now) c.in-Stored.is w.1))
+
+pub returns-in_err-next-in-Stored-clause-publishing : goal.returns-in_err-next-in-Stored-clause-publishing
+returns-in_err-next-in-Stored-clause-publishing g c told = λ f on.
+    let o = c.args.one.now in
+    let at = on_reached o o.reached (Stored c.in-Stored.ticket) (put_by o f) (g.D.Disk.story c.args.disk.now) c.in-Stored.is on in
+    finishes_publish (put_by o f) (g.met.D.Disk.sound c.args.disk.now told) (unstamped_at (put_by o f) (g.D.Disk.story c.args.disk.now) c.in-Stored.ticket (inr at)) (c.rename_staged_stamp-in-Stored.ensures.finishes told (put_by o f) (sym c.as_str-in-Stored.ensures) (inr at))
+
+pub returns-in_ok-next-in-Stored-clause-on : goal.returns-in_ok-next-in-Stored-clause-on
+returns-in_ok-next-in-Stored-clause-on g c told = λ f file on.
+    let o = c.args.one.now in
+    c.in_ok-next-in-Stored.ensures.at told (put_by o f) (sym c.as_str-in-Stored.ensures) (inr (on_reached o o.reached (Stored c.in-Stored.ticket) (put_by o f) (g.D.Disk.story c.args.disk.now) c.in-Stored.is on))
+
+pub returns-in_ok-next-in-Stored-clause-publishing : goal.returns-in_ok-next-in-Stored-clause-publishing
+returns-in_ok-next-in-Stored-clause-publishing g c told = λ f on.
+    let o = c.args.one.now in
+    let at = on_reached o o.reached (Stored c.in-Stored.ticket) (put_by o f) (g.D.Disk.story c.args.disk.now) c.in-Stored.is on in
+    finishes_publish (put_by o f) (g.met.D.Disk.sound c.args.disk.now told) (unstamped_at (put_by o f) (g.D.Disk.story c.args.disk.now) c.in-Stored.ticket (inr at)) (c.rename_staged_stamp-in-Stored.ensures.finishes told (put_by o f) (sym c.as_str-in-Stored.ensures) (inr at))
+
+pub returns-in_err-end_sync-in-Stamped-clause-publishing : goal.returns-in_err-end_sync-in-Stamped-clause-publishing
+returns-in_err-end_sync-in-Stamped-clause-publishing g c told = λ f on.
+    publishing_same (put_by c.args.one.now f) (ends_passes (g.met.D.Disk.sound c.args.disk.now told) (c.end_sync.ensures.told told))
+
+pub returns-in_ok-end_sync-in-Stamped-clause-publishing : goal.returns-in_ok-end_sync-in-Stamped-clause-publishing
+returns-in_ok-end_sync-in-Stamped-clause-publishing g c told = λ f on.
+    publishing_same (put_by c.args.one.now f) (ends_passes (g.met.D.Disk.sound c.args.disk.now told) (c.end_sync.ensures.told told))
