@@ -38,3 +38,13 @@ pub mod Trying
 pub mod Steady
 pub mod Touched
 pub mod Flying
+pub mod Joining
+pub mod Flights
+pub mod Growth
+pub mod Boarding
+pub mod Honest
+pub mod Staging
+pub mod Leaving
+pub mod Landing
+pub mod Meanwhile
+pub mod Beside

@@ -10,3 +10,6 @@ pub mod Laws
 pub mod Puts
 pub mod Asking
 pub mod AskingLaws
+pub mod Joined
+pub mod Flights
+pub mod FlightLaws

@@ -9,11 +9,15 @@
 //! ended, the tale is legal, settled tasks stand, whatever a crash left is valid, and has what isn't the own of begun tasks as it was
 //! (`IsLeft`), and what was begun is started or restored in the tale, but for one task where a fault is kept. The turns keep it for every
 //! opening.
+//!
+//! What publications that are open between turns leave of all that is defined and proved too (`specs/Flights`, `specs/FlightLaws`): the lines of what
+//! ended, and any choice of those in flight, are what a crash may leave. No turn opens one yet.
 #![tactic(auto)]
 
 mod claims;
 mod closing;
 mod fault;
+mod flight_laws;
 mod laws;
 mod looking;
 mod outputs;
@@ -24,5 +28,6 @@ mod starting;
 mod state;
 
 pub use fault::RunFault;
+pub use flight_laws::{choice_laws, landing_laws, meanwhile_laws, opening_laws, turn_laws};
 pub use laws::{begin_law, claim_law, end_laws, growth_laws, job_laws};
 pub use state::{Claim, RunParts, RunState};

@@ -1,0 +1,161 @@
+-- Publications that are open in a run, and their lines, which are in flight. (Own rules.)
+use Rattle.std.specs.Prelude.{◌≡◌, ◌≢◌, ◌⊎◌, ◌≤◌, ◌<◌, ◌+◌, ◌-◌, ◌^◌, ℕ, List, [], ◌∷◌, ◌++◌, take, codes, IsSome, Option, Some, None, Ok, if◌then◌else◌}
+use Rattle.std.specs.List.{AllByRecursion, slice_get}
+use Rattle.std.specs.Str.{bytes_eq}
+use Rattle.tree_model.specs.Path.{IsBelow, inside}
+use Rattle.tree_model.specs.Tree.{IsTree}
+use Rattle.tree_model.specs.declared.hash.Hash.{Hash}
+use Rattle.outside_traits.specs.Store.{Store}
+use Rattle.outside_traits.specs.Story.{IsImageSince, Story, moment}
+use Rattle.meta_model.specs.CleanBuild.{Entries}
+use Rattle.meta_model.specs.declared.event.Avail.{Avail}
+use Rattle.meta_model.specs.declared.event.Avail.TheVariants.{Missing, Object}
+use Rattle.meta_model.specs.declared.event.Logged.{Logged}
+use Rattle.meta_model.specs.declared.plan.Plan.{Plan}
+use Rattle.tale_model.specs.History.{EachAfter}
+use Rattle.run_core.specs.History.{IsOrderly}
+use Rattle.store_opening.specs.Paths.{staged_record_path}
+use Rattle.store_model.specs.Available.{task_folder}
+use Rattle.store_model.specs.Origins.{Book, rows_of}
+use Rattle.store_model.specs.Readable.{IsReadable}
+use Rattle.store_model.specs.Recording.{NeedsHaveRows}
+use Rattle.store_model.specs.Reuse.{MayReuse}
+use Rattle.store_model.specs.Signatures.{Signed, signatures}
+use Rattle.store_model.specs.Spelling.{name_of}
+use Rattle.store_model.specs.Valid.{IsValid}
+use Rattle.build_store.specs.Publication.{line_for}
+use Rattle.run_model.specs.Books.{book_after}
+use Rattle.run_model.specs.CleanOutputs.{Has}
+use Rattle.run_model.specs.InFlight.{RunsAfter, book_with}
+use Rattle.run_model.specs.Opening.{Opening}
+use Rattle.run_model.specs.Stands.{AllStand, HasBroken, HasEnded, IsPlaced}
+use Rattle.meta_model.specs.declared.plan.PlanTask.{PlanTask}
+use Rattle.run_queue.specs.Keeps.{WasThere}
+use Rattle.run_queue.specs.Opening.{MayRun}
+use Rattle.run_queue.specs.Seen.{Seen}
+use Rattle.run_queue.specs.Stands.{HasObjects, IsLeft}
+
+-- ---- what is open
+
+-- A publication that a store has open: the task with its signature, and what it gave.
+pub record OpenTask : Type 0 where
+  pub signed : Signed
+  pub tree : Entries
+
+-- what a store has open, by the folders of tasks
+abbrev pub OpenTasks : Type 0
+OpenTasks = List ℕ → Option OpenTask
+
+-- nothing is open
+abbrev pub nothing_open : OpenTasks
+nothing_open folder = None
+
+-- this publication of the task of a number is open
+abbrev pub FliesAs : Plan → OpenTasks → ℕ → OpenTask → Type 0
+FliesAs plan opened t one = (slice_get plan.tasks t ≡ Some one.signed.task) × (opened (task_folder one.signed.task) ≡ Some one)
+
+-- some publication of the task of a number is open
+abbrev pub Flies : Plan → OpenTasks → ℕ → Type 0
+Flies plan opened t = (one : OpenTask) × FliesAs plan opened t one
+
+-- Over a book a publication is one of a task of the plan: its signature is that by the rows, the tree is its clean output, the names of the tasks
+-- that it needs have rows, and its line can be read again.
+pub record IsFlight (o : Opening) (plan : Plan) (book : Book) (t : ℕ) (one : OpenTask) : Type 0 where
+  pub at : slice_get plan.tasks t ≡ Some one.signed.task
+  pub signed : slice_get (signatures (rows_of book) plan.tasks) t ≡ Some one.signed
+  pub clean : Has o.gives plan.tasks t (Ok one.tree)
+  pub is_tree : IsTree one.tree
+  pub needs : NeedsHaveRows (rows_of book) (signatures (rows_of book) plan.tasks) one.signed.task
+  pub readable : IsReadable (line_for (rows_of book) one.signed one.tree)
+
+-- An open publication is of a task that runs, at the task's folder.
+pub record IsInHand (o : Opening) (plan : Plan) (tale : List Logged) (folder : List ℕ) (one : OpenTask) : Type 0 where
+  pub number : ℕ
+  pub seat : ℕ
+  pub runs : RunsAfter plan tale number seat
+  pub folder_is : folder ≡ task_folder one.signed.task
+  pub flight : IsFlight o plan (book_after o.gives plan o.book tale) number one
+
+-- So is each that is open, and no two have one name.
+pub record AreFlights (o : Opening) (plan : Plan) (tale : List Logged) (opened : OpenTasks) : Type 0 where
+  pub each : (folder : List ℕ) (one : OpenTask) → opened folder ≡ Some one → IsInHand o plan tale folder one
+  pub apart : (folder beside : List ℕ) (one other : OpenTask) → opened folder ≡ Some one → opened beside ≡ Some other → folder ≢ beside → name_of one.signed.sig ≢ name_of other.signed.sig
+
+-- At this folder nothing was open, and this publication is; the others are as they were.
+pub record OpensAt (folder : List ℕ) (one : OpenTask) (opened later : OpenTasks) : Type 0 where
+  pub none : opened folder ≡ None
+  pub is_open : later folder ≡ Some one
+  pub others : (beside : List ℕ) → beside ≢ folder → later beside ≡ opened beside
+
+-- what is open, and this publication at this folder
+abbrev pub with_open : List ℕ → OpenTask → OpenTasks → OpenTasks
+with_open folder one opened beside = if bytes_eq beside folder then Some one else opened beside
+
+-- what is open, but for the publication at this folder
+abbrev pub without_open : List ℕ → OpenTasks → OpenTasks
+without_open folder opened beside = if bytes_eq beside folder then None else opened beside
+
+-- The publication at this folder is open no more, and the others are as they were.
+pub record Closes (folder : List ℕ) (opened later : OpenTasks) : Type 0 where
+  pub closed : later folder ≡ None
+  pub others : (beside : List ℕ) → beside ≢ folder → later beside ≡ opened beside
+
+-- ---- what is held
+
+-- no number stands there twice
+abbrev pub AreOnce : List ℕ → Type 0
+AreOnce [] = Unit {0}
+AreOnce (t ∷ ts) = AllByRecursion (λ u. t ≢ u) ts × AreOnce ts
+
+-- What is held is valid with the book after the tale, and behind it the lines of some of those whose publications are open, in any choice.
+pub record IsValidWith (o : Opening) (plan : Plan) (tale : List Logged) (opened : OpenTasks) (image : Store) : Type 0 where
+  pub in_flight : List ℕ
+  pub fly : AllByRecursion (Flies plan opened) in_flight
+  pub once : AreOnce in_flight
+  pub valid : IsValid o.gives o.reading image (book_with o plan tale in_flight)
+
+-- the objects of tasks that haven't ended, and of which nothing is open, are as they were when the run began
+abbrev pub KeepOtherObjects : Opening → Plan → List Logged → OpenTasks → Store → Type 0
+KeepOtherObjects o plan tale opened image = (t : ℕ) (task : PlanTask) → slice_get plan.tasks t ≡ Some task → (HasEnded plan tale t → ⊥) → (Flies plan opened t → ⊥) → HasObjects (book_after o.gives plan o.book tale) o.story.held image task
+
+-- where a publication of this folder and name puts an old stamp aside, and stages its stamp and its record
+abbrev pub IsStagingOf : List ℕ → Hash → List ℕ → Type 0
+IsStagingOf folder name q = (q ≡ inside (codes "tmp/old") folder) ⊎ ((q ≡ inside (codes "tmp/stamp") folder) ⊎ (q ≡ staged_record_path name))
+
+-- under `tmp/` nothing is held but by publications that are open
+abbrev pub HasLitterOf : OpenTasks → Store → Type 0
+HasLitterOf opened held = (q : List ℕ) → IsBelow (codes "tmp") q → ((folder : List ℕ) (one : OpenTask) → opened folder ≡ Some one → IsStagingOf folder (name_of one.signed.sig) q → ⊥) → held q ≡ None
+
+-- each image since an early moment was left before the run began, or by the run
+abbrev pub AreLeft : Opening → Plan → List (Option Avail) → List Logged → Story → Type 0
+AreLeft o plan begun tale story = (from : ℕ) (image : Store) → from ≤ moment o.story → IsImageSince story from image → IsImageSince o.story from image ⊎ IsLeft o plan begun tale image
+
+-- since the moment of each entry each task that was settled up to it stands, whatever a crash leaves
+abbrev pub StandTo : Opening → Plan → List Logged → Story → Type 0
+StandTo o plan tale story = (k : ℕ) (entry : Logged) → slice_get tale k ≡ Some entry → entry.moment < 2 ^ 64 - 1 → (image : Store) → IsImageSince story entry.moment image → AllStand o plan (take (k + 1) tale) image
+
+-- ---- a run in which publications are open
+
+-- While no fault is kept: the premises, a tale in order, the book that has grown from the opening's and may be reused, and what is open.
+pub record IsUnderWay (o : Opening) (plan : Plan) (tale : List Logged) (opened : OpenTasks) : Type 0 where
+  pub may : MayRun o plan
+  pub orderly : EachAfter (IsOrderly plan.tasks) tale
+  pub lines : Book
+  pub grown : book_after o.gives plan o.book tale ≡ o.book ++ lines
+  pub readable : AllByRecursion IsReadable (book_after o.gives plan o.book tale)
+  pub reuse : MayReuse o.gives o.reading o.story.held (book_after o.gives plan o.book tale) plan.tasks
+  pub flights : AreFlights o plan tale opened
+
+-- What had been answered of a task that was begun and hasn't ended: its output was there as an object when the run began; or it was missing then,
+-- and the task runs, so that its publication may be open.
+abbrev pub WasAnswered : Opening → Seen → ℕ → Avail → Type 0
+WasAnswered o s t there = WasThere o s t there × ((there ≡ Object) ⊎ ((there ≡ Missing) × ((seat : ℕ) × RunsAfter s.plan s.tale t seat)))
+
+-- Where a task is told of that was begun: it was placed; or it runs; or a fault is kept, and the tale breaks the task off, or it is the one that was
+-- being restored; or it is one of these.
+abbrev pub IsToldOf : Opening → Seen → ℕ → (ℕ → Type 0) → ℕ → Type 0
+IsToldOf o s halted but t =
+    IsPlaced s.tale t
+    ⊎ (((seat : ℕ) × RunsAfter s.plan s.tale t seat)
+    ⊎ ((IsSome s.fault × (HasBroken s.tale t ⊎ ((t ≡ halted) × WasThere o s t Object)))
+    ⊎ but t))
