@@ -15,4 +15,6 @@ mod samples;
 #[cfg(test)]
 mod sink_tests;
 #[cfg(test)]
+mod sub_tests;
+#[cfg(test)]
 mod ticket_tests;
