@@ -1,0 +1,4 @@
+pub mod Configs
+pub mod Reading
+pub mod Samples
+pub mod Words
