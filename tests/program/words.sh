@@ -4,7 +4,7 @@
 usage='usage: bitbake [-c TASK] [-f] [-k] [-n] [-e] [-s] [-p] [--no-setscene] [--sample N] [TARGET..]'
 project words
 mkdir conf && ln -s /proc/self/mem conf/bitbake.conf
-for words in '' '--' '--nope' '--nope hello' '-x' '-V hello' '-n' '-k' '-c build' 'hello -c' '-f hello -f' '--force=yes hello' '--sample' '--sample 0' '--sample 1001' '--sample many'; do
+for words in '' '--' '--nope' '--nope hello' '-x' '-V hello' '-n' '-k' '-c build' 'hello -c' '-f hello -f' '--force=yes hello' '--sample' '--sample 0' '--sample 1001' '--sample many' '-q -q hello' '-c -q hello' '--cmd --quiet hello'; do
     # (words are split on purpose)
     runs "$bitbake" $words
     wants "faulty words '$words'" 2 "$usage"

@@ -10,7 +10,7 @@
 //! `tests/program.sh` tests it by runs.
 #![tactic(auto)]
 
-ghost use Rattle.std.specs.Prelude.{◌≡◌};
+ghost use Rattle.std.specs.Prelude.{◌≡◌, ◌<◌, IfOk, vec_len};
 
 mod about;
 mod ahead;
@@ -161,6 +161,21 @@ fn call_shown<'b, R: Threads + Wait + Clock + Sync>(
     status
 }
 
+/// The benches. Their folders are made at first use.
+fn benches_of<'b>(
+    rt: &'b HostRuntime,
+    beside: &'b Beside,
+) -> io::Result<Vec<ShBench<'b, HostRuntime>>>
+    ensures { IfOk result (λ benches. 0 < vec_len benches) }
+{
+    let mut benches = Vec::new(rt.alloc());
+    for number in 0..LAST_BENCH {
+        benches.push(ShBench::new(rt.clone()?, number, &beside.sandboxes, &beside.syncs))?;
+    }
+    benches.push(ShBench::new(rt.clone()?, LAST_BENCH, &beside.sandboxes, &beside.syncs))?;
+    Ok(benches)
+}
+
 /// The status of the top call over the current folder's layers, this disk, the benches and standard output.
 fn call<'b, R: Threads + Wait + Clock + Sync>(
     rt: &'b HostRuntime,
@@ -172,11 +187,7 @@ fn call<'b, R: Threads + Wait + Clock + Sync>(
 ) -> io::Result<u8>
     requires unharmed { disk.faults ≡ 0 }
 {
-    let mut benches = Vec::new(rt.alloc());
-    for number in 0..LAST_BENCH {
-        benches.push(ShBench::new(rt.clone()?, number, &beside.sandboxes, &beside.syncs))?;
-    }
-    benches.push(ShBench::new(rt.clone()?, LAST_BENCH, &beside.sandboxes, &beside.syncs))?;
+    let benches = benches_of(rt, beside)?;
     let layers = Counted::new(rt.alloc(), FolderLayers::new(rt.clone()?));
     let progress = beside.is_shown.then_some(&beside.progress);
     let shown = Shown::new(StdSink::new(rt.clone()?), progress, rt.clone()?, threads);

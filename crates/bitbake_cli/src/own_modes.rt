@@ -78,13 +78,20 @@ pub fn own_mode(words: &[Text]) -> Option<OwnMode> {
     }
 }
 
-/// The words without those that ask for a mode of this program; behind `--` all stay.
+/// Behind each of these comes a value.
+const VALUE_FOLLOWS: &[&str] = &["-c", "--cmd", "--sample"];
+
+/// The words without the first of these options that is no value of another one; behind `--` all stay.
 pub fn other_words(alloc: Global, words: &[Text], own: &[&str]) -> Result<Vec<Text>, AllocError> {
     let mut others = Vec::new(alloc);
     let mut own_may_come = true;
+    let mut is_value = false;
     for word in words {
-        own_may_come = own_may_come && word.as_str() != TARGETS_FOLLOW;
-        if !(own_may_come && is_one_of(word.as_str(), own)) {
+        own_may_come = own_may_come && (is_value || word.as_str() != TARGETS_FOLLOW);
+        if own_may_come && !is_value && is_one_of(word.as_str(), own) {
+            own_may_come = false;
+        } else {
+            is_value = is_one_of(word.as_str(), VALUE_FOLLOWS);
             others.push(Text::from_string(String::from_str(alloc, word.as_str())?))?;
         }
     }

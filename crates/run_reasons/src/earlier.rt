@@ -1,5 +1,6 @@
 // What the store's records tell of tasks: of what they gave, and of earlier runs of them.
 use crate::stamped::stamp_of;
+use host_files::is_memory;
 use meta_model::{PlanTask, TaskId};
 use sig_gen::decode_stored;
 use std::time::SystemTime;
@@ -39,10 +40,12 @@ pub(crate) fn record_of(rt: &HostRuntime, name: &str) -> io::Result<Option<Store
     }
 }
 
-/// The unihash of a task's output, as its stamp and its record tell it now.
+/// The unihash of a task's output, as its stamp and its record tell it now. Where one of them can't be read nothing is told.
 pub(crate) fn unihash_of(rt: &HostRuntime, id: &TaskId) -> io::Result<Option<Hash>> {
-    let Some(name) = stamp_of(rt, id.pn.as_str(), id.task.as_str())? else {
-        return Ok(None);
+    let name = match stamp_of(rt, id.pn.as_str(), id.task.as_str()) {
+        Ok(Some(name)) => name,
+        Err(error) if is_memory(&error) => return Err(error),
+        _ => return Ok(None),
     };
     match record_of(rt, name.as_str())? {
         Some(stored) => Ok(Some(stored.unihash)),
