@@ -105,3 +105,27 @@ for threads in 1 4 16; do
     done
     holds "many tasks that are killed with $threads threads:$wrong" test -z "$wrong"
 done
+
+# A sync that fails, or is killed, while several tasks wait for it: the run ends with status 4 and says what the sync said; nothing that it told as ended
+# runs again, and the next run is Ok with the clean files.
+sync=$(readlink -f "$(command -v sync)")
+if [ "$(stat -f -c %T .)" = tmpfs ]; then
+    echo "skipped syncs that fail: in memory nobody waits for one"
+elif ! unshare -rm true 2>/dev/null; then
+    echo "skipped syncs that fail: no other program can be put in the place of sync here"
+else
+    cp -- "$sync" "$room/sync" || exit 1
+    for end in 'echo "sync: no more" >&2; exit 1' 'kill -9 $$'; do
+        printf '#!/bin/sh\necho >>"%s"\nif [ "$(grep -c "" "%s")" -eq 6 ]; then %s; fi\nexec "%s" "$@"\n' "$room/syncs" "$room/syncs" "$end" "$room/sync" >"$room/failing"
+        chmod +x "$room/failing" && rm -rf build "$room/syncs"
+        # shellcheck disable=SC2086
+        unshare -rm sh -c 'mount --bind "$1" "$2" && shift 2 && exec "$@"' sh "$room/failing" "$sync" "$program" $all >"$room/first" 2>"$room/said" </dev/null
+        status=$?
+        holds "a sync that fails: status 4 ($end)" test "$status" -eq 4 -a "$(tail -n 1 "$room/first")" = "fault 4 disk"
+        holds "a sync that fails: what it said ($end)" grep -q '^bitbake: disk: sync of build: sync -f failed' "$room/said"
+        holds "a sync that fails: the next run ($end)" behind_all
+        holds "a sync that fails: the clean files ($end)" diff -r "$room/clean" build/work
+        sed -n 's/^ended //p' "$room/first" | while read -r task; do grep -qx "started $task" "$room/text" && echo "$task"; done >"$room/again"
+        holds "a sync that fails: nothing runs again ($end)" test ! -s "$room/again"
+    done
+fi

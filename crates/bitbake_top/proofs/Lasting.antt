@@ -52,7 +52,7 @@ use Rattle.run_model.specs.Runs.{Runs}
 use Rattle.run_model.specs.Stands.{HasBroken, HasFinished, HasRestored, HasStarted, there_by}
 use Rattle.run_queue.proofs.Enduring.{differ_at, front_book, signed_at}
 use Rattle.run_queue.proofs.FoldersAbove.{unihash_is_name}
-use Rattle.run_queue.proofs.Found.{has_own_name, signed_task_at}
+use Rattle.run_queue.proofs.OwnNames.{has_own_name, signed_task_at}
 use Rattle.run_queue.proofs.Placing.{has_place}
 
 -- ---- paths by their first bytes

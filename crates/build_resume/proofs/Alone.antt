@@ -33,7 +33,8 @@ use Rattle.run_model.specs.Opening.{Opening}
 use Rattle.run_model.specs.Own.{IsAside, IsObjectOfNone}
 use Rattle.run_queue.specs.Seen.{IsBegunIn}
 use Rattle.run_queue.specs.Stands.{IsAsBegun, IsPublishing}
-use Rattle.run_queue.proofs.Found.{signed_task_at}
+use Rattle.run_queue.proofs.Meanwhile.{told_at_end}
+use Rattle.run_queue.proofs.OwnNames.{signed_task_at}
 use Rattle.run_queue.proofs.Placing.{has_place}
 use Rattle.run_queue.proofs.Touched.{none_less}
 use Rattle.run_model.specs.Build.{HadObject, IsLeftAlone, LeavesOthers, MayPublish, MayTouch}
@@ -127,12 +128,9 @@ module _ (o : Opening) (book : Book) (before : Store) (rows : List EquivRow) (op
 
   -- the run may have touched what was begun
   touched : (t : ℕ) → IsBegunIn k.last.begun t → Touched t
-  touched t b = elim (k.run.told t b) [
+  touched t b = elim (told_at_end o k.last k.run.halted t k.none (k.run.told t b)) [
     | inl up ↦ inl up
-    | inr rest ↦ elim rest [
-      | inl it ↦ inr (record { faulty = faulty it.0; begun = elim it.2 [ inl broken ↦ inl (broke_last k.last.tale t left broken) | inr was ↦ inr (it.1, had_object t was) ] })
-      | inr never ↦ absurd never
-    ]
+    | inr it ↦ inr (record { faulty = faulty it.0; begun = elim it.1 [ inl broken ↦ inl (broke_last k.last.tale t left broken) | inr was ↦ inr (was.0, had_object t was.1) ] })
   ]
 
   -- and it may have published what it began to publish

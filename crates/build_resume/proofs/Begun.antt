@@ -10,8 +10,11 @@ use Rattle.meta_model.specs.declared.event.Status.TheVariants as status
 use Rattle.meta_model.specs.declared.plan.Options.{Options}
 use Rattle.meta_model.specs.declared.plan.Plan.{Plan}
 use Rattle.meta_model.specs.CleanBuild.{Gives}
+use Rattle.store_model.specs.Opened.{HasNoLitter}
+use Rattle.build_store.specs.View.{NothingOpen}
 use Rattle.build_store.specs.declared.fault.StoreFault.{StoreFault}
 use Rattle.build_store.specs.declared.fault.StoreFault.TheVariants as fault
+use Rattle.tale_model.specs.Fates.{NoneRuns}
 use Rattle.tale_model.specs.History.{EachAfter}
 use Rattle.run_core.specs.History.{IsOrderly}
 use Rattle.run_model.specs.Report.{has_failure}
@@ -19,10 +22,11 @@ use Rattle.run_queue.specs.declared.fault.RunFault.{RunFault}
 use Rattle.run_queue.specs.declared.fault.RunFault.TheVariants as kept
 use Rattle.run_model.specs.Causes.{fault_broke}
 use Rattle.run_queue.specs.Keeps.{IsRun}
+use Rattle.run_queue.proofs.Boarding.{ends_with_nothing}
 use Rattle.run_model.specs.Opening.{Opening}
 use Rattle.run_queue.specs.Seen.{RunView, seen}
 use Rattle.run_model.specs.Outcome.{IsAtEnd, EndsAs}
-use Rattle.run_queue.specs.Turns.{SameRun}
+use Rattle.run_queue.specs.Turns.{SameRun, fates_of}
 use Rattle.outside_traits.specs.Fault.{Counts}
 use Rattle.run_model.specs.Runs.{RanScripts, RanThese, Runs}
 use Rattle.run_workers.specs.Runs.{by_bench}
@@ -159,6 +163,11 @@ halted_bench sink None halt.Stopped false s (inl is) e = absurd (let n : status.
 halted_bench sink None halt.Memory failed s (inl is) e = absurd (let n : status.OutOfMemory ≡ status.BenchFault = sym is ∙ e in cc)
 halted_bench sink None halt.Bench failed s (inl is) e = refl
 
+-- and only where it kept no fault
+bench_faultless : (sink : Type 0) (f : Option RunFault) (h : Halt) (failed : Bool) (s : Status) → EndsSo sink f h failed s → s ≡ status.BenchFault → f ≡ None
+bench_faultless sink None h failed s told e = refl
+bench_faultless sink (Some f) h failed s told e = absurd (false≢true (sym (ap is_of_fault e) ∙ of_fault sink (Some f) h failed s told (λ none. let n : Some f ≡ None = none in cc)))
+
 -- why a run halted, by what broke a task in its tale
 pub record HaltsFor (h : Halt) (tale : List Logged) : Type 0 where
   pub bench : bench_broke tale ≡ true → h ≡ halt.Bench
@@ -178,7 +187,10 @@ ends_as sink old last h tale s same tale_is halted unbroken by calm told = recor
   by_fault = λ e. of_fault sink last.fault h (has_failure last.tale) s told (λ none. false≢true (sym (calm none) ∙ ap fault_broke (sym tale_is) ∙ e));
   by_bench = λ e. bench_of sink last.fault (has_failure last.tale) s (subst (λ x. EndsSo sink last.fault x (has_failure last.tale) s) (by.bench e) told);
   by_memory = λ e none. memory_of sink last.fault (has_failure last.tale) s (subst (λ x. EndsSo sink last.fault x (has_failure last.tale) s) (by.memory e none) told);
-  bench = λ e. ap bench_broke tale_is ∙ subst (IsHalted last) (halted_bench sink last.fault h (has_failure last.tale) s told e) halted;
+  bench = λ e. ap bench_broke tale_is ∙ elim (subst (IsHalted last) (halted_bench sink last.fault h (has_failure last.tale) s told e) halted) [
+    | inl broke ↦ broke
+    | inr fault ↦ absurd (some_none last.fault (bench_faultless sink last.fault h (has_failure last.tale) s told e) fault)
+  ];
 }
   where
     at_end : IsHalted last halt.Finished → IsAtEnd old.plan old.options last.tale
@@ -217,7 +229,7 @@ unbegun_ends plan options tale s none ok failed bench = record {
 
 -- what broke a task in a tale comes before why the calling thread halted
 halted_by : {D W : Type 0} (last : RunView D W) (h : Halt) (bench memory : Bool) → (bench ≡ true → bench_broke last.tale ≡ true) → IsHalted last h → IsHalted last (halt_by h bench memory)
-halted_by last h true memory broke halted = broke refl
+halted_by last h true memory broke halted = inl (broke refl)
 halted_by last h false true broke halted = tt
 halted_by last h false false broke halted = halted
 
@@ -270,16 +282,18 @@ none_kept sink (Some f) h failed s (inr (inl is)) e = absurd (false≢true (sym 
 none_kept sink (Some f) h failed s (inr (inr is)) e = absurd (false≢true (sym (ap is_faultless is.0) ∙ e))
 
 pub kept_to : {D W : Type 0} (story : D → Story) (written : W → List ℕ) (o : Opening) (old last : RunView D W) (disk : D) (tale : List Logged) (s : Status)
-    → SameRun old last → disk ≡ last.store.disk → tale ≡ last.tale → (is_faultless s ≡ true → last.fault ≡ None) → EachAfter (IsOrderly last.plan.tasks) last.tale → IsRun o (seen story written last) → KeptTo o old.plan old.options tale s (story disk)
-kept_to story written o old last disk tale s same disk_is tale_is faultless orderly run = record {
+    → SameRun old last → disk ≡ last.store.disk → tale ≡ last.tale → (is_faultless s ≡ true → last.fault ≡ None) → EachAfter (IsOrderly last.plan.tasks) last.tale → NoneRuns (fates_of last) → (last.fault ≡ None → NothingOpen last.store.opened → HasNoLitter (story last.store.disk).held) → IsRun o (seen story written last) → KeptTo o old.plan old.options tale s (story disk)
+kept_to story written o old last disk tale s same disk_is tale_is faultless orderly none sweeps run = record {
   last = seen story written last;
   run = run;
   orderly = orderly;
+  none = none;
   plan_is = same.plan;
   options_are = same.options;
   tale_is = sym tale_is;
   story_is = ap story (sym disk_is);
   faultless = faultless;
+  swept = λ kept. sweeps kept ((ends_with_nothing o last.plan last.tale run.opened (run.flights kept) none).1 last.store.opened (run.open_are kept));
 }
 
 -- what the bench ran for the tale that went on

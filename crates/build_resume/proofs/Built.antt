@@ -1,5 +1,5 @@
 -- What a run leaves of a disk on which it began, over a book.
-use Rattle.std.proofs.Common.{◌≡◌, ◌∙◌, sym, subst, refl, ℕ, ◌+◌, ◌-◌, ◌^◌, ◌<◌, false, List, [], take, slice_get, Some, arith, inl, inr}
+use Rattle.std.proofs.Common.{◌≡◌, ◌∙◌, sym, subst, refl, ℕ, ◌+◌, ◌-◌, ◌^◌, ◌<◌, false, List, [], take, slice_get, Some, None, arith, inl, inr}
 use Rattle.std.specs.Prelude.{◌≢◌, ◌⊎◌, Contains}
 use Rattle.std.proofs.lemmas.List.Elements.{All-cons, All-nil}
 use Rattle.outside_traits.specs.Passes.{EachNow, Passes}
@@ -31,6 +31,8 @@ use Rattle.run_model.specs.Benches.{AtSeats}
 use Rattle.run_model.specs.Build.{AllClean, FailsClean, HasRun, HasTargets, IsCrash, IsEachFailureTold, IsLeftByOpening, IsLeftByRun, LeavesOthers, RanStarted, failed_in, is_unsteady}
 use Rattle.build_resume.specs.Build.{IsEntry, Leaves}
 use Rattle.run_model.specs.Outcome.{EndsAs}
+use Rattle.run_queue.specs.Flights.{IsValidWith}
+use Rattle.run_queue.proofs.Boarding.{ends_with_nothing}
 use Rattle.run_queue.proofs.Flying.{left_by_run}
 use Rattle.build_resume.specs.Outcome.{KeptTo}
 use Rattle.build_resume.proofs.Alone.{kept_others, opened_alone, opening_clears}
@@ -93,6 +95,10 @@ module _ (gives : Gives) (reading : Reading) (book : Book) (plan : Plan) (option
       | inr left ↦ inr (left_by_run opening k.last.plan k.last.begun k.last.tale image left)
     ]
 
+    -- where no fault was kept nothing is open any more, since no task runs
+    at_end : k.last.fault ≡ None → (image : Store) → IsValidWith opening k.last.plan k.last.tale k.run.opened image → IsValid gives reading image (book_after gives k.last.plan opening.book k.last.tale)
+    at_end kept = (ends_with_nothing opening k.last.plan k.last.tale k.run.opened (k.run.flights kept) k.none).0
+
     pub built_legal : HasRun gives reading book before.held plan options tale s story
     built_legal = record {
       opening = opening;
@@ -104,8 +110,8 @@ module _ (gives : Gives) (reading : Reading) (book : Book) (plan : Plan) (option
       there = as_kept (λ p x l st. WereThere opening p x l) k.run.were_there;
       started = as_kept (λ p x l st. (t : ℕ) → HasFinished l t ⊎ HasBroken l t → HasStarted l t) (closed_started k.last.plan.tasks k.last.tale k.orderly);
       recorded = λ is. as_kept (λ p x l st. EachNow st (λ image. IsValid gives reading image (book_after gives p opening.book l)))
-          (λ image now. subst (IsValid gives reading image) (sym k.run.grown) (k.run.durable (k.faultless is) image now));
-      swept = λ is. as_kept (λ p x l st. HasNoLitter st.held) (k.run.swept (k.faultless is));
+          (λ image now. at_end (k.faultless is) image (k.run.durable (k.faultless is) image now));
+      swept = λ is. as_kept (λ p x l st. HasNoLitter st.held) (k.swept (k.faultless is));
       early = left_by_opening;
       images = as_kept (λ p x l st. (image : Store) → IsImageSince st 0 image → IsImageSince opening.story 0 image ⊎ IsLeftByRun opening p l image) crash_by_run;
       stands = as_kept (λ p x l st. EachNow st (AllStand opening p l)) k.run.stands;

@@ -11,12 +11,12 @@ use Rattle.meta_model.specs.CleanBuild.{Entries, Gives}
 use Rattle.tale_model.specs.Fates.{task_of}
 use Rattle.task_worker.specs.declared.given.Job.{Job}
 use Rattle.run_model.specs.Opening.{Opening}
-use Rattle.meta_model.specs.declared.event.Cut.TheVariants as cut
 use Rattle.task_worker.specs.declared.given.Given.{Given}
 use Rattle.task_worker.specs.declared.given.Given.TheVariants as given
 use Rattle.run_queue.specs.declared.fault.RunFault.{RunFault}
 use Rattle.run_queue.specs.Seen.{RunView, Seen}
-use Rattle.run_queue.specs.Turns.{Ends, IsCleanJob, Marks, closed_as}
+use Rattle.run_queue.specs.declared.closing.Ending.TheVariants as ending
+use Rattle.run_queue.specs.Turns.{EndsTurn, IsCleanJob, Marks, closed_by}
 use Rattle.run_workers.specs.Runs.{AllRan, RanSoFar}
 use Rattle.run_model.specs.Runs.{IsRunOf, RanThese, Runs}
 use Rattle.run_model.specs.Seats.{is_break, own}
@@ -221,15 +221,16 @@ broken_going fault old new b = record { more = b.more; is = b.is; breaks = break
 marked_last : (old new : List Logged) (a b : Logged) → new ≡ old ++ a ∷ [] → new ≡ old ++ b ∷ [] → a ≡ b
 marked_last old new a b one other = (let e : a ∷ [] ≡ b ∷ [] = append_cancel_left old (a ∷ []) (b ∷ []) (sym one ∙ other) in cc)
 
-closed_calm : (t : ℕ) (g : Given) → is_break (closed_as t g) ≡ false
-closed_calm t (given.Tree tree manifest) = refl
-closed_calm t (given.Fails status) = refl
-closed_calm t given.TooLarge = refl
+closed_calm : (t : ℕ) (h : Option Given) → is_break (closed_by t h) ≡ false
+closed_calm t None = refl
+closed_calm t (Some (given.Tree tree manifest)) = refl
+closed_calm t (Some (given.Fails status)) = refl
+closed_calm t (Some given.TooLarge) = refl
 
--- a job that was done breaks off only where a fault is kept
-pub ends_stop : {D W : Type 0} (halt : Option Halt) (seat t : ℕ) (g : Given) (old new : RunView D W) (u : Unit {0}) → Ends seat t g old new (Ok u) → BreaksBy halt new.fault old.tale new.tale
-ends_stop halt seat t g old new u (inl m) entry is breaks =
-    let closed : Logged = record { event = closed_as t g; seat = seat; moment = m.0.moment } in
+-- a job that was closed breaks off only where a fault is kept
+pub ends_stop : {D W : Type 0} (halt : Option Halt) (seat t : ℕ) (h : Option Given) (old new : RunView D W) → EndsTurn seat t h old new (Ok ending.Closed) → BreaksBy halt new.fault old.tale new.tale
+ends_stop halt seat t h old new (inl m) entry is breaks =
+    let closed : Logged = record { event = closed_by t h; seat = seat; moment = m.0.moment } in
     let same : closed ≡ entry = marked_last old.tale new.tale closed entry m.0.is is in
-    absurd (false≢true (sym (ap (λ (e : Logged). is_break e.event) (sym same) ∙ closed_calm t g) ∙ breaks))
-ends_stop halt seat t g old new u (inr m) entry is breaks = inr m.1
+    absurd (false≢true (sym (ap (λ (e : Logged). is_break e.event) (sym same) ∙ closed_calm t h) ∙ breaks))
+ends_stop halt seat t h old new (inr m) entry is breaks = inr m.1

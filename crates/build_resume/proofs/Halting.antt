@@ -1,10 +1,11 @@
 -- Why a run goes on, or halts.
-use Rattle.std.proofs.Common.{◌≡◌, ◌∙◌, sym, ap, subst, refl, ℕ, Bool, true, false, List, [], ◌∷◌, ◌<◌, Some, None, Ok}
-use Rattle.std.specs.Prelude.{IfSome, IsSome, MatchOption, Option, Result, ◌||◌}
+use Rattle.std.proofs.Common.{◌≡◌, ◌∙◌, sym, ap, subst, refl, ℕ, Bool, true, false, List, [], ◌∷◌, ◌<◌, Some, None, Ok, inl, inr}
+use Rattle.std.specs.Prelude.{◌⊎◌, IfSome, IsSome, MatchOption, Option, Result, ◌||◌}
 use Rattle.std.specs.List.{list_any}
 use Rattle.std.proofs.lemmas.Bool.{false≢true}
 use Rattle.std.proofs.lemmas.List.Folds.{list_any-append}
 use Rattle.outside_traits.specs.Story.{Story}
+use Rattle.meta_model.specs.declared.event.Cut.{Cut}
 use Rattle.meta_model.specs.declared.event.Cut.TheVariants as cut
 use Rattle.meta_model.specs.declared.event.Event.TheVariants as events
 use Rattle.meta_model.specs.declared.event.Logged.{Logged}
@@ -18,7 +19,7 @@ use Rattle.run_queue.specs.declared.state.Claim.{Claim}
 use Rattle.run_queue.specs.declared.state.Claim.TheVariants as claim
 use Rattle.run_model.specs.Opening.{Opening}
 use Rattle.run_queue.specs.Seen.{RunView, seen}
-use Rattle.run_queue.specs.Turns.{IsCleanJob, Marks}
+use Rattle.run_queue.specs.Turns.{BreaksOff, IsCleanJob, Marks}
 use Rattle.build_resume.specs.Drive.{IsHalted, left_over}
 use Rattle.run_workers.specs.declared.worker.Halt.{Halt}
 
@@ -59,6 +60,13 @@ bench_marked seat t old new m =
     last : (b : Bool) → (b || (true || false)) ≡ true
     last true = refl
     last false = refl
+
+-- so it did where a task broke off since its bench failed, or a fault is kept
+pub bench_halts : {D W : Type 0} (seat t : ℕ) (old new : RunView D W) → BreaksOff seat t cut.Bench old new → (bench_broke new.tale ≡ true) ⊎ IsSome new.fault
+bench_halts seat t old new b = elim b.as_asked [
+  | inl same ↦ inl (bench_marked seat t old.tale new.tale (subst (λ (c : Cut). Marks seat (events.Broke t c) old.tale new.tale) same b.marks))
+  | inr other ↦ inr other.1
+]
 
 -- no fault is kept where one is
 pub unkept : (fault : Option RunFault) → fault ≡ None → IsSome fault → ⊥

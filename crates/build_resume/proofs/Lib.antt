@@ -2,6 +2,7 @@ pub mod Given
 pub mod Seating
 pub mod Turning
 pub mod Driving
+pub mod Closings
 pub mod Halting
 pub mod Failed
 pub mod Outcomes

@@ -38,7 +38,7 @@ use Rattle.run_model.specs.InFlight.{book_with, lines_in_flight}
 use Rattle.run_model.specs.Opening.{Opening}
 use Rattle.run_queue.specs.Opening.{MayRun}
 use Rattle.run_model.specs.Outcome.{IsAtEnd}
-use Rattle.run_queue.proofs.Ending.{exact_at_end}
+use Rattle.run_queue.proofs.AtEnd.{exact_at_end}
 use Rattle.run_queue.proofs.Enduring.{front_book}
 use Rattle.run_queue.proofs.Failing.{failed_is_real}
 use Rattle.run_queue.proofs.Wanted.{all_have_outputs}

@@ -138,9 +138,9 @@ fault_once (Some f) = 0
 abbrev pub left_over : {D W : Type 0} → RunView D W → ℕ
 left_over s = 2 * waiting_count (fates_of s) + fault_once s.fault
 
--- Why a run halted. Where its bench failed, a task broke off by that.
+-- Why a run halted. Where its bench failed, a task broke off by that, or a fault is kept.
 abbrev pub IsHalted : {D W : Type 0} → RunView D W → Halt → Type 0
 IsHalted new halts.Finished = IsAtEnd new.plan new.options new.tale
 IsHalted new halts.Stopped = (HoldsFailure (fates_of new) × (new.options.keep_going ≡ false)) ⊎ IsSome new.fault
 IsHalted new halts.Memory = Unit {0}
-IsHalted new halts.Bench = bench_broke new.tale ≡ true
+IsHalted new halts.Bench = (bench_broke new.tale ≡ true) ⊎ IsSome new.fault

@@ -1,13 +1,13 @@
 // The turns of a run on the calling thread, under seat 0.
-ghost use Rattle.std.specs.Prelude.{◌≡◌, ◌<◌, ◌≤◌, ◌⊎◌, ℕ, List, IfSome, IsSome, MatchOption, None, Some};
+ghost use Rattle.std.specs.Prelude.{◌≡◌, ◌<◌, ◌≤◌, ◌⊎◌, ℕ, List, IfSome, IsSome, MatchOption, None, Some, false};
 ghost use Rattle.outside_traits.specs.Fault.{Counts};
 ghost use Rattle.meta_model.specs.declared.event.Logged.{Logged as Entry};
 ghost use Rattle.tale_model.specs.Fates.{NoneRuns};
-ghost use Rattle.task_worker.specs.Jobs.{ran_job};
+ghost use Rattle.task_worker.specs.Jobs.{IsGiven, ran_job};
 ghost use Rattle.run_model.specs.Opening.{Opening};
 ghost use Rattle.run_queue.specs.Seen.{seen};
 ghost use Rattle.run_queue.specs.Keeps.{IsRun, IsSteady, KeepsCount, KeepsFront, PrintsOn};
-ghost use Rattle.run_queue.specs.Turns.{IsCleanJob, RunsUnder, SameRun, fates_of};
+ghost use Rattle.run_queue.specs.Turns.{IsCleanJob, IsGivenBy, RunsUnder, SameRun, fates_of};
 ghost use Rattle.run_model.specs.Runs.{Runs};
 ghost use Rattle.run_workers.specs.Runs.{by_bench};
 ghost use Rattle.run_model.specs.Seats.{own};
@@ -16,15 +16,61 @@ ghost use Rattle.build_resume.specs.Drive.{BreaksBy, Broken, ClosesAlone, Drove,
 
 use meta_model::Cut;
 use outside_traits::{Bench, Disk, Sink};
-use run_queue::{Claim, RunState};
+use run_queue::{Claim, Ending, RunState};
 use run_workers::Halt;
 use std::alloc::Global;
-use task_worker::{Job, WorkFault, do_job};
+use std::sync::Wait;
+use task_worker::{Given, Job, WorkFault, do_job};
 use tree_model::Mem;
+
+/// Takes turns until a job that is done, and gave this, is closed; between them it waits for the disk where a turn asks for that. Where the run
+/// goes on the job's task doesn't wait again, or a fault is kept.
+fn close_alone<D: Disk, B: Bench, W: Sink, R: Wait>(
+    rt: &R,
+    alloc: Global,
+    state: &mut RunState<D, W>,
+    bench: &mut B,
+    job: &Job,
+    given: &mut Option<Given>,
+) -> Option<Halt>
+    requires reach { 3600 ≤ D.reach }
+    requires runs { RunsUnder state.old job.now.task 0 }
+    requires given { IfSome given.old IsGiven }
+    ensures same { SameRun state.old state.new }
+    ensures closes { ClosesAlone job.now.task result state.old.tale state.new.tale }
+    ensures goes_on { GoesOnBehind job.now.task state.new result }
+    ensures stops { BreaksBy result state.new.fault state.old.tale state.new.tale }
+    ensures halted { IfSome result (IsHalted state.new) }
+    ensures bench { by_bench result ≡ false }
+    ensures sink { KeepsCount W.faults state.old state.new }
+    ensures text { W.tells → PrintsOn W.written state.old state.new }
+    ensures stays { W.tells → KeepsFront W.written state.old state.new }
+    ensures gives { B.gives bench.new ≡ B.gives bench.old }
+    ensures place { B.tells → B.place bench.new ≡ B.place bench.old }
+    ensures faults { B.faults bench.new ≡ B.faults bench.old }
+    ensures run { D.tells → (o : Opening) → IsRun o (seen D.story W.written state.old)
+        → IfSome given.old (IsGivenBy o.gives job.now) → IsCleanJob o (seen D.story W.written state.old) job.now
+        → IsRun o (seen D.story W.written state.new) }
+    ensures steady { D.tells → (o : Opening) → IsRun o (seen D.story W.written state.old)
+        → IfSome given.old (IsGivenBy o.gives job.now) → IsCleanJob o (seen D.story W.written state.old) job.now
+        → IsSteady state.old.fault → IsSteady state.new.fault }
+{
+    let mut synced = false;
+    for _ in rt.forever() {
+        match state.ended_turn(alloc, 0, job, given, synced) {
+            Ok(Ending::More) => synced = false,
+            Ok(Ending::Wait) => synced = bench.wait_synced(),
+            Ok(Ending::Closed) => return None,
+            Err(Mem) => return Some(Halt::Memory),
+        }
+    }
+    unreachable!()
+}
 
 /// Does a job that was claimed, and says how it came to an end. Where a fault is kept, as that the line of its start couldn't be written,
 /// its script doesn't run. Where the run goes on its task doesn't wait again, or a fault is kept.
-fn do_alone<D: Disk, B: Bench, W: Sink>(
+fn do_alone<D: Disk, B: Bench, W: Sink, R: Wait>(
+    rt: &R,
     alloc: Global,
     state: &mut RunState<D, W>,
     bench: &mut B,
@@ -60,10 +106,10 @@ fn do_alone<D: Disk, B: Bench, W: Sink>(
         return Some(Halt::Stopped);
     }
     match do_job(alloc, bench, &job) {
-        Ok(given) => match state.ended(alloc, 0, job, given) {
-            Ok(()) => None,
-            Err(Mem) => Some(Halt::Memory),
-        },
+        Ok(given) => {
+            let mut given = Some(given);
+            close_alone(rt, alloc, state, bench, &job, &mut given)
+        }
         Err(WorkFault::Bench) => {
             state.broke(alloc, 0, job, Cut::Bench);
             Some(Halt::Bench)
@@ -76,7 +122,8 @@ fn do_alone<D: Disk, B: Bench, W: Sink>(
 }
 
 /// One turn of the seat, and the job that it was given, if it was. `None`: there may be more to do.
-fn turn<D: Disk, B: Bench, W: Sink>(
+fn turn<D: Disk, B: Bench, W: Sink, R: Wait>(
+    rt: &R,
     alloc: Global,
     state: &mut RunState<D, W>,
     bench: &mut B,
@@ -108,7 +155,7 @@ fn turn<D: Disk, B: Bench, W: Sink>(
     match state.claim(alloc, 0) {
         Ok(Claim::Run(job)) => {
             state.kept();
-            let halt = do_alone(alloc, state, bench, job);
+            let halt = do_alone(rt, alloc, state, bench, job);
             state.kept();
             halt
         }
@@ -124,7 +171,8 @@ fn turn<D: Disk, B: Bench, W: Sink>(
 }
 
 /// Takes turns until nothing more is done.
-pub(crate) fn drive<D: Disk, B: Bench, W: Sink>(
+pub(crate) fn drive<D: Disk, B: Bench, W: Sink, R: Wait>(
+    rt: &R,
     alloc: Global,
     state: &mut RunState<D, W>,
     bench: &mut B,
@@ -152,7 +200,7 @@ pub(crate) fn drive<D: Disk, B: Bench, W: Sink>(
         → IsRun o (seen D.story W.written state.old) → IsSteady state.old.fault → IsSteady state.new.fault }
 {
     loop {
-        if let Some(halt) = turn(alloc, state, bench) {
+        if let Some(halt) = turn(rt, alloc, state, bench) {
             return halt;
         }
     }

@@ -128,7 +128,8 @@ fn conclude<D: Disk, W: Sink>(alloc: Global, parts: RunParts<D, W>, halt: Halt) 
 }
 
 /// Finishes alone what is left of a run in which no task runs: seat 0 takes turns on the last bench until nothing more is done.
-fn finish<D: Disk, B: Bench, W: Sink>(
+fn finish<D: Disk, B: Bench, W: Sink, R: Wait>(
+    rt: &R,
     alloc: Global,
     mut state: RunState<D, W>,
     last: &mut B,
@@ -160,7 +161,7 @@ fn finish<D: Disk, B: Bench, W: Sink>(
     ensures steady { D.tells → B.tells → (o : Opening) → o.gives ≡ B.gives last.old
         → IsRun o (seen D.story W.written state) → IsSteady state.fault → is_unsteady result.status ≡ false }
 {
-    let halt = drive(alloc, &mut state, last);
+    let halt = drive(rt, alloc, &mut state, last);
     state.kept();
     let parts = state.into_parts();
     let halt = halt_of_run(halt, parts.tale.as_slice());
@@ -217,7 +218,7 @@ where
         disk,
         sink,
         tale,
-    } = finish(alloc, state, &mut last);
+    } = finish(rt, alloc, state, &mut last);
     benches.push_reserved(last);
     Outcome {
         plan,

@@ -2,12 +2,15 @@
 use Rattle.std.proofs.Common.{◌≡◌, ◌∙◌, ap, subst, refl, ℕ, ◌⊎◌, inl, inr, ⊎_elim, List, [], ◌∷◌, length, drop, None}
 use Rattle.std.proofs.Math.Seq.{drop-length}
 use Rattle.tree_model.specs.declared.entry.Entry.{Entry}
+use Rattle.tree_model.specs.Hash.{hash_text}
+use Rattle.tree_model.specs.Path.{inside}
+use Rattle.store_opening.proofs.Areas.{differ}
 use Rattle.outside_traits.specs.Passes.{EachNow, Passes, Same}
 use Rattle.outside_traits.specs.Phases.{kept, stored}
 use Rattle.outside_traits.specs.Store.{Store}
 use Rattle.outside_traits.specs.Story.{IsSound, Story}
 use Rattle.outside_traits.proofs.Calls.{same_so}
-use Rattle.outside_traits.proofs.Runs.{passes_at}
+use Rattle.outside_traits.proofs.Runs.{passes_at, passes_so}
 use Rattle.store_model.specs.Publication.{Publication, stamp_at}
 use Rattle.build_store.specs.declared.pieces.OpenPublication.{OpenPublication}
 use Rattle.build_store.specs.declared.pieces.Reached.{Reached}
@@ -16,11 +19,11 @@ use Rattle.build_store.specs.Publication.{Publishes}
 use Rattle.build_store.specs.Ending.{IsAt}
 use Rattle.build_store.specs.Halves.{IsHalf, IsOn}
 use Rattle.build_store.specs.Items.{IsItemOf, Item}
-use Rattle.build_store.specs.OpenOnes.{Suits, items_of, progress_at, put_by}
+use Rattle.build_store.specs.OpenOnes.{KeepsEntries, Suits, items_of, progress_at, put_by}
 use Rattle.build_store.specs.Pieces.{InARow, IsPublishing}
-use Rattle.build_store.proofs.Piecing.{finishes_is_publishing}
+use Rattle.build_store.proofs.Piecing.{finishes_at, finishes_is_publishing}
 use Rattle.build_store.proofs.Rounding.{others_join, others_same}
-use Rattle.build_store.proofs.StepRuns.{passes_from}
+use Rattle.build_store.proofs.StepRuns.{keeps_same, passes_from}
 use Rattle.std.specs.List.{AllByRecursion}
 
 -- what is left is the same whatever the record's file is
@@ -83,3 +86,17 @@ in_a_row p a b c sound gone first second = passes_at (λ i. i (stamp_at p.folder
   others = others_join p.folder p.object a.held b.held i j k first.held.others r.others s.others;
   staged = staged_then p i j k r.staged s.staged;
 })
+
+-- ---- what is held already stays
+
+finishes_keeps : (p : Publication) (held i j : Store) → Finishes p i j → KeepsEntries p held i j
+finishes_keeps p held i j finishes = record {
+  work = λ path e at is. let rest = 111 ∷ 114 ∷ 107 ∷ 47 ∷ inside p.folder path in finishes_at p held i j finishes 119 rest (119 ∷ rest) refl (differ 119 116 refl) (differ 119 115 refl) (differ 119 114 refl);
+  shared = λ unihash some path e at is. let rest = 98 ∷ 106 ∷ 47 ∷ inside (hash_text unihash) path in finishes_at p held i j finishes 111 rest (111 ∷ rest) refl (differ 111 116 refl) (differ 111 115 refl) (differ 111 114 refl);
+}
+
+pub ending_keeps : (p : Publication) {a b : Story} → Passes a b (Finishes p) → Passes a b (KeepsEntries p a.held)
+ending_keeps p {a} run = passes_so (KeepsEntries p a.held) run (finishes_keeps p a.held)
+
+pub looking_keeps : (p : Publication) {a b : Story} → Passes a b Same → Passes a b (KeepsEntries p a.held)
+looking_keeps p {a} run = same_so (KeepsEntries p a.held) (keeps_same p a.held) run

@@ -14,7 +14,6 @@ pub mod Rounding
 pub mod Righting
 pub mod Rows
 pub mod Stays
-pub mod Sweeping
 pub mod Validity
 pub mod Written
 pub mod Around
@@ -35,3 +34,13 @@ pub mod StepLoop
 pub mod GoingRuns
 pub mod TaskRuns
 pub mod TaskStaying
+pub mod Several
+pub mod Beside
+pub mod Closing
+pub mod Tidy
+pub mod AroundRestoring
+pub mod Sweeps
+pub mod Opened
+pub mod Stepped
+pub mod Positions
+pub mod Invariant

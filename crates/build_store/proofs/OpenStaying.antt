@@ -12,7 +12,7 @@ use Rattle.build_store.proofs.PhaseSteps.{phases_stay}
 use Rattle.build_store.proofs.PutStays.{others_keep_put}
 use Rattle.build_store.proofs.Staying.{halves_stay}
 
-folders_at : (p : Publication) (phase : Phase) (a : Story) → IsSound a → IsAt p phase a → HasFolders p a.held
+pub folders_at : (p : Publication) (phase : Phase) (a : Story) → IsSound a → IsAt p phase a → HasFolders p a.held
 folders_at p (staged k) a sound on = (on.2 a.held (held-above a sound k)).waiting.folders
 folders_at p (kept k) a sound on = (on.2 a.held (held-above a sound k)).waiting.folders
 folders_at p (stored k) a sound on = (on.2 a.held (held-above a sound k)).waiting.folders

@@ -1,5 +1,5 @@
 -- What the phases of a publication do to a store.
-use Rattle.std.proofs.Common.{◌≡◌, ◌≢◌, ◌∙◌, sym, ap, subst, refl, ℕ, ◌⊎◌, inl, inr, ⊎_elim, List, [], ◌∷◌, Option, Some, None, Result, Ok, Err, OnOk, arith}
+use Rattle.std.proofs.Common.{◌≡◌, ◌≢◌, ◌∙◌, sym, ap, subst, refl, ℕ, ◌⊎◌, inl, inr, ⊎_elim, List, [], ◌∷◌, Option, None, arith}
 use Rattle.std.specs.Prelude.{codes, IsSome}
 use Rattle.std.specs.Option.{is_some}
 use Rattle.std.proofs.lemmas.Bool.{false≢true}
@@ -7,20 +7,17 @@ use Rattle.tree_model.specs.declared.entry.Entry.{Entry}
 use Rattle.tree_model.specs.declared.hash.Hash.{Hash}
 use Rattle.tree_model.specs.Hash.{hash_text}
 use Rattle.tree_model.specs.Path.{inside}
-use Rattle.outside_traits.specs.declared.fault.DiskFault.{DiskFault}
-use Rattle.outside_traits.specs.Store.{AgreesApart, ChangesAt, HoldsTree, Moves, Store}
+use Rattle.outside_traits.specs.Store.{AgreesApart, ChangesAt, Moves, Store}
 use Rattle.outside_traits.proofs.Folders.{under_same}
 use Rattle.outside_traits.proofs.Held.{none_unless}
 use Rattle.outside_traits.proofs.Puts.{path_cases}
-use Rattle.store_model.specs.Available.{object_folder}
 use Rattle.stamp_store.specs.Stamp.{TakesAway, old_path, stamp_path, staged_path}
 use Rattle.store_opening.specs.Named.{IsName}
 use Rattle.store_opening.specs.Paths.{IsLaidOut, IsTemporary, staged_record_path}
 use Rattle.store_model.specs.Paths.{record_path, slashes}
-use Rattle.build_store.specs.Phases.{AddsStaged, AddsStagedFile, IsApartFrom, Lays, Settles, Shares, Stages}
-use Rattle.build_store.specs.Publication.{HoldsObject, SameObjects}
+use Rattle.build_store.specs.Phases.{IsApartFrom, Lays, Stages}
 use Rattle.store_model.specs.Publication.{work_at}
-use Rattle.store_opening.proofs.Areas.{apart_by_first, differ, heads_differ, tree_stays}
+use Rattle.store_opening.proofs.Areas.{apart_by_first, differ, heads_differ}
 use Rattle.store_opening.proofs.Clean.{name_slashes}
 use Rattle.store_opening.proofs.Slashes.{slashes_inside}
 
@@ -155,39 +152,11 @@ lays_elsewhere folder object i j c ps work obj lays = lays.others (c ∷ ps) (ap
 pub lays_by_work : (folder : List ℕ) (object : Option Hash) (i j : Store) → AgreesApart (work_at folder) i j → Lays folder object i j
 lays_by_work folder object i j agrees = record { others = λ q work obj. agrees.apart q work }
 
-pub lays_by_object : (folder : List ℕ) (object : Option Hash) (i j : Store) → Shares object i j → Lays folder object i j
-lays_by_object folder object i j shares = record { others = λ q work obj. shares.others q obj }
-
-pub lays_joins : (folder : List ℕ) (object : Option Hash) (i j k : Store) → Lays folder object i j → Lays folder object j k → Lays folder object i k
-lays_joins folder object i j k first second = record { others = λ q work obj. second.others q work obj ∙ first.others q work obj }
-
-pub shares_by : (object : Option Hash) (unihash : Hash) (i j : Store) → object ≡ Some unihash → AgreesApart (object_folder unihash) i j → Shares object i j
-shares_by object unihash i j is agrees = record { others = λ q obj. agrees.apart q (obj unihash is) }
-
--- the object's folder is apart from the work folder, so its tree stays there
-pub tree_lays : {T : Type 0} (folder : List ℕ) (object : Option Hash) (tree : List (List ℕ × Entry)) (i j : Store) (r : Result T DiskFault) → Shares object i j → HoldsTree (work_at folder) tree i → OnOk r (HoldsTree (work_at folder) tree j)
-tree_lays folder object tree i j (Ok v) shares was = tree_stays 119 (111 ∷ 114 ∷ 107 ∷ 47 ∷ folder) tree i j (differ 119 47 refl) (λ qs. shares.others (119 ∷ qs) (object_by_first object 119 qs (differ 119 111 refl))) was
-tree_lays folder object tree i j (Err e) shares was = tt
-
-pub objects_by_work : (folder : List ℕ) (i j : Store) → AgreesApart (work_at folder) i j → SameObjects i j
-objects_by_work folder i j agrees = record { same = λ path. agrees.apart (inside (codes "obj") path) (apart_by_first (98 ∷ 106 ∷ 47 ∷ path) (111 ∷ 114 ∷ 107 ∷ 47 ∷ folder) (differ 111 119 refl)) }
-
-pub object_lays : (folder : List ℕ) (object : Option Hash) (tree : List (List ℕ × Entry)) (i j : Store) → AgreesApart (work_at folder) i j → HoldsObject i object tree → HoldsObject j object tree
-object_lays folder object tree i j agrees was unihash is = tree_stays 111 (98 ∷ 106 ∷ 47 ∷ hash_text unihash) tree i j (differ 111 47 refl)
-    (λ qs. agrees.apart (111 ∷ qs) (apart_by_first qs (111 ∷ 114 ∷ 107 ∷ 47 ∷ folder) (differ 111 119 refl))) (was unihash is)
-
 -- ---- records and stamps that are staged
 
 module _ (name : Hash) (file : Option Entry) where
   pub stages_same : (i : Store) → Stages name file i i
   stages_same i = record { others = λ q tmp own. refl; stored = inl refl; laid_out = λ l. l }
-
-  pub stages_joins : (i j k : Store) → Stages name file i j → Stages name file j k → Stages name file i k
-  stages_joins i j k first second = record {
-    others = λ q tmp own. second.others q tmp own ∙ first.others q tmp own;
-    stored = ⊎_elim (λ same. ⊎_elim (λ as_was. inl (same ∙ as_was)) (λ new. inr (new.0, new.1, same ∙ new.2)) first.stored) (λ new. inr new) second.stored;
-    laid_out = λ l. second.laid_out (first.laid_out l);
-  }
 
   -- a path under `tmp/` changes
   by_temporary : (path : List ℕ) (i j : Store) → IsWell (inside (codes "tmp") path) → ChangesAt (inside (codes "tmp") path) i j → Stages name file i j
@@ -202,27 +171,3 @@ module _ (name : Hash) (file : Option Entry) where
 
   pub stages_by_stamp : (folder : List ℕ) (i j : Store) → slashes folder ≡ 1 → ChangesAt (staged_path folder) i j → Stages name file i j
   stages_by_stamp folder i j one change = by_temporary (inside (codes "stamp") folder) i j (well_staged folder one) change
-
-  -- what is staged, and no more
-  pub adds_nothing : (i : Store) → AddsStagedFile name file i i
-  adds_nothing i = record { others = λ q own. refl }
-
-  pub adds_record : (e : Entry) (i j : Store) → file ≡ Some e → ChangesAt (staged_record_path name) i j → AddsStagedFile name file i j
-  adds_record e i j is change = record { others = λ q own. change.others q (own (subst IsSome (sym is) refl)) }
-
-  pub adds_stamp : (folder : List ℕ) (i j k : Store) → AddsStagedFile name file i j → ChangesAt (staged_path folder) j k → AddsStaged folder name file i k
-  adds_stamp folder i j k adds change = record { others = λ q stamp own. change.others q stamp ∙ adds.others q own }
-
-  pub settles_same : (i : Store) → Settles name file i i
-  settles_same i = record { others = λ q staged own. refl; stages = stages_same i }
-
-  -- the record comes to its place
-  pub settles_by_move : (e : Entry) (x : Option Entry) (i j : Store) → IsName name → file ≡ Some e → x ≡ Some e → Moves (staged_record_path name) (record_path name) x i j → Settles name file i j
-  settles_by_move e x i j is some at move = record {
-    others = λ q staged own. move.others q staged (own (subst IsSome (sym some) refl));
-    stages = record {
-      others = λ q tmp own. move.others q (λ same. tmp (inside (codes "rec") (hash_text name), same)) (own (subst IsSome (sym some) refl));
-      stored = ⊎_elim (λ same. inl same) (λ new. inr (e, some, new ∙ at)) move.target;
-      laid_out = λ l. laid_move (staged_record_path name) (record_path name) x i j (well_record name is) move l;
-    };
-  }

@@ -148,7 +148,7 @@ works_is_publishing p items held old new all none works = record { own = works_o
 -- ---- the end
 
 module _ (p : Publication) (held old new : Store) (finishes : Finishes p old new) where
-  finishes_at : (c : ℕ) (rest q : List ℕ) → q ≡ c ∷ rest → c ≢ 116 → c ≢ 115 → c ≢ 114 → new q ≡ old q
+  pub finishes_at : (c : ℕ) (rest q : List ℕ) → q ≡ c ∷ rest → c ≢ 116 → c ≢ 115 → c ≢ 114 → new q ≡ old q
   finishes_at c rest q is nt ns nr = finishes.others q (not_staged p c rest q is nt) (not_staged_record p c rest q is nt) (not_stamp p c rest q is ns) (λ new_one. not_record p c rest q is nr)
 
   pub finishes_own : old (stamp_at p.folder) ≡ None → Publishes p old new

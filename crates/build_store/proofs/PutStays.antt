@@ -36,7 +36,7 @@ module _ (p r : Publication) (held old new : Store) (apart : AreApart r p) (firs
   }
 
 -- paths under `tmp/` whose areas differ
-areas : (i x y : ℕ) (xs ys : List ℕ) → get_or xs i 0 ≡ x → get_or ys i 0 ≡ y → x ≢ y → xs ≢ ys
+pub areas : (i x y : ℕ) (xs ys : List ℕ) → get_or xs i 0 ≡ x → get_or ys i 0 ≡ y → x ≢ y → xs ≢ ys
 areas i x y xs ys at_x at_y ne same = ne (sym at_x ∙ ap (λ (l : List ℕ). get_or l i 0) same ∙ at_y)
 
 pub others_keep_put : OthersKeepPut

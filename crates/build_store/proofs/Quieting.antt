@@ -14,10 +14,11 @@ use Rattle.outside_traits.specs.Passes.{Passes}
 use Rattle.outside_traits.proofs.Runs.{each_now, passes_at, passes_so}
 use Rattle.meta_model.specs.CleanBuild.{Entries}
 use Rattle.stamp_store.specs.Stamp.{TakesAway, stamp_path, staged_path}
+use Rattle.store_model.specs.Available.{object_folder}
 use Rattle.store_model.specs.Paths.{record_path}
 use Rattle.store_opening.specs.Paths.{staged_record_path}
-use Rattle.build_store.specs.Phases.{IsFileOf, IsStoredFile, Lays, Settles, Stages, put_of}
-use Rattle.build_store.specs.Publication.{HoldsObject, IsForeign, IsPublished, Publishes, SameObjects}
+use Rattle.build_store.specs.Phases.{Lays, Stages, put_of}
+use Rattle.build_store.specs.Publication.{IsForeign, IsPublished, Publishes}
 use Rattle.store_model.specs.Publication.{Publication, stamp_at, stamp_file, work_at}
 use Rattle.store_opening.proofs.Areas.{differ, heads_differ, tree_stays}
 use Rattle.build_store.proofs.Phasing.{lays_elsewhere}
@@ -99,15 +100,12 @@ module _ (folder : List ℕ) (name : Hash) (tree : Entries) (object : Option Has
   pub stages_run : {a b c : Story} → ((e : Entry) → file ≡ Some e → e ≡ f) → IsSound b → Quiets a b → Passes b c (Stages name file) → Quiets a c
   stages_run is sound quiets run = quiet_more sound (quiet_stages is) quiets run
 
-  pub settles_run : {a b c : Story} → ((e : Entry) → file ≡ Some e → e ≡ f) → IsSound b → Quiets a b → Passes b c (Settles name file) → Quiets a c
-  settles_run is sound quiets run = quiet_more sound (λ j k settles. quiet_stages is j k settles.stages) quiets run
-
   -- ---- the stamp comes last
 
   -- all that the stamp tells of is there
   pub record IsReady (i : Store) : Type 0 where
     pub work : HoldsTree (work_at folder) tree i
-    pub shared : HoldsObject i object tree
+    pub shared : (unihash : Hash) → object ≡ Some unihash → HoldsTree (object_folder unihash) tree i
     pub stored : i (record_path name) ≡ Some f
 
   pub published_by : (x : Option Entry) (j k : Store) → IsReady j → Moves (staged_path folder) (stamp_path folder) x j k → k (stamp_at folder) ≡ Some (stamp_file name) → IsPublished P k
@@ -144,44 +142,7 @@ module _ (folder : List ℕ) (name : Hash) (tree : Entries) (object : Option Has
   ready_stages i j stages was = tree_stays 119 (111 ∷ 114 ∷ 107 ∷ 47 ∷ folder) tree i j (differ 119 47 refl)
       (λ qs. stages.others (119 ∷ qs) (not_temporary 119 qs (differ 119 116 refl)) (λ some. heads_differ (differ 119 114 refl))) was
 
-  pub object_stages : (i j : Store) → Stages name file i j → HoldsObject i object tree → HoldsObject j object tree
-  object_stages i j stages was unihash is = tree_stays 111 (98 ∷ 106 ∷ 47 ∷ hash_text unihash) tree i j (differ 111 47 refl)
-      (λ qs. stages.others (111 ∷ qs) (not_temporary 111 qs (differ 111 116 refl)) (λ some. heads_differ (differ 111 114 refl))) (was unihash is)
-
-  -- the record, at the end: the new one, or that which stood there
-  pub stored_last : (ha hb hc hd he : Store) → IsFileOf name file ha f → TakesAway folder ha hb → Lays folder object hb hc → Stages name file hc hd → Stages name file hd he → IsStoredFile name file he → he (record_path name) ≡ Some f
-  stored_last ha hb hc hd he is aside lays stages settles stored = by file refl
-    where
-      old : file ≡ None → he (record_path name) ≡ Some f
-      old none =
-          as_was hd he settles ∙ as_was hc hd stages
-          ∙ lays_elsewhere folder object hb hc 114 (101 ∷ 99 ∷ 47 ∷ hash_text name) (differ 114 119 refl) (differ 114 111 refl) lays
-          ∙ aside.others (record_path name) (heads_differ (differ 114 115 refl)) (heads_differ (differ 114 116 refl)) ∙ is.old none
-        where
-          as_was : (i j : Store) → Stages name file i j → j (record_path name) ≡ i (record_path name)
-          as_was i j s = ⊎_elim (λ same. same) (λ new. let e : None ≡ Some new.0 = sym none ∙ new.1 in cc) s.stored
-
-      by : (o : Option Entry) → file ≡ o → he (record_path name) ≡ Some f
-      by None none = old none
-      by (Some e) some = stored e some ∙ ap (λ y. Some y) (is.new e some)
-
-pub object_aside : (folder : List ℕ) (tree : Entries) (object : Option Hash) (i j : Store) → TakesAway folder i j → HoldsObject i object tree → HoldsObject j object tree
-object_aside folder tree object i j move was unihash is = tree_stays 111 (98 ∷ 106 ∷ 47 ∷ hash_text unihash) tree i j (differ 111 47 refl)
-    (λ qs. move.others (111 ∷ qs) (heads_differ (differ 111 115 refl)) (heads_differ (differ 111 116 refl))) (was unihash is)
-
 -- ---- objects stay
-
-pub objects_aside : (folder : List ℕ) (i j : Store) → TakesAway folder i j → SameObjects i j
-objects_aside folder i j move = record { same = λ path. move.others (inside (codes "obj") path) (heads_differ (differ 111 115 refl)) (heads_differ (differ 111 116 refl)) }
-
-pub objects_stages : (name : Hash) (file : Option Entry) (i j : Store) → Stages name file i j → SameObjects i j
-objects_stages name file i j stages = record { same = λ path. stages.others (inside (codes "obj") path) (not_temporary 111 (98 ∷ 106 ∷ 47 ∷ path) (differ 111 116 refl)) (λ some. heads_differ (differ 111 114 refl)) }
-
-pub objects_stamped : (folder : List ℕ) (x : Option Entry) (i j : Store) → Moves (staged_path folder) (stamp_path folder) x i j → SameObjects i j
-objects_stamped folder x i j move = record { same = λ path. move.others (inside (codes "obj") path) (heads_differ (differ 111 116 refl)) (heads_differ (differ 111 115 refl)) }
-
-pub objects_join : (i j k : Store) → SameObjects i j → SameObjects j k → SameObjects i k
-objects_join i j k first second = record { same = λ path. second.same path ∙ first.same path }
 
 -- a staged stamp isn't a staged record
 pub staged_differ : (folder : List ℕ) (name : Hash) → staged_path folder ≢ staged_record_path name

@@ -28,16 +28,14 @@ use Rattle.store_model.proofs.Ordered.{each_map}
 use Rattle.sig_gen.specs.Sound.{Spells}
 use Rattle.sig_gen.proofs.Records.{signature_again}
 use Rattle.build_store.specs.declared.fault.StoreFault.{StoreFault}
-use Rattle.store_opening.specs.Named.{IsName}
 use Rattle.store_opening.specs.Paths.{IsLaidOut}
 use Rattle.store_model.specs.Paths.{record_path}
-use Rattle.build_store.specs.Phases.{IsFileOf, put_of}
+use Rattle.build_store.specs.Phases.{put_of}
 use Rattle.build_store.specs.Publication.{AreShort, HasNoObject, IsObjectOf, IsPublished, IsRestored, Publishes, Restores, restoration, stored_for}
 use Rattle.store_model.specs.Publication.{record_file}
 use Rattle.build_store.specs.Restoring.{IsObject, IsPutBack, PutsBack, PutsBackBy, back_of}
 use Rattle.store_model.specs.Readable.{HasShortPaths, IsHeld, IsRow}
 use Rattle.store_opening.specs.Sound.{IsKept}
-use Rattle.store_opening.proofs.Clean.{name_is_name}
 use Rattle.build_store.proofs.Rows.{row_has, row_named}
 use Rattle.build_store.proofs.Stays.{IsOther, held_stays}
 
@@ -52,24 +50,18 @@ short_matching folder lines held tree None m short some none = absurd (none (sho
 
 -- ---- one row
 
-pub row_name : (row : EquivRow) → IsRow row → IsName row.name
-row_name row known = subst IsName (ap (λ r. r.name) (sym known.is)) (name_is_name known.stored.sig)
-
 pub object_is : (row : EquivRow) (held : Store) (tree : Entries) → IsMatching (object_folder row.unihash) row.manifest held (Some tree) → IsObject row held tree
 object_is row held tree m = record { is_tree = m.0; holds = m.1.0; manifest = m.1.1 }
-
-file_there : (name : Hash) (held : Store) (f : Entry) → held (record_path name) ≡ Some f → IsFileOf name None held f
-file_there name held f at = record { new = λ e is. let k : None ≡ Some e = is in cc; old = λ none. at }
 
 module _ (task : PlanTask) (row : EquivRow) (a b c : Story) (f : Entry) (at : a.held (record_path row.name) ≡ Some f) (looked : Passes a b Same) where
   at_b : b.held (record_path row.name) ≡ Some f
   at_b = ap (λ (h : Store). h (record_path row.name)) looked.held ∙ at
 
-  pub back_run : (tree : Entries) → IsObject row a.held tree → ((g : Entry) → IsFileOf row.name None b.held g → Passes b c (Publishes (put_of (task_folder task) row.name tree None None g))) → Passes a c (PutsBackBy task row a.held f)
-  back_run tree object run = same_then (λ i. inl refl) looked (passes_so (PutsBackBy task row a.held f) (run f (file_there row.name b.held f at_b)) (λ i j p. inr (tree, object, p)))
+  pub back_run : (tree : Entries) → IsObject row a.held tree → ((g : Entry) → b.held (record_path row.name) ≡ Some g → Passes b c (Publishes (put_of (task_folder task) row.name tree None None g))) → Passes a c (PutsBackBy task row a.held f)
+  back_run tree object run = same_then (λ i. inl refl) looked (passes_so (PutsBackBy task row a.held f) (run f at_b) (λ i j p. inr (tree, object, p)))
 
-  pub back_published : (tree : Entries) → IsObject row a.held tree → ((g : Entry) → IsFileOf row.name None b.held g → EachNow c (IsPublished (put_of (task_folder task) row.name tree None None g))) → (t : Entries) × IsObject row a.held t × EachNow c (IsPublished (back_of task row t f))
-  back_published tree object all = (tree, object, all f (file_there row.name b.held f at_b))
+  pub back_published : (tree : Entries) → IsObject row a.held tree → ((g : Entry) → b.held (record_path row.name) ≡ Some g → EachNow c (IsPublished (put_of (task_folder task) row.name tree None None g))) → (t : Entries) × IsObject row a.held t × EachNow c (IsPublished (back_of task row t f))
+  back_published tree object all = (tree, object, all f at_b)
 
 pub back_same : (task : PlanTask) (row : EquivRow) (a b : Story) (f : Entry) → Passes a b Same → Passes a b (PutsBackBy task row a.held f)
 back_same task row a b f looked = same_so (PutsBackBy task row a.held f) (λ i. inl refl) looked

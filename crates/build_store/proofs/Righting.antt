@@ -1,11 +1,11 @@
 -- What is right already stays through each phase of a publication.
-use Rattle.std.proofs.Common.{◌≡◌, ◌≢◌, ◌∙◌, sym, subst, refl, ℕ, List, ◌∷◌, Option, Some}
+use Rattle.std.proofs.Common.{◌≡◌, ◌≢◌, ◌∙◌, refl, ℕ, List, ◌∷◌, Option}
 use Rattle.tree_model.specs.declared.entry.Entry.{Entry}
 use Rattle.tree_model.specs.declared.hash.Hash.{Hash}
 use Rattle.tree_model.specs.Hash.{hash_text}
 use Rattle.tree_model.specs.Path.{inside}
 use Rattle.tree_model.specs.Tree.{entry_at}
-use Rattle.outside_traits.specs.Store.{LaysTree, Moves, Store}
+use Rattle.outside_traits.specs.Store.{ChangesAt, LaysTree, Moves, Store}
 use Rattle.outside_traits.specs.Story.{Story}
 use Rattle.outside_traits.specs.Passes.{Passes, Same}
 use Rattle.outside_traits.proofs.Calls.{same_so}
@@ -15,7 +15,7 @@ use Rattle.stamp_store.specs.Stamp.{TakesAway, staged_path, stamp_path}
 use Rattle.store_model.specs.Available.{object_folder}
 use Rattle.store_model.specs.Publication.{work_at}
 use Rattle.store_opening.proofs.Areas.{apart_by_first, differ, heads_differ}
-use Rattle.build_store.specs.Phases.{Settles, SharesRight, Stages}
+use Rattle.build_store.specs.Phases.{Stages}
 use Rattle.build_store.specs.Publication.{KeepsCopied, KeepsRight}
 
 module _ (folder : List ℕ) (object : Option Hash) (tree : Entries) where
@@ -50,17 +50,8 @@ module _ (folder : List ℕ) (object : Option Hash) (tree : Entries) where
     shared = λ unihash is path at. let rest = 98 ∷ 106 ∷ 47 ∷ inside (hash_text unihash) path in lays.round.apart (111 ∷ rest) (apart_by_first rest (111 ∷ 114 ∷ 107 ∷ 47 ∷ folder) (differ 111 119 refl));
   }
 
-  by_object : (h i j : Store) → SharesRight object tree h i j → KeepsRight folder object tree h i j
-  by_object h i j shares = record {
-    work = λ path is. let rest = 111 ∷ 114 ∷ 107 ∷ 47 ∷ inside folder path in shares.others (119 ∷ rest) (λ unihash at. apart_by_first rest (98 ∷ 106 ∷ 47 ∷ hash_text unihash) (differ 119 111 refl));
-    shared = shares.right;
-  }
-
   pub rights_by_work : {a b : Story} → Passes a b (LaysTree (work_at folder) tree a.held) → Rights a b
   rights_by_work {a} run = passes_so (KeepsRight folder object tree a.held) run (by_work a.held)
-
-  pub rights_by_object : {a b : Story} → Passes a b (SharesRight object tree a.held) → Rights a b
-  rights_by_object {a} run = passes_so (KeepsRight folder object tree a.held) run (by_object a.held)
 
   -- the stamp is taken away
   pub rights_by_aside : {a b : Story} → Passes a b (TakesAway folder) → Rights a b
@@ -76,34 +67,19 @@ module _ (folder : List ℕ) (object : Option Hash) (tree : Entries) where
       (λ rest. move.others (119 ∷ rest) (heads_differ (differ 119 116 refl)) (heads_differ (differ 119 115 refl)))
       (λ rest. move.others (111 ∷ rest) (heads_differ (differ 111 116 refl)) (heads_differ (differ 111 115 refl))))
 
+  pub rights_by_staging : {a b : Story} → Passes a b (ChangesAt (staged_path folder)) → Rights a b
+  rights_by_staging {a} run = passes_so (KeepsRight folder object tree a.held) run (λ i j change.
+      elsewhere a.held i j
+      (λ rest. change.others (119 ∷ rest) (heads_differ (differ 119 116 refl)))
+      (λ rest. change.others (111 ∷ rest) (heads_differ (differ 111 116 refl))))
+
   by_stages : (name : Hash) (file : Option Entry) (h i j : Store) → Stages name file i j → KeepsRight folder object tree h i j
   by_stages name file h i j stages = elsewhere h i j (λ rest. same 119 rest (differ 119 116 refl) (differ 119 114 refl)) (λ rest. same 111 rest (differ 111 116 refl) (differ 111 114 refl))
     where
       same : (c : ℕ) (rest : List ℕ) → c ≢ 116 → c ≢ 114 → j (c ∷ rest) ≡ i (c ∷ rest)
       same c rest nt nr = stages.others (c ∷ rest) (λ below. heads_differ nt below.1) (λ some. heads_differ nr)
 
-  -- records and stamps are staged, and records come to their places
-  pub rights_by_stages : {name : Hash} {file : Option Entry} {a b : Story} → Passes a b (Stages name file) → Rights a b
-  rights_by_stages {name} {file} {a} run = passes_so (KeepsRight folder object tree a.held) run (by_stages name file a.held)
-
-  pub rights_by_settles : {name : Hash} {file : Option Entry} {a b : Story} → Passes a b (Settles name file) → Rights a b
-  rights_by_settles {name} {file} {a} run = passes_so (KeepsRight folder object tree a.held) run (λ i j settles. by_stages name file a.held i j settles.stages)
-
 -- ---- the object
-
-pub shares_right : (object : Option Hash) (tree : Entries) (unihash : Hash) (h i j : Store) → object ≡ Some unihash → LaysTree (object_folder unihash) tree h i j → SharesRight object tree h i j
-shares_right object tree unihash h i j is lays = record {
-  others = λ q apart. lays.round.apart q (apart unihash is);
-  right = λ other is' path at.
-      let k : Some unihash ≡ Some other = sym is ∙ is' in
-      let same : unihash ≡ other = cc in
-      let Right : Hash → Type 0 = λ u. h (inside (object_folder u) path) ≡ entry_at tree path → j (inside (object_folder u) path) ≡ i (inside (object_folder u) path) in
-      subst Right same (lays.right path) at;
-}
-
--- no object is written
-pub shares_none : (object : Option Hash) (tree : Entries) (h i : Store) → SharesRight object tree h i i
-shares_none object tree h i = record { others = λ q apart. refl; right = λ unihash is path at. refl }
 
 -- ---- a task that is restored
 

@@ -1,19 +1,17 @@
 -- What others have stays through each phase of a publication.
-use Rattle.std.proofs.Common.{◌≡◌, ◌≢◌, ◌∙◌, sym, ap, subst, refl, ℕ, List, [], ◌∷◌, ◌++◌, inl, inr, Option, Some}
+use Rattle.std.proofs.Common.{◌≡◌, ◌≢◌, ◌∙◌, sym, ap, refl, ℕ, List, [], ◌∷◌, ◌++◌, inl, inr, Option}
 use Rattle.std.specs.Prelude.{codes}
 use Rattle.tree_model.specs.declared.entry.Entry.{Entry}
 use Rattle.tree_model.specs.declared.hash.Hash.{Hash}
 use Rattle.tree_model.specs.Hash.{hash_text}
 use Rattle.tree_model.specs.Path.{IsAtOrBelow, IsBelow}
-use Rattle.outside_traits.specs.Store.{AgreesRound, Moves, Store}
+use Rattle.outside_traits.specs.Store.{AgreesRound, ChangesAt, Moves, Store}
 use Rattle.outside_traits.specs.Story.{Story}
 use Rattle.outside_traits.specs.Passes.{Passes, Same}
 use Rattle.outside_traits.proofs.Calls.{same_so}
 use Rattle.outside_traits.proofs.Folders.{under_same}
-use Rattle.outside_traits.proofs.Runs.{passes_so, passes_then}
+use Rattle.outside_traits.proofs.Runs.{passes_then}
 use Rattle.stamp_store.specs.Stamp.{TakesAway, staged_path, stamp_path}
-use Rattle.store_model.specs.Available.{object_folder}
-use Rattle.build_store.specs.Phases.{Settles, SharesRound, Stages}
 use Rattle.build_store.specs.Publication.{KeepsOthers}
 use Rattle.store_model.specs.Publication.{stamp_at, work_at}
 use Rattle.store_opening.proofs.Areas.{apart_by_first, differ, heads, heads_differ}
@@ -64,12 +62,9 @@ module _ (folder : List ℕ) (object : Option Hash) where
   pub leaves_same : {a b : Story} → Passes a b Same → Leaves a b
   leaves_same {a} run = same_so (KeepsOthers folder object a.held) (others_same a.held) run
 
-  pub leaves_behind : {a b c : Story} → Passes a b Same → Leaves b c → Leaves a c
-  leaves_behind same run = leaves_then (leaves_same same) run
-
   -- ---- the phases
 
-  by_work : (h i j : Store) → AgreesRound (work_at folder) h i j → KeepsOthers folder object h i j
+  pub by_work : (h i j : Store) → AgreesRound (work_at folder) h i j → KeepsOthers folder object h i j
   by_work h i j round = record {
     stamps = λ other ne. round.apart (stamp_at other) (apart_by_first (116 ∷ 97 ∷ 109 ∷ 112 ∷ 47 ∷ other) (111 ∷ 114 ∷ 107 ∷ 47 ∷ folder) (differ 115 119 refl));
     work = λ q at apart. round.apart q apart;
@@ -81,63 +76,26 @@ module _ (folder : List ℕ) (object : Option Hash) where
       objects : (rest : List ℕ) → j (111 ∷ rest) ≡ i (111 ∷ rest)
       objects rest = round.apart (111 ∷ rest) (apart_by_first rest (111 ∷ 114 ∷ 107 ∷ 47 ∷ folder) (differ 111 119 refl))
 
-  by_object : (h i j : Store) → SharesRound object h i j → KeepsOthers folder object h i j
-  by_object h i j round = record {
-    stamps = λ other ne. same 115 (116 ∷ 97 ∷ 109 ∷ 112 ∷ 47 ∷ other) (differ 115 111 refl);
-    work = λ q at apart. same_there 119 i j q (λ rest. same 119 rest (differ 119 111 refl)) (begins 119 (111 ∷ 114 ∷ 107 ∷ []) q at);
-    objects = λ q at apart. round.others q apart;
-    above_work = λ q up none. same_there 119 i j q (λ rest. same 119 rest (differ 119 111 refl)) (above_begins 119 (111 ∷ 114 ∷ 107 ∷ 47 ∷ folder) q (differ 119 47 refl) up);
-    above_object = round.above;
-  }
-    where
-      same : (c : ℕ) (rest : List ℕ) → c ≢ 111 → j (c ∷ rest) ≡ i (c ∷ rest)
-      same c rest ne = round.others (c ∷ rest) (λ unihash is. apart_by_first rest (98 ∷ 106 ∷ 47 ∷ hash_text unihash) ne)
-
-  pub leaves_by_work : {a b : Story} → Passes a b (AgreesRound (work_at folder) a.held) → Leaves a b
-  leaves_by_work {a} run = passes_so (KeepsOthers folder object a.held) run (by_work a.held)
-
-  pub leaves_by_object : {a b : Story} → Passes a b (SharesRound object a.held) → Leaves a b
-  leaves_by_object {a} run = passes_so (KeepsOthers folder object a.held) run (by_object a.held)
-
   -- the stamp is taken away
-  pub leaves_by_aside : {a b : Story} → Passes a b (TakesAway folder) → Leaves a b
-  leaves_by_aside {a} run = passes_so (KeepsOthers folder object a.held) run (λ i j move.
-      elsewhere a.held i j
+  pub by_aside : (h i j : Store) → TakesAway folder i j → KeepsOthers folder object h i j
+  by_aside h i j move =
+      elsewhere h i j
       (λ other ne. move.others (stamp_at other) (λ same. ne (under_same (codes "stamp") other folder same)) (heads_differ (differ 115 116 refl)))
       (λ rest. move.others (119 ∷ rest) (heads_differ (differ 119 115 refl)) (heads_differ (differ 119 116 refl)))
-      (λ rest. move.others (111 ∷ rest) (heads_differ (differ 111 115 refl)) (heads_differ (differ 111 116 refl))))
+      (λ rest. move.others (111 ∷ rest) (heads_differ (differ 111 115 refl)) (heads_differ (differ 111 116 refl)))
+
+  -- it is staged
+  pub by_staging : (h i j : Store) → ChangesAt (staged_path folder) i j → KeepsOthers folder object h i j
+  by_staging h i j change =
+      elsewhere h i j
+      (λ other ne. change.others (stamp_at other) (heads_differ (differ 115 116 refl)))
+      (λ rest. change.others (119 ∷ rest) (heads_differ (differ 119 116 refl)))
+      (λ rest. change.others (111 ∷ rest) (heads_differ (differ 111 116 refl)))
 
   -- it comes to its place
-  pub leaves_by_stamp : {x : Option Entry} {a b : Story} → Passes a b (Moves (staged_path folder) (stamp_path folder) x) → Leaves a b
-  leaves_by_stamp {x} {a} run = passes_so (KeepsOthers folder object a.held) run (λ i j move.
-      elsewhere a.held i j
+  pub by_stamp : (x : Option Entry) (h i j : Store) → Moves (staged_path folder) (stamp_path folder) x i j → KeepsOthers folder object h i j
+  by_stamp x h i j move =
+      elsewhere h i j
       (λ other ne. move.others (stamp_at other) (heads_differ (differ 115 116 refl)) (λ same. ne (under_same (codes "stamp") other folder same)))
       (λ rest. move.others (119 ∷ rest) (heads_differ (differ 119 116 refl)) (heads_differ (differ 119 115 refl)))
-      (λ rest. move.others (111 ∷ rest) (heads_differ (differ 111 116 refl)) (heads_differ (differ 111 115 refl))))
-
-  by_stages : (name : Hash) (file : Option Entry) (h i j : Store) → Stages name file i j → KeepsOthers folder object h i j
-  by_stages name file h i j stages = elsewhere h i j
-      (λ other ne. same 115 (116 ∷ 97 ∷ 109 ∷ 112 ∷ 47 ∷ other) (differ 115 116 refl) (differ 115 114 refl))
-      (λ rest. same 119 rest (differ 119 116 refl) (differ 119 114 refl))
-      (λ rest. same 111 rest (differ 111 116 refl) (differ 111 114 refl))
-    where
-      same : (c : ℕ) (rest : List ℕ) → c ≢ 116 → c ≢ 114 → j (c ∷ rest) ≡ i (c ∷ rest)
-      same c rest nt nr = stages.others (c ∷ rest) (λ below. heads_differ nt below.1) (λ some. heads_differ nr)
-
-  -- records and stamps are staged, and records come to their places
-  pub leaves_by_stages : {name : Hash} {file : Option Entry} {a b : Story} → Passes a b (Stages name file) → Leaves a b
-  leaves_by_stages {name} {file} {a} run = passes_so (KeepsOthers folder object a.held) run (by_stages name file a.held)
-
-  pub leaves_by_settles : {name : Hash} {file : Option Entry} {a b : Story} → Passes a b (Settles name file) → Leaves a b
-  leaves_by_settles {name} {file} {a} run = passes_so (KeepsOthers folder object a.held) run (λ i j settles. by_stages name file a.held i j settles.stages)
-
--- ---- the object
-
-pub shares_round : (object : Option Hash) (unihash : Hash) (h i j : Store) → object ≡ Some unihash → AgreesRound (object_folder unihash) h i j → SharesRound object h i j
-shares_round object unihash h i j is round = record {
-  others = λ q apart. round.apart q (apart unihash is);
-  above = λ other is' q up none.
-      let k : Some unihash ≡ Some other = sym is ∙ is' in
-      let same : other ≡ unihash = cc in
-      round.around q (inr (subst (λ (u : Hash). IsBelow q (object_folder u)) same up)) none;
-}
+      (λ rest. move.others (111 ∷ rest) (heads_differ (differ 111 116 refl)) (heads_differ (differ 111 115 refl)))

@@ -23,7 +23,7 @@ use Rattle.build_store.specs.declared.pieces.Reached.TheVariants as reached
 use Rattle.build_store.specs.Drafts.{IsDraft, IsNewFor, file_of}
 use Rattle.build_store.specs.Items.{Item}
 use Rattle.build_store.specs.Halves.{IsOn, Progress}
-use Rattle.build_store.specs.OpenOnes.{IsFit, IsOnOrDone, LeadsTo, Suits, at_next, opened_by, progress_of, put_by}
+use Rattle.build_store.specs.OpenOnes.{IsFit, IsOnOrDone, KeepsEntries, LeadsTo, Suits, at_next, opened_by, progress_of, put_by}
 use Rattle.build_store.specs.OpenTasks.{IsOpenOf}
 use Rattle.build_store.specs.Phases.{IsFileOf, put_of}
 use Rattle.build_store.specs.Pieces.{IsPublishing}
@@ -123,3 +123,6 @@ module _ (rows : List EquivRow) (s : Signed) (tree : Entries) (o : OpenPublicati
 
   pub own_run : (a b : Story) → Passes a b (IsPublishing (put_by o (File rows s tree)) a.held) → Passes a b (IsPublishing (publication rows s tree) a.held)
   own_run a b run = subst (λ (p : Publication). Passes a b (IsPublishing p a.held)) (put_same rows s tree o is) run
+
+  pub own_entries : (a b : Story) → Passes a b (KeepsEntries (put_by o (File rows s tree)) a.held) → Passes a b (KeepsEntries (publication rows s tree) a.held)
+  own_entries a b run = subst (λ (p : Publication). Passes a b (KeepsEntries p a.held)) (put_same rows s tree o is) run

@@ -7,7 +7,7 @@ use Rattle.stamp_store.specs.Stamp.{old_path, staged_path}
 use Rattle.store_opening.specs.Paths.{staged_record_path}
 use Rattle.store_model.specs.Available.{object_folder}
 use Rattle.store_model.specs.Paths.{record_path}
-use Rattle.build_store.specs.Publication.{IsPublished, IsUntouched}
+use Rattle.build_store.specs.Publication.{IsPublished, IsUntouched, KeepsOthers}
 use Rattle.store_model.specs.Publication.{Publication, stamp_at, work_at}
 use Rattle.build_store.specs.Items.{IsDue, Item}
 
@@ -38,3 +38,17 @@ pub record Finishes (p : Publication) (old new : Store) : Type 0 where
 pub record KeepsStaged (p : Publication) (old new : Store) : Type 0 where
   pub temporary : (q : List ℕ) → IsBelow (codes "tmp") q → q ≢ old_path p.folder → q ≢ staged_path p.folder → q ≢ staged_record_path p.name → new q ≡ old q
   pub records : (q : List ℕ) → IsBelow (codes "rec") q → q ≢ record_path p.name → new q ≡ old q
+
+-- Of what is under `tmp/` a restoring changes no more than where its folder's stamp is put aside and staged; and it changes no record.
+pub record KeepsTemporary (folder : List ℕ) (old new : Store) : Type 0 where
+  pub temporary : (q : List ℕ) → IsBelow (codes "tmp") q → q ≢ old_path folder → q ≢ staged_path folder → new q ≡ old q
+  pub records : (q : List ℕ) → IsBelow (codes "rec") q → new q ≡ old q
+
+-- what others have stays, and what they have staged
+pub record KeepsAround (folder : List ℕ) (held old new : Store) : Type 0 where
+  pub others : KeepsOthers folder None held old new
+  pub own : KeepsTemporary folder old new
+
+-- what is held at other paths than these two stays
+abbrev pub MovesOnly : List ℕ → List ℕ → Store → Store → Type 0
+MovesOnly from to old new = (q : List ℕ) → q ≢ from → q ≢ to → new q ≡ old q

@@ -15,3 +15,5 @@ pub mod Noting
 pub mod Pieces
 pub mod OpenOnes
 pub mod OpenTasks
+pub mod Openings
+pub mod Standing

@@ -1,16 +1,17 @@
 -- Open publications as the store keeps them: what each puts, what is left of it, and how far it is.
-use Rattle.std.specs.Prelude.{◌≡◌, ◌<◌, ◌≤◌, ◌+◌, ◌^◌, min, ℕ, List, [], ◌++◌, length, map, drop, filter, is_none, Option, Some, None, IsSome}
+use Rattle.std.specs.Prelude.{◌≡◌, ◌⊎◌, ◌<◌, ◌≤◌, ◌+◌, ◌^◌, min, ℕ, List, [], ◌++◌, length, map, drop, filter, is_none, codes, Option, Some, None, IsSome}
 use Rattle.tree_model.specs.declared.entry.Entry.{Entry}
 use Rattle.tree_model.specs.declared.hash.Hash.{Hash}
-use Rattle.tree_model.specs.Path.{inside}
+use Rattle.tree_model.specs.Path.{IsBelow, inside}
 use Rattle.tree_model.specs.Tree.{IsTree, entry_at}
 use Rattle.outside_traits.specs.Phases.{kept, staged, stamped, stored}
 use Rattle.outside_traits.specs.Passes.{EachNow}
 use Rattle.outside_traits.specs.Store.{Store}
 use Rattle.outside_traits.specs.Story.{Story}
 use Rattle.meta_model.specs.CleanBuild.{Entries}
-use Rattle.stamp_store.specs.Stamp.{IsFolder}
+use Rattle.stamp_store.specs.Stamp.{IsFolder, staged_path}
 use Rattle.store_opening.specs.Named.{IsName}
+use Rattle.store_opening.specs.Paths.{staged_record_path}
 use Rattle.store_model.specs.Available.{object_folder}
 use Rattle.store_model.specs.Paths.{slashes}
 use Rattle.store_model.specs.Publication.{Publication, work_at}
@@ -116,6 +117,22 @@ pub record IsFit (o : OpenPublication) : Type 0 where
 abbrev pub IsOnOrDone : Publication → List Item → Option Reached → Story → Type 0
 IsOnOrDone p items None story = EachNow story (IsPublished p)
 IsOnOrDone p items (Some now) story = IsOn p (progress_at items now) story
+
+-- what a publication that has reached this has staged stands at the path
+abbrev pub StagesAt : OpenPublication → Reached → List ℕ → Type 0
+StagesAt o (reached.Working done) q = ⊥
+StagesAt o (reached.Staged k) q = (q ≡ staged_path o.folder) ⊎ (q ≡ staged_record_path o.name)
+StagesAt o (reached.Kept k) q = q ≡ staged_path o.folder
+StagesAt o (reached.Stored k) q = q ≡ staged_path o.folder
+StagesAt o (reached.Stamped k) q = ⊥
+
+abbrev pub StagesNext : OpenPublication → Option Reached → List ℕ → Type 0
+StagesNext o None q = ⊥
+StagesNext o (Some next) q = StagesAt o next q
+
+-- Under `tmp/` nothing is left of what it had staged, and nothing comes, but for what it has staged once it has reached the next.
+abbrev pub Sweeps : OpenPublication → Reached → Option Reached → Store → Store → Type 0
+Sweeps o now next old new = (q : List ℕ) → IsBelow (codes "tmp") q → (StagesNext o next q → ⊥) → (old q ≡ None) ⊎ StagesAt o now q → new q ≡ None
 
 -- ---- opening
 

@@ -3,8 +3,7 @@ use Rattle.std.specs.Prelude.{◌≡◌, ◌≢◌, ◌⊎◌, ℕ, List, codes,
 use Rattle.std.specs.Option.{is_some}
 use Rattle.tree_model.specs.declared.entry.Entry.{Entry}
 use Rattle.tree_model.specs.declared.hash.Hash.{Hash}
-use Rattle.tree_model.specs.Path.{IsBelow, inside}
-use Rattle.tree_model.specs.Tree.{entry_at}
+use Rattle.tree_model.specs.Path.{IsBelow}
 use Rattle.outside_traits.specs.Store.{IsApart, Store}
 use Rattle.meta_model.specs.CleanBuild.{Entries}
 use Rattle.store_model.specs.Available.{object_folder}
@@ -16,21 +15,6 @@ use Rattle.store_model.specs.Publication.{Publication, work_at}
 -- the path is apart from the folder of the object, if there is one
 abbrev pub IsApartFrom : Option Hash → List ℕ → Type 0
 IsApartFrom object q = (unihash : Hash) → object ≡ Some unihash → IsApart (object_folder unihash) q
-
--- the object's folder changes, if there is an object
-pub record Shares (object : Option Hash) (old new : Store) : Type 0 where
-  pub others : (q : List ℕ) → IsApartFrom object q → new q ≡ old q
-
--- the object's folder changes, if there is an object; and above it nothing does where this store holds nothing
-pub record SharesRound (object : Option Hash) (held old new : Store) : Type 0 where
-  pub others : (q : List ℕ) → IsApartFrom object q → new q ≡ old q
-  pub above : (unihash : Hash) → object ≡ Some unihash → (q : List ℕ) → IsBelow q (object_folder unihash) → held q ≡ None → new q ≡ old q
-
--- The object becomes the tree, if there is one: the stores agree apart from its folder, and at each path under it at which this store holds
--- what the tree has there.
-pub record SharesRight (object : Option Hash) (tree : Entries) (held old new : Store) : Type 0 where
-  pub others : (q : List ℕ) → ((unihash : Hash) → object ≡ Some unihash → IsApart (object_folder unihash) q) → new q ≡ old q
-  pub right : (unihash : Hash) → object ≡ Some unihash → (path : List ℕ) → held (inside (object_folder unihash) path) ≡ entry_at tree path → new (inside (object_folder unihash) path) ≡ old (inside (object_folder unihash) path)
 
 -- the work folder changes, and that of the object, if there is one
 pub record Lays (folder : List ℕ) (object : Option Hash) (old new : Store) : Type 0 where
@@ -54,10 +38,6 @@ pub record AddsStagedFile (name : Hash) (file : Option Entry) (old new : Store) 
 abbrev pub IsStagedFile : Hash → Option Entry → Store → Type 0
 IsStagedFile name file held = (e : Entry) → file ≡ Some e → held (staged_record_path name) ≡ Some e
 
--- the record's file is stored, if it is new
-abbrev pub IsStoredFile : Hash → Option Entry → Store → Type 0
-IsStoredFile name file held = (e : Entry) → file ≡ Some e → held (record_path name) ≡ Some e
-
 -- what is put: a record's file is written just where there is one
 abbrev pub put_of : List ℕ → Hash → Entries → Option Hash → Option Entry → Entry → Publication
 put_of folder name tree object file f = record { folder = folder; name = name; file = f; is_new = is_some file; tree = tree; object = object }
@@ -66,8 +46,3 @@ put_of folder name tree object file f = record { folder = folder; name = name; f
 pub record IsFileOf (name : Hash) (file : Option Entry) (held : Store) (f : Entry) : Type 0 where
   pub new : (e : Entry) → file ≡ Some e → e ≡ f
   pub old : file ≡ None → held (record_path name) ≡ Some f
-
--- A new record comes to stand under its name; what is staged besides stays.
-pub record Settles (name : Hash) (file : Option Entry) (old new : Store) : Type 0 where
-  pub others : (q : List ℕ) → q ≢ staged_record_path name → (IsSome file → q ≢ record_path name) → new q ≡ old q
-  pub stages : Stages name file old new

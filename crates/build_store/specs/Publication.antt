@@ -102,14 +102,6 @@ AreShort tree = All (λ e. length e.0 ≤ 3072) tree
 abbrev pub IsAgreed : List EquivRow → Signed → Entries → Type 0
 IsAgreed rows s tree = (row : EquivRow) → row_at rows (name_of s.sig) ≡ Some row → (row.sig ≡ signature_bytes s.sig) × (row.manifest ≡ manifest_lines tree)
 
--- no object is to be written that isn't there already
-abbrev pub HoldsObject : Store → Option Hash → Entries → Type 0
-HoldsObject held object tree = (unihash : Hash) → object ≡ Some unihash → HoldsTree (object_folder unihash) tree held
-
--- what is under `obj/` stays
-pub record SameObjects (old new : Store) : Type 0 where
-  pub same : (path : List ℕ) → new (inside (codes "obj") path) ≡ old (inside (codes "obj") path)
-
 -- ---- a task that is restored
 
 -- the task's record is stored, and this tree, which has its manifest, is its object

@@ -5,11 +5,11 @@ ghost use Rattle.outside_traits.specs.Fault.{Counts, disk_failed};
 ghost use Rattle.outside_traits.specs.Passes.{Passes, Same};
 ghost use Rattle.outside_traits.specs.Phases.{kept, staged, stamped, stored};
 ghost use Rattle.stamp_store.specs.Stamp.{IsFolder, staged_path};
-ghost use Rattle.store_model.specs.Paths.{slashes};
-ghost use Rattle.store_model.specs.Publication.{Publication, stamp_file};
+ghost use Rattle.store_model.specs.Paths.{record_path, slashes};
+ghost use Rattle.store_model.specs.Publication.{Publication, stamp_at, stamp_file};
 ghost use Rattle.store_opening.specs.Named.{IsName};
 ghost use Rattle.store_opening.specs.Paths.{IsLaidOut, staged_record_path};
-ghost use Rattle.build_store.specs.Calls.{Finishes};
+ghost use Rattle.build_store.specs.Calls.{Finishes, MovesOnly};
 ghost use Rattle.build_store.specs.Drafts.{file_of};
 ghost use Rattle.build_store.specs.Ending.{IsAt, IsTicket};
 ghost use Rattle.build_store.specs.Halves.{IsHalf, IsOn};
@@ -92,6 +92,8 @@ pub(crate) fn stage_ending<D: Disk>(
         → IsFileOf one.now.name (file_of one.now.new) (D.story disk.old).held f
         → IsHalf (put_by one.now f) [] (D.story disk.old) → IsOn (put_by one.now f) (progress_by one.now reached) (D.story disk.new)) }
     ensures suits { IfOk result (IsStaged one.now) }
+    ensures adds { D.tells → OnOk result (AddsStaged one.now.folder one.now.name (file_of one.now.new)
+        (D.story disk.old).held (D.story disk.new).held) }
     ensures finishes { D.tells → (f : AnEntry) → Passes (D.story disk.old) (D.story disk.new) (Finishes (put_by one.now f)) }
     ensures laid_out { D.tells → IsLaidOut (D.story disk.new).held }
     ensures cause { Counts (D.faults disk.old) (D.faults disk.new) (disk_failed result) }
@@ -123,6 +125,8 @@ pub(crate) fn rename_staged_record<D: Disk>(
         → IsAt p (staged ticket) (D.story disk.old) → Passes (D.story disk.old) (D.story disk.new) (Finishes p) }
     ensures laid_out { D.tells → IsLaidOut (D.story disk.new).held }
     ensures swept { D.tells → OnOk result ((D.story disk.new).held (staged_record_path name.now) ≡ None) }
+    ensures moves { D.tells → OnOk result (MovesOnly (staged_record_path name.now) (record_path name.now)
+        (D.story disk.old).held (D.story disk.new).held) }
     ensures cause { Counts (D.faults disk.old) (D.faults disk.new) (disk_failed result) }
 {
     let from = staged_record_path(alloc, name)?;
@@ -154,6 +158,8 @@ pub(crate) fn rename_staged_stamp<D: Disk>(
         → Passes (D.story disk.old) (D.story disk.new) (Finishes p) }
     ensures laid_out { D.tells → IsLaidOut (D.story disk.new).held }
     ensures swept { D.tells → OnOk result ((D.story disk.new).held (staged_path folder.now) ≡ None) }
+    ensures moves { D.tells → OnOk result (MovesOnly (staged_path folder.now) (stamp_at folder.now)
+        (D.story disk.old).held (D.story disk.new).held) }
     ensures cause { Counts (D.faults disk.old) (D.faults disk.new) (disk_failed result) }
 {
     let from = staged_path(alloc, folder)?;

@@ -6,7 +6,7 @@ ghost use Rattle.outside_traits.specs.Passes.{Passes};
 ghost use Rattle.store_opening.specs.Paths.{IsLaidOut};
 ghost use Rattle.build_store.specs.Drafts.{file_of};
 ghost use Rattle.build_store.specs.Halves.{IsOn};
-ghost use Rattle.build_store.specs.OpenOnes.{IsFit, IsOnOrDone, LeadsTo, Suits, items_of, progress_by, progress_of, put_by};
+ghost use Rattle.build_store.specs.OpenOnes.{IsFit, IsOnOrDone, KeepsEntries, LeadsTo, Suits, Sweeps, items_of, progress_by, progress_of, put_by};
 ghost use Rattle.build_store.specs.Phases.{IsFileOf};
 ghost use Rattle.build_store.specs.Pieces.{IsPublishing};
 
@@ -29,9 +29,13 @@ fn work_on<D: Disk>(
     requires laid_out { D.tells → IsLaidOut (D.story disk.old).held }
     requires on { D.tells → (f : AnEntry) → IsOn (put_by one.now f) (progress_by one.now (Reached.Working done)) (D.story disk.old) }
     ensures leads { IfOk result (λ next. LeadsTo one.now (Reached.Working done) (Some next)) }
+    ensures swept { D.tells → IfOk result (λ next. Sweeps one.now (Reached.Working done) (Some next)
+        (D.story disk.old).held (D.story disk.new).held) }
     ensures on { D.tells → IfOk result (λ next. (f : AnEntry)
         → IsFileOf one.now.name (file_of one.now.new) (D.story disk.old).held f
         → IsOn (put_by one.now f) (progress_by one.now next) (D.story disk.new)) }
+    ensures keeps { D.tells → (f : AnEntry) → Passes (D.story disk.old) (D.story disk.new)
+        (KeepsEntries (put_by one.now f) (D.story disk.old).held) }
     ensures publishing { D.tells → (f : AnEntry) → Passes (D.story disk.old) (D.story disk.new)
         (IsPublishing (put_by one.now f) (D.story disk.old).held) }
     ensures laid_out { D.tells → IsLaidOut (D.story disk.new).held }
@@ -58,10 +62,15 @@ pub(crate) fn go_on<D: Disk>(
     requires laid_out { D.tells → IsLaidOut (D.story disk.old).held }
     requires on { D.tells → (f : AnEntry) × IsOn (put_by one.now f) (progress_of one.now) (D.story disk.old) }
     ensures leads { IfOk result (LeadsTo one.now one.now.reached) }
+    ensures swept { D.tells → IfOk result (λ next. Sweeps one.now one.now.reached next
+        (D.story disk.old).held (D.story disk.new).held) }
     ensures on { D.tells → IfOk result (λ next. (f : AnEntry)
         → IsFileOf one.now.name (file_of one.now.new) (D.story disk.old).held f
         → IsOn (put_by one.now f) (progress_of one.now) (D.story disk.old)
         → IsOnOrDone (put_by one.now f) (items_of one.now) next (D.story disk.new)) }
+    ensures keeps { D.tells → (f : AnEntry)
+        → IsOn (put_by one.now f) (progress_of one.now) (D.story disk.old)
+        → Passes (D.story disk.old) (D.story disk.new) (KeepsEntries (put_by one.now f) (D.story disk.old).held) }
     ensures publishing { D.tells → (f : AnEntry)
         → IsOn (put_by one.now f) (progress_of one.now) (D.story disk.old)
         → Passes (D.story disk.old) (D.story disk.new) (IsPublishing (put_by one.now f) (D.story disk.old).held) }

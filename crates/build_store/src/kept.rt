@@ -1,8 +1,8 @@
-// Signatures that a store keeps of tasks whose publication wanted memory.
+// Signatures that a store keeps of tasks whose publication isn't done.
 use tree_model::{Bytes, Text};
 
-/// The signature of a task whose publication wanted memory once the disk was touched: the record may be there, though the index has no
-/// row of it.
+/// The signature of a task whose publication was opened and isn't done, or was given up once the disk was touched: the record may be there,
+/// though the index has no row of it.
 #[derive(Debug, Drop)]
 pub struct KeptSig {
     /// The PN of the task's recipe.

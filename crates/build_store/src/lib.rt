@@ -1,36 +1,39 @@
 //! The store of a run: what runs of plans left on a disk, and what this one puts there.
 //!
-//! A store is seen as its disk, the rows of its index, in the order in which they were added, and the signatures that it keeps of tasks
-//! whose publication wanted memory (`specs/View`). What opening a disk leaves is defined in `store_model` (`Opened`); `specs/Finding` says
-//! what is found of a task, `specs/Publication` what publishing and restoring do, and `specs/Faults` why a call is refused.
+//! A store is seen as its disk, the rows of its index, in the order in which they were added, the signatures that it keeps of tasks whose
+//! publication isn't done, the publications that it has open, and whether no call that changes the disk met a fault
+//! (`specs/View`). What opening a disk leaves is defined in `store_model` (`Opened`); `specs/Finding` says what is found of a task,
+//! `specs/Publication` what publishing and restoring do, `specs/Openings` what the calls of open publications do to the store, and
+//! `specs/Faults` why a call is refused.
+//!
+//! What a task gave is published in pieces, and several publications may be open at once. `publish_open` takes the task's stamp away and
+//! notes what is to be done by two listings, with a sync only where a stamp is held; `publish_step` does 64 items (and writes no entry that
+//! is held already), or stages record and stamp, or ends a ticket and renames one of them, or ends the last ticket. No step syncs where the
+//! system has synced since the step that said `Wait`. A step finds the publication by the task's folder and its signature, so no task is
+//! kept. With `Done` the folders hold exactly the tree, in every image, and the stamp names the record; the row is added then.
 //!
 //! Promised of each call, whatever it answers, want of memory and a failed disk included: what it did to each image that a crash left
-//! since its entry (`Passes`). A publication changes just its own paths (the task's work folder, stamp and record, the object of its
-//! unihash, and what is under `tmp/`), takes no record away, and its stamp never lies: nothing of the task was touched, or no stamp is
-//! held, or all that it tells of is there (`Publishes`). So a valid store stays valid, with the same book or with the publication's
-//! line behind it (`published_is_valid`). After `Ok` of `publish` and `true` of `restore` the folders hold exactly the tree, in every
-//! image, and the stamp names the record. What other tasks have stays, and what was available of them stays so (`KeepsOthers`,
-//! `others_stay`).
+//! since its entry (`Passes`). At each moment it is a publication (`IsPublishing`): it changes just its own paths (the task's work folder,
+//! stamp and record, the object of its unihash, and where it stages under `tmp/`), takes no record away, and its stamp never lies: nothing of
+//! the task was touched, or no stamp is held, or all that it tells of is there (`Publishes`). So a valid store stays valid, with the same book
+//! or with the publication's line behind it (`published_is_valid`). What other tasks have stays, and what was available of them stays so
+//! (`KeepsOthers`, `others_stay`); and each other publication that is open stays as it is (`open_ones_stay`). After `true` of `restore` the
+//! work folder holds exactly the tree, in every image, and the stamp names the record.
+//!
+//! Two that are open have neither a folder in common nor a record nor an object: where one would, `publish_open` answers `false`. A call that
+//! answers a fault leaves the publication closed, and no other one is opened behind it. Where no call met a fault and nothing is open,
+//! nothing is held under `tmp/` (`into_disk`).
 //!
 //! Opening keeps a valid store valid where its records can be read, with the same lines in an order that what is held decides
-//! (`opened_is_valid`), all that is available (`opened_stays`), and what a plan may reuse (`reuse_again`). The records that `publish`
-//! stores can be read. Opening makes way for folders, and leaves nothing under `tmp/` (`opened_has_way`); where nothing is held there,
-//! `publish` and `restore` leave nothing either, unless they answer with a fault (`swept`).
+//! (`opened_is_valid`), all that is available (`opened_stays`), and what a plan may reuse (`reuse_again`). The records that are stored
+//! can be read. Opening makes way for folders, and leaves nothing under `tmp/` (`opened_has_way`).
 //!
 //! Opening reads each file under `rec/` and `stamp/`. What the files under `rec/` say another thread may have worked out before (`Known`,
 //! `Ahead`): that counts only where opening reads just these files, so whatever was left there, no clause is another.
 //!
-//! Several publications may stand half staged in one store, each put in pieces: what is kept of one that is open (`specs/Halves`), what each
-//! of its calls does (`Calls`), and what follows (`Pieces`, `Ending`) are stated and proved. Each such call is a publication at each moment
-//! (`pieces_publish`); what others do leaves an open one as it is (`open_ones_stay`); its steps lead to folders that hold exactly the tree
+//! What is kept of one that is open is defined in `specs/Halves` and `Standing`, what each of its calls does in `Calls`, and what follows in
+//! `Pieces` and `Ending`: each call is a publication at each moment (`pieces_publish`), its steps lead to folders that hold exactly the tree
 //! (`steps_lead_on`), and tickets in place of syncs to a stamp that never lies (`phases_lead_on`).
-//!
-//! The calls of one open publication on a disk are written and proved too (`specs/OpenOnes`), for a store that is to have several; no call of
-//! the store makes one yet. `open_publication` takes the stamp away and notes the items by two listings, with a sync only where a stamp is
-//! held, if it is known to be settled; `go_on` does 64 items (`step`, which writes no entry that is held already), or stages record and stamp,
-//! or ends a ticket and renames one of them, and says what is reached then (`LeadsTo`). Whatever each answers, it did at each moment what a
-//! publication does (`IsPublishing`); and where all is done, each crash leaves all that the stamp tells of. `open_task`, `step_task` and
-//! `close_task` are the same for what a task gave, over the rows of an index (`specs/OpenTasks`).
 //!
 //! `known_name` gives for a PN and the bytes of a signature the name of every signature with these bytes, where it knows one; that it does
 //! isn't promised. `into_disk` gives the disk back, which in every image holds the records of all rows.
@@ -49,6 +52,7 @@ mod going;
 mod keeping;
 mod kept;
 mod laws;
+mod listed;
 mod naming;
 mod opening;
 mod pieces;
@@ -57,6 +61,7 @@ mod publication;
 mod publishing;
 mod refused;
 mod restoring;
+mod step;
 mod store;
 mod tasks;
 mod working;
@@ -67,5 +72,6 @@ pub use laws::{
     open_ones_stay, others_stay, phases_lead_on, pieces_publish, published_is_valid, steps_lead_on,
 };
 pub use refused::OpenRefused;
+pub use step::Step;
 pub use store::{Store, open_store};
 pub use store_opening::{Ahead, Known, opened_has_way, opened_is_valid, opened_stays, reuse_again};

@@ -15,8 +15,12 @@ ghost use Rattle.build_store.specs.Faults.{IsClash, IsOutside, store_failed};
 ghost use Rattle.build_store.specs.Finding.{IsOtherOrOutside};
 ghost use Rattle.build_store.specs.Restoring.{IsPutBack, PutsBack};
 ghost use Rattle.store_opening.specs.Paths.{HasPlace, IsLaidOut};
-ghost use Rattle.build_store.specs.Publication.{AreShort, HasNoObject, IsRestored, KeepsCopied, KeepsOthers, Restores};
-ghost use Rattle.store_model.specs.Opened.{HasNoLitter};
+ghost use Rattle.build_store.specs.Publication.{AreShort, HasNoObject, IsPublished, IsRestored, KeepsCopied, KeepsRight, Publishes, Restores};
+ghost use Rattle.tree_model.specs.declared.entry.Entry.{Entry as AnEntry};
+ghost use Rattle.store_model.specs.Paths.{record_path};
+ghost use Rattle.build_store.specs.Calls.{KeepsAround};
+ghost use Rattle.build_store.specs.Phases.{put_of};
+ghost use Rattle.build_store.specs.Standing.{AddsNoLitter};
 ghost use Rattle.store_model.specs.Readable.{HasShortPaths, IsRow};
 ghost use Rattle.store_opening.specs.Sound.{IsKept};
 ghost use Rattle.build_store.specs.View.{signed_by};
@@ -25,14 +29,15 @@ use crate::comparing::compare_row;
 use crate::fault::StoreFault;
 use crate::finding::are_short;
 use crate::naming::name_of_sig;
-use crate::publishing::put_task;
+use crate::places::task_folder;
+use crate::publication::put;
 use hash_equiv::Index;
 use meta_model::PlanTask;
 use outside_traits::{Disk, DiskFault};
 use sstate_objects::read_verified;
 use std::alloc::Global;
 use store_model::{EquivRow, SigRecord};
-use tree_model::Tree;
+use tree_model::{Hash, Tree};
 
 /// The tree, where its paths are short.
 fn short_only(tree: Tree) -> Option<Tree>
@@ -65,6 +70,40 @@ fn object_of<D: Disk>(
     }
 }
 
+/// Puts a task's tree, under the name of its record, which is stored.
+fn put_task<D: Disk>(
+    alloc: Global,
+    disk: &mut D,
+    task: &PlanTask,
+    name: &Hash,
+    tree: &Tree,
+) -> Result<(), StoreFault>
+    requires reach { 3600 ≤ D.reach }
+    requires place { HasPlace task.now }
+    requires short { AreShort tree.now }
+    requires laid_out { D.tells → IsLaidOut (D.story disk.old).held }
+    ensures published { D.tells → OnOk result ((f : AnEntry) → (D.story disk.old).held (record_path name.now) ≡ Some f
+        → EachNow (D.story disk.new) (IsPublished (put_of (task_folder task.now) name.now tree.now None None f))) }
+    ensures swept { D.tells → OnOk result (AddsNoLitter (D.story disk.old).held (D.story disk.new).held) }
+    ensures others { D.tells → (f : AnEntry) → (D.story disk.old).held (record_path name.now) ≡ Some f
+        → Passes (D.story disk.old) (D.story disk.new)
+        (Publishes (put_of (task_folder task.now) name.now tree.now None None f)) }
+    ensures laid_out { D.tells → IsLaidOut (D.story disk.new).held }
+    ensures refused { IfErr result IsOutside }
+    ensures round { D.tells → Passes (D.story disk.old) (D.story disk.new)
+        (KeepsAround (task_folder task.now) (D.story disk.old).held) }
+    ensures right { D.tells → Passes (D.story disk.old) (D.story disk.new)
+        (KeepsRight (task_folder task.now) None tree.now (D.story disk.old).held) }
+    ensures cause { Counts (D.faults disk.old) (D.faults disk.new) (store_failed result) }
+{
+    let folder = task_folder(alloc, task)?;
+    match put(alloc, disk, folder.as_str(), name, tree) {
+        Ok(()) => Ok(()),
+        Err(DiskFault::Failed) => Err(StoreFault::Disk),
+        Err(DiskFault::Memory) => Err(StoreFault::Memory),
+    }
+}
+
 /// Restores a task whose record has this row.
 fn restore_by<D: Disk>(
     alloc: Global,
@@ -81,19 +120,19 @@ fn restore_by<D: Disk>(
         (Matches (D.story disk.old).held (object_folder row.now.unihash) row.now.manifest → ⊥)) }
     ensures unchanged { D.tells → IfOk result (λ found. OnFalse found
         (Passes (D.story disk.old) (D.story disk.new) Same)) }
-    ensures swept { D.tells → OnOk result (HasNoLitter (D.story disk.old).held → HasNoLitter (D.story disk.new).held) }
+    ensures swept { D.tells → OnOk result (AddsNoLitter (D.story disk.old).held (D.story disk.new).held) }
     ensures images { D.tells → PutsBack task.now row.now (D.story disk.old) (D.story disk.new) }
     ensures laid_out { D.tells → IsLaidOut (D.story disk.new).held }
     ensures refused { IfErr result IsOutside }
     ensures round { D.tells → Passes (D.story disk.old) (D.story disk.new)
-        (KeepsOthers (task_folder task.now) None (D.story disk.old).held) }
+        (KeepsAround (task_folder task.now) (D.story disk.old).held) }
     ensures right { D.tells → Passes (D.story disk.old) (D.story disk.new)
         (KeepsCopied (task_folder task.now) row.now.unihash (D.story disk.old).held) }
     ensures cause { Counts (D.faults disk.old) (D.faults disk.new) (store_failed result) }
 {
     match object_of(alloc, disk, row) {
         Ok(Some(tree)) => {
-            put_task(alloc, disk, task, &row.name, &tree, &None, &None)?;
+            put_task(alloc, disk, task, &row.name, &tree)?;
             Ok(true)
         }
         Ok(None) => Ok(false),
@@ -119,14 +158,14 @@ fn restore_at<D: Disk>(
         (Matches (D.story disk.old).held (object_folder row.now.unihash) row.now.manifest → ⊥)) }
     ensures unchanged { D.tells → IfOk result (λ found. OnFalse found
         (Passes (D.story disk.old) (D.story disk.new) Same)) }
-    ensures swept { D.tells → OnOk result (HasNoLitter (D.story disk.old).held → HasNoLitter (D.story disk.new).held) }
+    ensures swept { D.tells → OnOk result (AddsNoLitter (D.story disk.old).held (D.story disk.new).held) }
     ensures clear { OnOk result (row.now.sig ≡ sig.now) }
     ensures images { D.tells → PutsBack task.now row.now (D.story disk.old) (D.story disk.new) }
     ensures other { D.tells → (row.now.sig ≡ sig.now → ⊥) → Passes (D.story disk.old) (D.story disk.new) Same }
     ensures laid_out { D.tells → IsLaidOut (D.story disk.new).held }
     ensures refused { IfErr result (IsOtherOrOutside row.now sig.now) }
     ensures round { D.tells → Passes (D.story disk.old) (D.story disk.new)
-        (KeepsOthers (task_folder task.now) None (D.story disk.old).held) }
+        (KeepsAround (task_folder task.now) (D.story disk.old).held) }
     ensures right { D.tells → Passes (D.story disk.old) (D.story disk.new)
         (KeepsCopied (task_folder task.now) row.now.unihash (D.story disk.old).held) }
     ensures cause { Counts (D.faults disk.old) (D.faults disk.new) (store_failed result) }
@@ -153,14 +192,14 @@ pub(crate) fn restore<D: Disk>(
         (HasNoObject (D.story disk.old).held index.now (signed_by task.now sig.now))) }
     ensures unchanged { D.tells → IfOk result (λ found. OnFalse found
         (Passes (D.story disk.old) (D.story disk.new) Same)) }
-    ensures swept { D.tells → OnOk result (HasNoLitter (D.story disk.old).held → HasNoLitter (D.story disk.new).held) }
+    ensures swept { D.tells → OnOk result (AddsNoLitter (D.story disk.old).held (D.story disk.new).held) }
     ensures clear { OnOk result (IsClear index.now (name_of sig.now) (signature_bytes sig.now)) }
     ensures refused { IfErr result (IsClash index.now (name_of sig.now) (signature_bytes sig.now)) }
     ensures images { D.tells → Passes (D.story disk.old) (D.story disk.new)
         (Restores (D.story disk.old).held index.now (signed_by task.now sig.now)) }
     ensures keeps { D.tells → IsKept index.now (D.story disk.new) }
     ensures round { D.tells → Passes (D.story disk.old) (D.story disk.new)
-        (KeepsOthers (task_folder task.now) None (D.story disk.old).held) }
+        (KeepsAround (task_folder task.now) (D.story disk.old).held) }
     ensures right { D.tells → (row : ARow) → row_at index.now (name_of sig.now) ≡ Some row
         → Passes (D.story disk.old) (D.story disk.new)
         (KeepsCopied (task_folder task.now) row.unihash (D.story disk.old).held) }

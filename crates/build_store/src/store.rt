@@ -1,6 +1,6 @@
 // The store of a run over a disk.
-ghost use Rattle.std.specs.Prelude.{◌≡◌, ◌≤◌, ◌-◌, ◌^◌, ◌⊎◌, [], min, false, IfOk, IfErr, None, Some, OnOk, OnErr, MatchBool, length, IfSome};
-ghost use Rattle.std.specs.Bool.{OnFalse};
+ghost use Rattle.std.specs.Prelude.{◌≡◌, ◌≢◌, ◌≤◌, ◌-◌, ◌^◌, ◌⊎◌, ℕ, List, [], is_some, min, false, true, IfOk, IfErr, None, Some, OnOk, OnErr, MatchBool, length, IfSome};
+ghost use Rattle.std.specs.Bool.{OnFalse, OnTrue};
 ghost use Rattle.std.specs.Option.{option_map};
 ghost use Rattle.tree_model.specs.Manifest.{manifest_lines};
 ghost use Rattle.outside_traits.specs.Fault.{Counts};
@@ -18,17 +18,24 @@ ghost use Rattle.store_opening.specs.Opening.{Clears};
 ghost use Rattle.store_model.specs.Opened.{HasNoLitter, IsOpened};
 ghost use Rattle.build_store.specs.Outcome.{disk_of, open_failed};
 ghost use Rattle.store_opening.specs.Paths.{HasPlace};
-ghost use Rattle.build_store.specs.Publication.{AreShort, HasNoObject, HoldsObject, IsAgreed, IsPublished, IsRestored, KeepsCopied, KeepsOthers, KeepsRight, Publishes, Restores, SameObjects, line_for, object_for, publication, rows_with, unihash_for};
+ghost use Rattle.build_store.specs.Publication.{AreShort, HasNoObject, IsRestored, KeepsCopied, KeepsOthers, Restores, line_for, publication};
+ghost use Rattle.build_store.specs.Openings.{IsOpen, LandsOn, OpensTask, SomeOpen, NoneNamed, StepsTo};
+ghost use Rattle.build_store.specs.OpenOnes.{KeepsEntries};
+ghost use Rattle.build_store.specs.Pieces.{IsPublishing};
+ghost use Rattle.meta_model.specs.CleanBuild.{Entries};
 ghost use Rattle.store_model.specs.Readable.{HoldsRecords, IsReadable};
-ghost use Rattle.build_store.specs.View.{IsSignatureOf, IsWanting, SameBooks, kept_with, kept_without, signed_by};
+ghost use Rattle.build_store.specs.View.{IsSignatureOf, IsWanting, NothingOpen, SameBooks, SameRows, opened_at, signed_by};
 
 use crate::comparing::compare_at;
 use crate::fault::StoreFault;
 use crate::finding::{available, output};
 use crate::kept::KeptSig;
-use crate::publishing::publish;
+use crate::listed::{place_of, place_signed};
+use crate::pieces::OpenPublication;
 use crate::refused::OpenRefused;
 use crate::restoring::restore;
+use crate::step::Step;
+use crate::tasks::{open_beside, prepare, step_at};
 use hash_equiv::Index;
 use meta_model::{Avail, PlanTask};
 use outside_traits::{Disk, DiskFault};
@@ -38,25 +45,32 @@ use store_model::SigRecord;
 use store_opening::{Ahead, open_disk};
 use tree_model::{Hash, Manifest, Tree};
 
-/// What runs of plans left on a disk, with the index of its records. Contracts see the disk, the rows and the kept signatures.
+/// What runs of plans left on a disk, with the index of its records. Contracts see the disk, the rows, the kept signatures, what is open, and
+/// whether no call that changes the disk met a fault.
 #[derive(Drop)]
 pub struct Store<D: Disk> {
     disk: D,
     index: Index,
     kept: Vec<KeptSig>,
+    open_ones: Vec<OpenPublication>,
+    faultless: bool,
 }
 
 impl<D: Disk> Model for Store<D> {
-    ghost use Rattle.build_store.specs.View.{View};
-    ghost use Rattle.store_opening.specs.Sound.{IsKept};
-    ghost use Rattle.store_model.specs.Readable.{IsRow};
+    ghost use Rattle.std.specs.Prelude.{◌≡◌, true};
     ghost use Rattle.std.specs.List.{AllByRecursion};
+    ghost use Rattle.store_model.specs.Readable.{IsRow};
+    ghost use Rattle.store_opening.specs.Sound.{IsKept};
+    ghost use Rattle.build_store.specs.Standing.{AreOn, AreOpen, IsTidy};
+    ghost use Rattle.build_store.specs.View.{View, view_of};
 
     ghost Value = { View D };
 
-    ghost view = { λ s. record { disk = s.disk; rows = s.index; kept = s.kept.items } };
+    ghost view = { λ s. view_of s.disk s.index s.kept.items s.open_ones.items s.faultless };
 
-    ghost invariant = { λ s. AllByRecursion IsRow s.index × (D.tells → IsKept s.index (D.story s.disk)) };
+    ghost invariant = { λ s. AllByRecursion IsRow s.index × (D.tells → IsKept s.index (D.story s.disk))
+        × AreOpen s.index s.open_ones.items × (D.tells → AreOn s.index (D.story s.disk) s.open_ones.items)
+        × (D.tells → s.faultless ≡ true → IsTidy s.open_ones.items (D.story s.disk)) };
 }
 
 /// Opens the store that a disk holds, whatever that is.
@@ -80,6 +94,8 @@ pub fn open_store<D: Disk>(
     ensures durable { D.tells → IfOk result (λ store. EachNow (D.story store.disk)
         (λ image. image ≡ (D.story store.disk).held)) }
     ensures kept { IfOk result (λ store. store.kept ≡ []) }
+    ensures nothing { IfOk result (λ store. NothingOpen store.opened) }
+    ensures faultless { IfOk result (λ store. store.faultless ≡ true) }
     ensures fault { IfErr result (λ refused. IsOutside refused.fault) }
 
     // Whatever it answers.
@@ -92,6 +108,8 @@ pub fn open_store<D: Disk>(
             disk,
             index,
             kept: Vec::new(alloc),
+            open_ones: Vec::new(alloc),
+            faultless: true,
         }),
         Err(DiskFault::Failed) => Err(OpenRefused {
             disk,
@@ -159,8 +177,15 @@ impl<D: Disk> Store<D> {
         }
     }
 
+    /// Whether a publication of the task is open, with whatever signature. No memory.
+    pub fn is_open(&self, task: &PlanTask) -> bool
+        ensures { result ≡ is_some (opened_at self.now.opened (task_folder task.now)) }
+    {
+        place_of(self.open_ones.as_slice(), task).is_some()
+    }
+
     /// Makes a task's work folder exactly what its shared state object holds, and stamps it. `false` exactly where the task's record isn't
-    /// stored or its object doesn't match; then nothing changes.
+    /// stored or its object doesn't match; then nothing changes. No publication of the task may be open.
     ///
     /// `Collision` comes exactly where the row of the signature's name has another signature. After want of memory the stamp may be gone
     /// and the work folder changed. Whatever it answers, no path of the work folder changes at which it holds what the object has there.
@@ -173,19 +198,19 @@ impl<D: Disk> Store<D> {
         requires reach { 3600 ≤ D.reach }
         requires place { HasPlace task.now }
         requires sig { IsSpelled sig.now }
+        requires closed { opened_at self.old.opened (task_folder task.now) ≡ None }
         ensures restored { D.tells → IfOk result (λ found. MatchBool found
             (EachNow (D.story self.new.disk) (IsRestored (D.story self.old.disk).held self.old.rows
             (signed_by task.now sig.now))) (HasNoObject (D.story self.old.disk).held self.old.rows
             (signed_by task.now sig.now))) }
         ensures unchanged { D.tells → IfOk result (λ found. OnFalse found
             (Passes (D.story self.old.disk) (D.story self.new.disk) Same)) }
-        ensures swept { D.tells → OnOk result (HasNoLitter (D.story self.old.disk).held
-            → HasNoLitter (D.story self.new.disk).held) }
         ensures clear { OnOk result (IsClear self.old.rows (name_of sig.now) (signature_bytes sig.now)) }
         ensures refused { IfErr result (IsClash self.old.rows (name_of sig.now) (signature_bytes sig.now)) }
+        ensures faultless { OnOk result (self.new.faultless ≡ self.old.faultless) }
 
         // Whatever it answers.
-        ensures same { SameBooks self.old self.new }
+        ensures same { SameRows self.old self.new }
         ensures images { D.tells → Passes (D.story self.old.disk) (D.story self.new.disk)
             (Restores (D.story self.old.disk).held self.old.rows (signed_by task.now sig.now)) }
         ensures others { D.tells → Passes (D.story self.old.disk) (D.story self.new.disk)
@@ -195,72 +220,148 @@ impl<D: Disk> Store<D> {
             (KeepsCopied (task_folder task.now) row.unihash (D.story self.old.disk).held) }
         ensures cause { Counts (D.faults self.old.disk) (D.faults self.new.disk) (store_failed result) }
     {
-        restore(alloc, &mut self.disk, &self.index, task, sig)
+        match restore(alloc, &mut self.disk, &self.index, task, sig) {
+            Ok(found) => Ok(found),
+            Err(fault) => {
+                self.faultless = false;
+                Err(fault)
+            }
+        }
     }
 
-    /// Puts what a task gave, a tree with its manifest: its work folder becomes the tree, and for a task of the shared state so does the
-    /// object of its unihash; its record is stored, unless it is, and its stamp names the record. The answer is the task's unihash.
+    /// Opens the publication of what a task gave, a tree with its manifest: the task's stamp is taken away, and what is to be done is noted by two listings.
+    /// `publish_step` does that, piece by piece: the work folder becomes the tree, and for a task of the shared state so does the object of its unihash; the
+    /// record is stored, unless it is, and the stamp names it. No publication of the task may be open. (Own rule.)
+    ///
+    /// `false`: another one is open which has the same record or the same object, that is, digests meet; nothing was changed, and it may be tried again.
     ///
     /// `Collision` comes exactly where the row of the signature's name has another signature, `Unsteady` exactly where it has the
-    /// signature and another manifest; then nothing changes. After want of memory the stamp may be gone, the task's folders changed and
-    /// the record stored; the rows are as before, and the signature is kept, if the disk was touched. Unless the disk is as it was, the
-    /// task's record is one that can be read again. Whatever it answers, no path of the work folder or the object changes at which what the
-    /// tree has there was held: an entry that is held isn't written again.
-    pub fn publish(
+    /// signature and another manifest; then nothing changes. After want of memory the stamp may be gone; the rows are as before, and the signature is kept,
+    /// if the disk was touched. Want of memory is also the answer where a call that changes the disk met a fault before. Unless the disk is as it was, the
+    /// task's record is one that can be read again.
+    pub fn publish_open(
         &mut self,
         alloc: Global,
         task: &PlanTask,
         sig: &SigRecord,
-        tree: &Tree,
+        tree: Tree,
         manifest: &Manifest,
-    ) -> Result<Hash, StoreFault>
+    ) -> Result<bool, StoreFault>
         requires reach { 3600 ≤ D.reach }
         requires place { HasPlace task.now }
         requires sig { IsSpelled sig.now }
         requires named { IsSignatureOf task.now sig.now }
-        requires short { AreShort tree.now }
-        requires listed { manifest.now ≡ manifest_lines tree.now }
-        ensures unihash { IfOk result (λ unihash. unihash
-            ≡ unihash_for self.old.rows (signed_by task.now sig.now) tree.now) }
-        ensures published { D.tells → OnOk result (EachNow (D.story self.new.disk)
-            (IsPublished (publication self.old.rows (signed_by task.now sig.now) tree.now))) }
-        ensures swept { D.tells → OnOk result (HasNoLitter (D.story self.old.disk).held
-            → HasNoLitter (D.story self.new.disk).held) }
-        ensures agrees { OnOk result (IsAgreed self.old.rows (signed_by task.now sig.now) tree.now) }
-        ensures rows { OnOk result (self.new.rows ≡ rows_with self.old.rows (signed_by task.now sig.now) tree.now) }
-        ensures kept { OnOk result (self.new.kept ≡ kept_without (signed_by task.now sig.now) self.old.kept) }
-        ensures refused { IfErr result (IsRefusal self.old.rows (signed_by task.now sig.now) tree.now) }
-        ensures refused_rows { OnErr result (self.new.rows ≡ self.old.rows) }
+        requires short { AreShort tree }
+        requires listed { manifest.now ≡ manifest_lines tree }
+        requires closed { opened_at self.old.opened (task_folder task.now) ≡ None }
+        ensures opens { IfOk result (λ is_open. OnTrue is_open (OpensTask self.old self.new (signed_by task.now sig.now) tree)) }
+        ensures busy { IfOk result (λ is_open. OnFalse is_open ((self.new ≡ self.old) × SomeOpen self.old.opened)) }
+        ensures refused { IfErr result (IsRefusal self.old.rows (signed_by task.now sig.now) tree) }
+        ensures refused_open { OnErr result (self.new.opened ≡ self.old.opened) }
         ensures unchanged { IfErr result (λ fault. OnDifference fault (self.new ≡ self.old)) }
         ensures wanting { IfErr result (λ fault. OnMemory fault
             (IsWanting self.old self.new (signed_by task.now sig.now))) }
 
         // Whatever it answers.
-        ensures images { D.tells → Passes (D.story self.old.disk) (D.story self.new.disk)
-            (Publishes (publication self.old.rows (signed_by task.now sig.now) tree.now)) }
-        ensures unwritten { D.tells → HoldsObject (D.story self.old.disk).held
-            (object_for self.old.rows (signed_by task.now sig.now) tree.now) tree.now
-            → Passes (D.story self.old.disk) (D.story self.new.disk) SameObjects }
-        ensures readable { IsReadable (line_for self.old.rows (signed_by task.now sig.now) tree.now)
+        ensures rows { self.new.rows ≡ self.old.rows }
+        ensures apart { (self.new ≡ self.old) ⊎ NoneNamed self.old.opened (name_of sig.now) }
+        ensures publishing { D.tells → Passes (D.story self.old.disk) (D.story self.new.disk)
+            (IsPublishing (publication self.old.rows (signed_by task.now sig.now) tree) (D.story self.old.disk).held) }
+        ensures readable { IsReadable (line_for self.old.rows (signed_by task.now sig.now) tree)
             ⊎ (self.new.disk ≡ self.old.disk) }
-        ensures others { D.tells → Passes (D.story self.old.disk) (D.story self.new.disk)
-            (KeepsOthers (task_folder task.now) (object_for self.old.rows (signed_by task.now sig.now) tree.now)
-            (D.story self.old.disk).held) }
-        ensures right { D.tells → Passes (D.story self.old.disk) (D.story self.new.disk)
-            (KeepsRight (task_folder task.now) (object_for self.old.rows (signed_by task.now sig.now) tree.now) tree.now
-            (D.story self.old.disk).held) }
         ensures cause { Counts (D.faults self.old.disk) (D.faults self.new.disk) (store_failed result) }
     {
-        publish(
+        if !self.faultless {
+            return Err(StoreFault::Memory);
+        }
+        match prepare(
             alloc,
-            &mut self.disk,
-            &mut self.index,
+            &self.index,
             &mut self.kept,
+            &mut self.open_ones,
             task,
             sig,
-            tree,
             manifest,
-        )
+        )? {
+            Some(draft) => {
+                let done = open_beside(
+                    alloc,
+                    &mut self.disk,
+                    &self.index,
+                    &mut self.open_ones,
+                    task,
+                    sig,
+                    draft,
+                    tree,
+                );
+                match done {
+                    Ok(()) => Ok(true),
+                    Err(fault) => {
+                        self.faultless = false;
+                        Err(fault)
+                    }
+                }
+            }
+            None => Ok(false),
+        }
+    }
+
+    /// Goes on with the open publication of a task that has this signature: removes or writes at most 64 entries of its folders, or stages record and stamp,
+    /// or ends a ticket and renames one of them, or ends the last ticket. An entry that is held already isn't written, and no step syncs where `synced`: that is
+    /// what `Bench::wait_synced` answered behind the step that came to `Wait`. With `Done` the task's folders hold exactly the tree, whatever a crash leaves.
+    pub fn publish_step(
+        &mut self,
+        alloc: Global,
+        task: &PlanTask,
+        sig: &SigRecord,
+        synced: bool,
+    ) -> Result<Step, StoreFault>
+        requires reach { 3600 ≤ D.reach }
+        requires place { HasPlace task.now }
+        requires sig { IsSpelled sig.now }
+        requires named { IsSignatureOf task.now sig.now }
+        ensures steps { IfOk result (StepsTo self.old self.new (signed_by task.now sig.now)) }
+        ensures published { D.tells → IfOk result (LandsOn (D.story self.new.disk) self.old.rows self.old.opened
+            (signed_by task.now sig.now)) }
+        ensures refused { IfErr result IsOutside }
+        ensures refused_rows { OnErr result ((self.new.rows ≡ self.old.rows) × (self.new.kept ≡ self.old.kept)) }
+
+        // Whatever it answers.
+        ensures touched { (self.new ≡ self.old)
+            ⊎ ((tree : Entries) × IsOpen self.old.opened (signed_by task.now sig.now) tree) }
+        ensures others { (beside : List ℕ) → beside ≢ task_folder task.now
+            → opened_at self.new.opened beside ≡ opened_at self.old.opened beside }
+        ensures entries { D.tells → (tree : Entries) → IsOpen self.old.opened (signed_by task.now sig.now) tree
+            → Passes (D.story self.old.disk) (D.story self.new.disk)
+            (KeepsEntries (publication self.old.rows (signed_by task.now sig.now) tree) (D.story self.old.disk).held) }
+        ensures publishing { D.tells → (tree : Entries) → IsOpen self.old.opened (signed_by task.now sig.now) tree
+            → Passes (D.story self.old.disk) (D.story self.new.disk)
+            (IsPublishing (publication self.old.rows (signed_by task.now sig.now) tree) (D.story self.old.disk).held) }
+        ensures cause { Counts (D.faults self.old.disk) (D.faults self.new.disk) (store_failed result) }
+    {
+        match place_signed(alloc, self.open_ones.as_slice(), task, sig)? {
+            Some(place) => {
+                let done = step_at(
+                    alloc,
+                    &mut self.disk,
+                    &mut self.index,
+                    &mut self.kept,
+                    &mut self.open_ones,
+                    place,
+                    task,
+                    sig,
+                    synced,
+                );
+                match done {
+                    Ok(step) => Ok(step),
+                    Err(fault) => {
+                        self.faultless = false;
+                        Err(fault)
+                    }
+                }
+            }
+            None => Ok(Step::NotOpen),
+        }
     }
 
     /// The name of a signature, which has this PN, by its bytes, where one of the PN's first rows has them. No memory.
@@ -284,15 +385,19 @@ impl<D: Disk> Store<D> {
         self.disk.moment()
     }
 
-    /// The disk, which holds the records of all rows, whatever a crash leaves. No memory.
+    /// The disk, which holds the records of all rows, whatever a crash leaves; and nothing under `tmp/`, where nothing is open and no call that changes the disk
+    /// met a fault. No memory.
     pub fn into_disk(self) -> D
         ensures disk { result ≡ self.disk }
         ensures records { D.tells → HoldsRecords (D.story result) self.rows }
+        ensures swept { D.tells → self.faultless ≡ true → NothingOpen self.opened → HasNoLitter (D.story result).held }
     {
         let Store {
             disk,
             index: _,
             kept: _,
+            open_ones: _,
+            faultless: _,
         } = self;
         disk
     }

@@ -1,9 +1,11 @@
 // Open publications of tasks.
-ghost use Rattle.std.specs.Prelude.{◌≡◌, ◌≤◌, ◌⊎◌, IfErr, IfOk, IfSome, IsTrue, OnErr, OnOk, false};
+ghost use Rattle.std.specs.Prelude.{◌≡◌, ◌≢◌, ◌≤◌, ◌<◌, ◌++◌, ◌∷◌, ◌⊎◌, Bool, IfErr, IfNone, IfOk, IfSome, List, MatchOption, None, OnErr, OnOk, ℕ, false, length};
 ghost use Rattle.std.specs.List.{AllByRecursion};
+ghost use Rattle.std.specs.Vec.{vec_capacity, vec_len};
 ghost use Rattle.tree_model.specs.Manifest.{manifest_lines};
 ghost use Rattle.outside_traits.specs.Fault.{Counts};
 ghost use Rattle.outside_traits.specs.Passes.{EachNow, Passes};
+ghost use Rattle.outside_traits.specs.Story.{Story};
 ghost use Rattle.meta_model.specs.CleanBuild.{Entries};
 ghost use Rattle.store_model.specs.Available.{task_folder};
 ghost use Rattle.store_model.specs.Publication.{stamp_at};
@@ -12,24 +14,31 @@ ghost use Rattle.store_model.specs.Spelled.{IsSpelled};
 ghost use Rattle.store_model.specs.Spelling.{signature_bytes};
 ghost use Rattle.store_opening.specs.Paths.{HasPlace};
 ghost use Rattle.store_opening.specs.Sound.{IsKept};
+ghost use Rattle.sig_gen.specs.Sound.{Spells};
+ghost use Rattle.build_store.specs.declared.pieces.OpenPublication.{OpenPublication as AOne};
+ghost use Rattle.build_store.specs.declared.pieces.Reached.TheVariants as reached;
 ghost use Rattle.build_store.specs.Drafts.{IsDraft};
-ghost use Rattle.build_store.specs.Faults.{IsOutside, IsRefusal, OnDifference, OnMemory, store_failed};
+ghost use Rattle.build_store.specs.Faults.{IsOutside, IsRefusal, store_failed};
 ghost use Rattle.build_store.specs.Halves.{IsOn};
-ghost use Rattle.build_store.specs.OpenOnes.{IsOnOrDone, LeadsTo, at_next, items_of, progress_of};
+ghost use Rattle.build_store.specs.OpenOnes.{IsOnOrDone, KeepsEntries, LeadsTo, Sweeps, at_next, items_of, progress_of};
 ghost use Rattle.build_store.specs.OpenTasks.{IsOpenOf};
+ghost use Rattle.build_store.specs.Openings.{IsGoing, IsOpen, LandsOn, OpensOne, SomeOpen, StepsTo, open_view};
 ghost use Rattle.build_store.specs.Pieces.{IsPublishing};
-ghost use Rattle.build_store.specs.Publication.{AreShort, IsAgreed, line_for, publication, rows_with, unihash_for};
-ghost use Rattle.build_store.specs.View.{kept_with, kept_without, signed_by};
+ghost use Rattle.build_store.specs.Publication.{AreShort, IsAgreed, IsPublished, line_for, object_for, publication, rows_with, unihash_for};
+ghost use Rattle.build_store.specs.Standing.{AddsNoLitter, AreOn, AreOpen, IsClearOf, IsTidy, StandsAt};
+ghost use Rattle.build_store.specs.View.{IsSignatureOf, kept_with, kept_without, open_in, opened_at, signed_by, view_of};
 
 use crate::drafting::{Draft, draft_of};
 use crate::fault::StoreFault;
 use crate::going::go_on;
 use crate::keeping::{forget, keep};
 use crate::kept::KeptSig;
+use crate::listed::is_busy;
 use crate::opening::open_publication;
 use crate::pieces::{OpenPublication, Reached};
 use crate::places::task_folder;
 use crate::publishing::{add_row, object_of, parts_of};
+use crate::step::Step;
 use hash_equiv::Index;
 use meta_model::PlanTask;
 use outside_traits::Disk;
@@ -37,79 +46,133 @@ use std::alloc::Global;
 use store_model::SigRecord;
 use tree_model::{Hash, Manifest, Mem, Tree};
 
-/// What a publication of a task is to put; its signature is kept from then on.
-fn draft_kept(
+/// What a publication of a task is to put, with room for it, and its signature is kept from then on. Nothing, where an open one has the same record or
+/// the same object.
+pub(crate) fn prepare(
     alloc: Global,
     index: &Index,
     kept: &mut Vec<KeptSig>,
+    open_ones: &mut Vec<OpenPublication>,
     task: &PlanTask,
     sig: &SigRecord,
     manifest: &Manifest,
-) -> Result<Draft, StoreFault>
+) -> Result<Option<Draft>, StoreFault>
     requires spelled { IsSpelled sig.now }
     requires rows { AllByRecursion IsRow index.now }
-    ensures bytes { IfOk result (λ draft. draft.bytes ≡ signature_bytes sig.now) }
-    ensures draft { IfOk result (λ draft. (tree : Entries) → manifest.now ≡ manifest_lines tree
-        → IsDraft index.now (signed_by task.now sig.now) tree draft) }
-    ensures kept { OnOk result (kept.new.items ≡ kept_with (signed_by task.now sig.now) kept.old.items) }
+    ensures bytes { IfOk result (λ found. IfSome found (λ draft. draft.bytes ≡ signature_bytes sig.now)) }
+    ensures draft { IfOk result (λ found. IfSome found (λ draft. (tree : Entries) → manifest.now ≡ manifest_lines tree
+        → IsDraft index.now (signed_by task.now sig.now) tree draft)) }
+    ensures apart { IfOk result (λ found. IfSome found (λ draft. (tree : Entries) → manifest.now ≡ manifest_lines tree
+        → AllByRecursion (IsClearOf draft.name (object_for index.now (signed_by task.now sig.now) tree))
+        open_ones.old.items)) }
+    ensures kept { IfOk result (λ found. MatchOption found (kept.new.items ≡ kept.old.items)
+        (λ draft. kept.new.items ≡ kept_with (signed_by task.now sig.now) kept.old.items)) }
+    ensures room { IfOk result (λ found. IfSome found (λ draft. vec_len open_ones.new < vec_capacity open_ones.new)) }
+    ensures busy { IfOk result (λ found. IfNone found (SomeOpen (open_in open_ones.old.items))) }
+    ensures listed { open_ones.new.items ≡ open_ones.old.items }
     ensures unkept { OnErr result (kept.new.items ≡ kept.old.items) }
     ensures refused { IfErr result (λ fault. (tree : Entries) → manifest.now ≡ manifest_lines tree
         → IsRefusal index.now (signed_by task.now sig.now) tree fault) }
     ensures inside { store_failed result ≡ false }
 {
     let draft = draft_of(alloc, index, task, sig, manifest)?;
+    let object = object_of(task, draft.unihash);
+    if is_busy(open_ones.as_slice(), &draft.name, &object) {
+        return Ok(None);
+    }
+    open_ones.reserve(1)?;
     keep(alloc, kept, task, draft.bytes.as_slice())?;
-    Ok(draft)
+    Ok(Some(draft))
 }
 
 /// Opens the publication of what a task gave.
-pub(crate) fn open_task<D: Disk>(
+fn open_task<D: Disk>(
     alloc: Global,
     disk: &mut D,
     index: &Index,
-    kept: &mut Vec<KeptSig>,
     task: &PlanTask,
     sig: &SigRecord,
+    draft: Draft,
     tree: Tree,
-    manifest: &Manifest,
-    settled: bool,
 ) -> Result<OpenPublication, StoreFault>
     requires reach { 3600 ≤ D.reach }
     requires place { HasPlace task.now }
     requires spelled { IsSpelled sig.now }
     requires short { AreShort tree }
-    requires listed { manifest.now ≡ manifest_lines tree }
+    requires draft { IsDraft index.now (signed_by task.now sig.now) tree draft }
+    requires bytes { draft.bytes ≡ signature_bytes sig.now }
     requires rows { AllByRecursion IsRow index.now }
     requires keeps { D.tells → IsKept index.now (D.story disk.old) }
-    requires settled { D.tells → IsTrue settled → EachNow (D.story disk.old)
+    requires settled { D.tells → EachNow (D.story disk.old)
         (λ image. image (stamp_at (task_folder task.now)) ≡ (D.story disk.old).held (stamp_at (task_folder task.now))) }
     ensures of { IfOk result (IsOpenOf index.now (signed_by task.now sig.now) tree) }
+    ensures reached { IfOk result (λ one. one.reached ≡ reached.Working 0) }
     ensures opened { D.tells → IfOk result (λ one. IsOn (publication index.now (signed_by task.now sig.now) tree)
         (progress_of one) (D.story disk.new)) }
-    ensures agrees { OnOk result (IsAgreed index.now (signed_by task.now sig.now) tree) }
-    ensures kept { OnOk result (kept.new.items ≡ kept_with (signed_by task.now sig.now) kept.old.items) }
-    ensures refused { IfErr result (IsRefusal index.now (signed_by task.now sig.now) tree) }
-    ensures unchanged { IfErr result (λ fault. OnDifference fault
-        ((disk.new ≡ disk.old) × (kept.new.items ≡ kept.old.items))) }
-    ensures wanting { IfErr result (λ fault. OnMemory fault
-        (((disk.new ≡ disk.old) × (kept.new.items ≡ kept.old.items))
-        ⊎ (kept.new.items ≡ kept_with (signed_by task.now sig.now) kept.old.items))) }
+    ensures refused { IfErr result IsOutside }
+    ensures swept { D.tells → OnOk result (AddsNoLitter (D.story disk.old).held (D.story disk.new).held) }
     ensures publishing { D.tells → Passes (D.story disk.old) (D.story disk.new)
         (IsPublishing (publication index.now (signed_by task.now sig.now) tree) (D.story disk.old).held) }
+    ensures line { OnOk result (IsReadable (line_for index.now (signed_by task.now sig.now) tree)) }
     ensures readable { IsReadable (line_for index.now (signed_by task.now sig.now) tree) ⊎ (disk.new ≡ disk.old) }
     ensures keeps { D.tells → IsKept index.now (D.story disk.new) }
     ensures cause { Counts (D.faults disk.old) (D.faults disk.new) (store_failed result) }
 {
     let _entries = tree.entries();
-    let draft = draft_kept(alloc, index, kept, task, sig, manifest)?;
     let folder = task_folder(alloc, task)?;
     let object = object_of(task, draft.unihash);
-    Ok(open_publication(alloc, disk, folder, object, draft, tree, settled)?)
+    Ok(open_publication(alloc, disk, folder, object, draft, tree, true)?)
+}
+
+/// Opens the publication of what a task gave, beside those that are open. There is room for it.
+pub(crate) fn open_beside<D: Disk>(
+    alloc: Global,
+    disk: &mut D,
+    index: &Index,
+    open_ones: &mut Vec<OpenPublication>,
+    task: &PlanTask,
+    sig: &SigRecord,
+    draft: Draft,
+    tree: Tree,
+) -> Result<(), StoreFault>
+    requires reach { 3600 ≤ D.reach }
+    requires place { HasPlace task.now }
+    requires spelled { IsSpelled sig.now }
+    requires named { IsSignatureOf task.now sig.now }
+    requires short { AreShort tree }
+    requires draft { IsDraft index.now (signed_by task.now sig.now) tree draft }
+    requires bytes { draft.bytes ≡ signature_bytes sig.now }
+    requires rows { AllByRecursion IsRow index.now }
+    requires keeps { D.tells → IsKept index.now (D.story disk.old) }
+    requires room { vec_len open_ones.old < vec_capacity open_ones.old }
+    requires closed { opened_at (open_in open_ones.old.items) (task_folder task.now) ≡ None }
+    requires apart { AllByRecursion (IsClearOf draft.name (object_for index.now (signed_by task.now sig.now) tree)) open_ones.old.items }
+    requires stand { AreOpen index.now open_ones.old.items }
+    requires on { D.tells → AreOn index.now (D.story disk.old) open_ones.old.items }
+    requires tidy { D.tells → IsTidy open_ones.old.items (D.story disk.old) }
+    ensures opens { OnOk result (OpensOne (task_folder task.now) (open_view (signed_by task.now sig.now) tree)
+        (open_in open_ones.old.items) (open_in open_ones.new.items)) }
+    ensures agrees { OnOk result (IsAgreed index.now (signed_by task.now sig.now) tree) }
+    ensures same { OnErr result (open_ones.new.items ≡ open_ones.old.items) }
+    ensures stand { AreOpen index.now open_ones.new.items }
+    ensures on { D.tells → AreOn index.now (D.story disk.new) open_ones.new.items }
+    ensures tidy { D.tells → OnOk result (IsTidy open_ones.new.items (D.story disk.new)) }
+    ensures refused { IfErr result IsOutside }
+    ensures publishing { D.tells → Passes (D.story disk.old) (D.story disk.new)
+        (IsPublishing (publication index.now (signed_by task.now sig.now) tree) (D.story disk.old).held) }
+    ensures line { OnOk result (IsReadable (line_for index.now (signed_by task.now sig.now) tree)) }
+    ensures readable { IsReadable (line_for index.now (signed_by task.now sig.now) tree) ⊎ (disk.new ≡ disk.old) }
+    ensures keeps { D.tells → IsKept index.now (D.story disk.new) }
+    ensures cause { Counts (D.faults disk.old) (D.faults disk.new) (store_failed result) }
+{
+    let one = open_task(alloc, disk, index, task, sig, draft, tree)?;
+    open_ones.push_reserved(one);
+    Ok(())
 }
 
 /// Goes on with the open publication of a task, by at most 64 items or one phase of its end: what it has reached then, or nothing where
 /// all is done; then it is to be closed.
-pub(crate) fn step_task<D: Disk>(
+fn step_task<D: Disk>(
     alloc: Global,
     disk: &mut D,
     index: &Index,
@@ -129,7 +192,11 @@ pub(crate) fn step_task<D: Disk>(
         (at_next one.now reached))) }
     ensures on { D.tells → IfOk result (λ next. IsOnOrDone (publication index.now (signed_by task.now sig.now)
         one.now.tree) (items_of one.now) next (D.story disk.new)) }
+    ensures swept { D.tells → IfOk result (λ next. Sweeps one.now one.now.reached next (D.story disk.old).held
+        (D.story disk.new).held) }
     ensures refused { IfErr result IsOutside }
+    ensures entries { D.tells → Passes (D.story disk.old) (D.story disk.new)
+        (KeepsEntries (publication index.now (signed_by task.now sig.now) one.now.tree) (D.story disk.old).held) }
     ensures publishing { D.tells → Passes (D.story disk.old) (D.story disk.new)
         (IsPublishing (publication index.now (signed_by task.now sig.now) one.now.tree) (D.story disk.old).held) }
     ensures keeps { D.tells → IsKept index.now (D.story disk.new) }
@@ -139,7 +206,7 @@ pub(crate) fn step_task<D: Disk>(
 }
 
 /// Closes an open publication that is done: its row is added, if it is new, and its signature is kept no longer.
-pub(crate) fn close_task(
+fn close_task(
     alloc: Global,
     index: &mut Index,
     kept: &mut Vec<KeptSig>,
@@ -148,9 +215,14 @@ pub(crate) fn close_task(
     one: OpenPublication,
 ) -> Result<Hash, Mem>
     requires of { IsOpenOf index.old (signed_by task.now sig.now) one.tree one }
+    requires spells { Spells (signature_bytes sig.now) sig.now }
+    requires rows { AllByRecursion IsRow index.old }
     ensures unihash { IfOk result (λ unihash. unihash ≡ unihash_for index.old (signed_by task.now sig.now) one.tree) }
     ensures rows { OnOk result (index.new ≡ rows_with index.old (signed_by task.now sig.now) one.tree) }
     ensures kept { OnOk result (kept.new.items ≡ kept_without (signed_by task.now sig.now) kept.old.items) }
+    ensures sound { AllByRecursion IsRow index.new }
+    ensures keeps { OnOk result ((story : Story) → IsKept index.old story
+        → EachNow story (IsPublished (publication index.old (signed_by task.now sig.now) one.tree)) → IsKept index.new story) }
     ensures same { OnErr result ((index.new ≡ index.old) × (kept.new.items ≡ kept.old.items)) }
 {
     let OpenPublication {
@@ -168,4 +240,86 @@ pub(crate) fn close_task(
     add_row(alloc, index, row)?;
     forget(kept, task);
     Ok(unihash)
+}
+
+/// What a step that led on came to.
+fn step_of(next: Reached) -> Step
+    ensures { IsGoing result }
+{
+    match next {
+        Reached::Working(_) => Step::More,
+        Reached::Staged(_) | Reached::Kept(_) | Reached::Stored(_) | Reached::Stamped(_) => {
+            Step::Wait
+        }
+    }
+}
+
+/// The open publication at a place has reached what comes next.
+fn lead_on(open_ones: &mut Vec<OpenPublication>, place: usize, next: Reached)
+    requires { place < vec_len open_ones.old }
+    ensures { (before : List AOne) (one : AOne) (after : List AOne) → open_ones.old.items ≡ before ++ one ∷ after
+        → length before ≡ place → open_ones.new.items ≡ before ++ at_next one next ∷ after }
+{
+    open_ones[place].reached = next;
+}
+
+/// Goes on with the open publication at a place, which is that of a task with this signature. Where all is done, or it can't go on, it is open no more.
+pub(crate) fn step_at<D: Disk>(
+    alloc: Global,
+    disk: &mut D,
+    index: &mut Index,
+    kept: &mut Vec<KeptSig>,
+    open_ones: &mut Vec<OpenPublication>,
+    place: usize,
+    task: &PlanTask,
+    sig: &SigRecord,
+    synced: bool,
+) -> Result<Step, StoreFault>
+    requires reach { 3600 ≤ D.reach }
+    requires spells { Spells (signature_bytes sig.now) sig.now }
+    requires named { IsSignatureOf task.now sig.now }
+    requires within { place < vec_len open_ones.old }
+    requires stands { StandsAt (signed_by task.now sig.now) open_ones.old.items place }
+    requires rows { AllByRecursion IsRow index.old }
+    requires keeps { D.tells → IsKept index.old (D.story disk.old) }
+    requires stand { AreOpen index.old open_ones.old.items }
+    requires on { D.tells → AreOn index.old (D.story disk.old) open_ones.old.items }
+    ensures steps { IfOk result (λ step. (faultless : Bool)
+        → StepsTo (view_of disk.old index.old kept.old.items open_ones.old.items faultless)
+        (view_of disk.new index.new kept.new.items open_ones.new.items faultless) (signed_by task.now sig.now) step) }
+    ensures published { D.tells → IfOk result (LandsOn (D.story disk.new) index.old (open_in open_ones.old.items)
+        (signed_by task.now sig.now)) }
+    ensures refused { IfErr result IsOutside }
+    ensures refused_rows { OnErr result ((index.new ≡ index.old) × (kept.new.items ≡ kept.old.items)) }
+    ensures others { (beside : List ℕ) → beside ≢ task_folder task.now
+        → opened_at (open_in open_ones.new.items) beside ≡ opened_at (open_in open_ones.old.items) beside }
+    ensures was_open { (tree : Entries) × IsOpen (open_in open_ones.old.items) (signed_by task.now sig.now) tree }
+    ensures entries { D.tells → (tree : Entries) → IsOpen (open_in open_ones.old.items) (signed_by task.now sig.now) tree
+        → Passes (D.story disk.old) (D.story disk.new)
+        (KeepsEntries (publication index.old (signed_by task.now sig.now) tree) (D.story disk.old).held) }
+    ensures publishing { D.tells → (tree : Entries) → IsOpen (open_in open_ones.old.items) (signed_by task.now sig.now) tree
+        → Passes (D.story disk.old) (D.story disk.new)
+        (IsPublishing (publication index.old (signed_by task.now sig.now) tree) (D.story disk.old).held) }
+    ensures rows { AllByRecursion IsRow index.new }
+    ensures keeps { D.tells → IsKept index.new (D.story disk.new) }
+    ensures stand { AreOpen index.new open_ones.new.items }
+    ensures on { D.tells → AreOn index.new (D.story disk.new) open_ones.new.items }
+    ensures tidy { D.tells → IsTidy open_ones.old.items (D.story disk.old)
+        → OnOk result (IsTidy open_ones.new.items (D.story disk.new)) }
+    ensures cause { Counts (D.faults disk.old) (D.faults disk.new) (store_failed result) }
+{
+    match step_task(alloc, disk, index, task, sig, &open_ones[place], synced) {
+        Ok(Some(next)) => {
+            lead_on(open_ones, place, next);
+            Ok(step_of(next))
+        }
+        Ok(None) => {
+            let one = open_ones.remove(place);
+            Ok(Step::Done(close_task(alloc, index, kept, task, sig, one)?))
+        }
+        Err(fault) => {
+            open_ones.remove(place);
+            Err(fault)
+        }
+    }
 }

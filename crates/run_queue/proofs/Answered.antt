@@ -33,7 +33,7 @@ use Rattle.setscene_plan.specs.View.{Says, View}
 use Rattle.setscene_plan.specs.Replans.{IsCurrent, avail_in, names_in, need_in, unihashes_in}
 use Rattle.run_queue.specs.Asking.{Means, answered_of, flat, if_row, meant}
 use Rattle.run_model.specs.Opening.{Opening}
-use Rattle.run_queue.specs.Keeps.{IsRun, IsUpToDate, MayBeHalted, WasThere, nobody}
+use Rattle.run_queue.specs.Keeps.{IsRun, IsUpToDate, WasThere, nobody}
 use Rattle.run_queue.specs.Seen.{IsBegun, Known, Seen, known_in}
 use Rattle.run_model.specs.Stands.{HasEnded}
 use Rattle.run_queue.specs.Stands.{IsAsBegun, IsLeft}
@@ -41,7 +41,7 @@ use Rattle.run_queue.proofs.Clearing.{clear_is_no_collision, unihashes_are}
 use Rattle.run_queue.proofs.Known.{own_signature, own_task, sound_ordered, up_to_date}
 use Rattle.run_queue.proofs.FoldersAbove.{above_object, above_work, unihash_is_name}
 use Rattle.run_queue.proofs.Passed.{left_since}
-use Rattle.run_queue.proofs.Touched.{halted_as, told_by}
+use Rattle.run_queue.proofs.Meanwhile.{told_by}
 use Rattle.run_queue.proofs.Placing.{has_place}
 
 -- ---- a task of which nothing changed
@@ -132,6 +132,11 @@ flat_some : (x : Option (Option Avail)) (w : Avail) → flat x ≡ Some w → x 
 flat_some None w e = absurd (none-some w e)
 flat_some (Some y) w e = ap Some e
 
+-- what was missing is so, be there a row or not
+never_there : (r : Option EquivRow) → if_row r avail.Missing ≡ avail.Missing
+never_there None = refl
+never_there (Some row) = refl
+
 pub own_pn : (tasks : List PlanTask) (us : List Hash) (task : PlanTask) → (signature_by tasks us task).pn ≡ task.id.pn
 unfolding signature_by
 own_pn tasks us task = refl
@@ -167,7 +172,7 @@ module _ (o : Opening) (s : Seen) (run : IsRun o s) (sound : IsSound s.story) wh
       unihash_name : (row : EquivRow) → row_at s.rows (name_of sg.sig) ≡ Some row → IsName row.unihash
       unihash_name row is =
           let f = row_found (o.book ++ run.lines) (name_of sg.sig) row (ap (λ (r : List EquivRow). row_at r (name_of sg.sig)) (sym rows_are) ∙ is) in
-          subst (λ (r : EquivRow). IsName r.unihash) f.3 (unihash_is_name o.gives o.reading (o.book ++ run.lines) f.0 f.1 (run.valid none).lines f.2)
+          subst (λ (r : EquivRow). IsName r.unihash) f.3 (unihash_is_name o.gives o.reading (o.book ++ run.lines) f.0 f.1 (run.book none) f.2)
 
       kept : IsAsBegun o.book o.story.held image sg.task
       kept = left.others t sg.task at fresh
@@ -191,7 +196,7 @@ module _ (o : Opening) (s : Seen) (run : IsRun o s) (sound : IsSound s.story) wh
   -- no line has the name of a task and another signature
   pub no_collision : (names : List Hash) (need : List Bool) (avails : List Avail) → s.fault ≡ None → IsUpToDate s.plan s.rows (record { names = names; need = need; avail = avails }) → HasNoCollision (o.book ++ run.lines) (rows_of (o.book ++ run.lines)) s.plan.tasks
   no_collision names need avails none now =
-      let valid : IsValidBook o.gives o.reading (o.book ++ run.lines) = (run.valid none).lines in
+      let valid : IsValidBook o.gives o.reading (o.book ++ run.lines) = run.book none in
       let hashes = unihashes_are o.gives o.reading (o.book ++ run.lines) valid in
       let fits : (u : ℕ) (x : Signed) → slice_get (signatures (rows_of (o.book ++ run.lines)) s.plan.tasks) u ≡ Some x → SignatureFits x.sig = λ u x is. run.may.spellings (rows_of (o.book ++ run.lines)) hashes u x is in
       let clear = subst (λ (r : List EquivRow). (u : ℕ) (x : Signed) → slice_get (signatures r s.plan.tasks) u ≡ Some x → IsClear r (name_of x.sig) (signature_bytes x.sig)) rows_are now.clear in
@@ -225,10 +230,16 @@ module _ (o : Opening) (s : Seen) (run : IsRun o s) (sound : IsSound s.story) wh
           (one_signature (names_in kept) (need_in kept) (avail_in kept) none now t sg at) (m tell)
       by (Some w) e m =
           let answered = run.answered none t w (flat_some (slice_get s.begun t) w e) not_yet in
-          let there : w ≢ avail.Missing = λ missing. (let n : avail.Object ≡ avail.Missing = sym answered.1 ∙ missing in cc) in
           let has = answered.0 sg at in
-          let row = available_stored o.story.held s.rows s.options.setscene sg w there has in
-          subst (IsAvailable o.story.held s.rows s.options.setscene sg) (sym (m ∙ ap (λ (r : Option EquivRow). if_row r w) row.1)) has
+          elim answered.1 [
+            | inl same ↦
+                let there : w ≢ avail.Missing = λ missing. (let n : avail.Object ≡ avail.Missing = sym same ∙ missing in cc) in
+                let row = available_stored o.story.held s.rows s.options.setscene sg w there has in
+                subst (IsAvailable o.story.held s.rows s.options.setscene sg) (sym (m ∙ ap (λ (r : Option EquivRow). if_row r w) row.1)) has
+            | inr gone ↦
+                subst (IsAvailable o.story.held s.rows s.options.setscene sg) (sym (m ∙ ap (if_row (row_at s.rows (name_of sg.sig))) gone.0 ∙ never_there (row_at s.rows (name_of sg.sig))))
+                (subst (IsAvailable o.story.held s.rows s.options.setscene sg) gone.0 has)
+          ]
 
   -- What is known by what the store answers now was so when the run began, of needed tasks that haven't ended.
   pub known_there : (tells : Type 0) → tells → s.fault ≡ None → (kept : Replan) → IsCurrent (meant tells s.story.held s.rows s.options.setscene s.plan.tasks s.begun) (record { plan = s.plan; rows = s.rows }) kept
@@ -251,9 +262,13 @@ known_run o s k run there = record {
   grown = run.grown;
   own = run.own;
   readable = run.readable;
-  valid = run.valid;
+  opened = run.opened;
+  book = run.book;
+  open_are = run.open_are;
+  flights = run.flights;
+  touched = run.touched;
+  flying = run.flying;
   durable = run.durable;
-  swept = run.swept;
   objects = run.objects;
   later = run.later;
   marked = run.marked;
@@ -262,12 +277,12 @@ known_run o s k run there = record {
   were_there = run.were_there;
   real = run.real;
   stored = run.stored;
+  missing = run.missing;
   there = there;
   answered = run.answered;
   met = run.met;
   halted = run.halted;
-  told = told_by s.begun s.begun s.tale s.tale s.fault s.fault run.halted (MayBeHalted o s) (MayBeHalted o (record s { known = Some k })) nobody (λ u b. inl b) (λ u up. up) (λ none. none)
-      (halted_as o s (record s { known = Some k }) (λ u broken. broken) (λ u was x here. was x here)) (λ u never. absurd never) run.told;
+  told = λ u b. told_by o s (record s { known = Some k }) run.halted nobody u refl refl (λ is. is) (λ was x here. was x here) (run.told u b);
   images = run.images;
   stands = run.stands;
   settled = run.settled;

@@ -1,7 +1,6 @@
 -- What a publication, or a restoring, leaves of other tasks, and of records.
 use Rattle.std.proofs.Common.{◌≡◌, ◌≢◌, ◌∙◌, sym, ap, subst, refl, ℕ, ◌⊎◌, inl, inr, true, List, [], ◌∷◌, ◌++◌, Some, None, append_assoc, arith}
 use Rattle.std.specs.Prelude.{codes, Option}
-use Rattle.tree_model.specs.declared.entry.Entry.{Entry}
 use Rattle.tree_model.specs.declared.hash.Hash.{Hash}
 use Rattle.tree_model.specs.Hash.{hash_text}
 use Rattle.tree_model.specs.Path.{IsAtOrBelow, IsBelow, inside}
@@ -16,13 +15,12 @@ use Rattle.build_store.specs.Laws.{KeepsObject}
 use Rattle.store_model.specs.Lines.{KeepsWork}
 use Rattle.store_opening.specs.Paths.{HasPlace}
 use Rattle.store_model.specs.Paths.{record_path, slashes}
-use Rattle.build_store.specs.Publication.{IsForeign, IsPublished, IsUntouched, Publishes, KeepsOthers}
+use Rattle.build_store.specs.Publication.{IsForeign, IsUntouched, Publishes, KeepsOthers}
 use Rattle.store_model.specs.Publication.{Publication, stamp_at, work_at}
 use Rattle.store_opening.proofs.Areas.{apart_by_first, differ, heads_differ}
 use Rattle.build_store.proofs.Others.{others_untouched}
 use Rattle.store_opening.proofs.Slashes.{slashes_inside}
 use Rattle.run_model.specs.Own.{IsOfFolder}
-use Rattle.run_model.specs.Stands.{IsHonest, IsTold}
 use Rattle.run_queue.specs.Stands.{KeepsFolders}
 
 -- ---- paths above folders
@@ -89,66 +87,14 @@ recipes_apart pn task other a b c ne = record {
   not_under = λ under. let e = ap slashes under.1 ∙ slashes_inside (work_at (inside pn task)) under.0 in let f = slashes_inside (codes "work") (inside pn task) in let g = slashes_inside pn task in let h = slashes_inside (codes "work") other in omega (arith, a, b, c, e, f, g, h);
 }
 
--- ---- records
-
--- A record that was stored stays, where none was stored under the publication's name if that is new.
-pub record_on : (p : Publication) (old new : Store) → Publishes p old new → (p.is_new ≡ true → old (record_path p.name) ≡ None) → (name : Hash) (file : Entry) → old (record_path name) ≡ Some file → new (record_path name) ≡ Some file
-record_on p old new publishes unknown name file is = by (path_cases (record_path name) (record_path p.name))
-  where
-    at_own : record_path name ≡ record_path p.name → (new (record_path p.name) ≡ old (record_path p.name)) ⊎ ((p.is_new ≡ true) × (new (record_path p.name) ≡ Some p.file)) → new (record_path name) ≡ Some file
-    at_own same (inl stays) = ap new same ∙ stays ∙ sym (ap old same) ∙ is
-    at_own same (inr put) = absurd (let n : None ≡ Some file = sym (unknown put.0) ∙ sym (ap old same) ∙ is in cc)
-
-    by : (record_path name ≡ record_path p.name) ⊎ (record_path name ≢ record_path p.name) → new (record_path name) ≡ Some file
-    by (inl same) = at_own same publishes.stored
-    by (inr ne) = publishes.others (record_path name) (foreign_record p (hash_text name) (λ new. ne)) ∙ is
-
 -- ---- stamps that don't lie
 
 below_work : (folder q : List ℕ) → IsAtOrBelow (work_at folder) q → IsAtOrBelow (codes "work") q
 below_work folder q (inl at) = inr (folder, at)
 below_work folder q (inr down) = inr (inside folder down.0, down.1 ∙ append_assoc (codes "work") (47 ∷ folder) (47 ∷ down.0))
 
-keeps_then : (folder : List ℕ) (held old new : Store) → KeepsWork folder held old → KeepsWork folder old new → KeepsWork folder held new
-keeps_then folder held old new a b = record { stamp = b.stamp ∙ a.stamp; work = λ q at. b.work q at ∙ a.work q at }
-
 pub keeps_untouched : (folder : List ℕ) (old new : Store) → IsUntouched folder old new → KeepsWork folder old new
 keeps_untouched folder old new u = record { stamp = u.stamp; work = λ q at. u.work q (below_work folder q at) }
-
--- what a stamp tells of stays, where the stamp and the work folder do
-told_on : (p r : Publication) (old new : Store) → Publishes p old new → (p.is_new ≡ true → old (record_path p.name) ≡ None) → KeepsWork r.folder old new → IsTold r old → IsTold r new
-told_on p r old new publishes unknown keeps told = record {
-  stamp = keeps.stamp ∙ told.stamp;
-  stored = record_on p old new publishes unknown r.name r.file told.stored;
-  at = keeps.work (work_at r.folder) (inl refl) ∙ told.at;
-  entries = λ path. keeps.work (inside (work_at r.folder) path) (inr (path, refl)) ∙ told.entries path;
-}
-
--- a stamp that doesn't lie stays so where it and the work folder stay
-kept_honest : (p : Publication) (held old new : Store) (other : PlanTask) → Publishes p old new → (p.is_new ≡ true → old (record_path p.name) ≡ None) → KeepsWork (task_folder other) old new → IsHonest held old other → IsHonest held new other
-kept_honest p held old new other publishes unknown keeps (inl was) = inl (keeps_then (task_folder other) held old new was keeps)
-kept_honest p held old new other publishes unknown keeps (inr (inl none)) = inr (inl (keeps.stamp ∙ none))
-kept_honest p held old new other publishes unknown keeps (inr (inr told)) =
-    inr (inr (told.0, told.1, told_on p told.0 old new publishes unknown (subst (λ (f : List ℕ). KeepsWork f old new) (sym told.1) keeps) told.2))
-
-told_published : (p : Publication) (image : Store) → IsPublished p image → IsTold p image
-told_published p image is = record { stamp = is.stamp; stored = is.stored; at = is.work.outside.at; entries = is.work.entries }
-
--- so does the publication's own
-own_honest : (p : Publication) (held old new : Store) (task : PlanTask) → p.folder ≡ task_folder task → Publishes p old new → (p.is_new ≡ true → old (record_path p.name) ≡ None) → IsHonest held old task → IsHonest held new task
-own_honest p held old new task folder publishes unknown was = by publishes.honest
-  where
-    by : IsUntouched p.folder old new ⊎ ((new (stamp_at p.folder) ≡ None) ⊎ IsPublished p new) → IsHonest held new task
-    by (inl untouched) = kept_honest p held old new task publishes unknown (subst (λ (f : List ℕ). KeepsWork f old new) folder (keeps_untouched p.folder old new untouched)) was
-    by (inr (inl none)) = inr (inl (subst (λ (f : List ℕ). new (stamp_at f) ≡ None) folder none))
-    by (inr (inr is)) = inr (inr (p, folder, told_published p new is))
-
--- No stamp of a task lies in a changed store where none did, be it the publication's task or another one.
-pub honest_on : (p : Publication) (held old new : Store) (task other : PlanTask) → HasPlace task → HasPlace other → p.folder ≡ task_folder task → (other ≡ task) ⊎ Differ other task → Publishes p old new → (p.is_new ≡ true → old (record_path p.name) ≡ None) → IsHonest held old other → IsHonest held new other
-honest_on p held old new task other place place' folder (inl same) publishes unknown was =
-    subst (IsHonest held new) (sym same) (own_honest p held old new task folder publishes unknown (subst (IsHonest held old) same was))
-honest_on p held old new task other place place' folder (inr apart) publishes unknown was =
-    kept_honest p held old new other publishes unknown (others_untouched p task other old new place place' apart folder publishes) was
 
 -- ---- folders of other tasks that hold a tree
 

@@ -14,7 +14,7 @@ use Rattle.store_model.specs.declared.signature.EquivRow.{EquivRow}
 use Rattle.store_model.specs.declared.signature.SigRecord.{SigRecord}
 use Rattle.store_model.specs.Available.{IsAvailable}
 use Rattle.build_store.specs.Faults.{IsClash, is_disk_fault}
-use Rattle.build_store.specs.View.{View, signed_by}
+use Rattle.build_store.specs.View.{SameBooks, View, signed_by}
 use Rattle.build_store.specs.declared.fault.StoreFault.{StoreFault}
 use Rattle.build_store.specs.declared.fault.StoreFault.TheVariants as fault_of
 use Rattle.setscene_plan.specs.declared.probe.ProbeFault.{ProbeFault}
@@ -34,14 +34,16 @@ some_or x y none some = let e : None ≡ Some y = sym none ∙ some in cc
 
 module _ {D : Type 0} (plan : Plan) (tells : Type 0) (story : D → Story) (faults : D → ℕ) where
   -- one that met a fault, which is kept
-  pub asks_met : (a b : View D) (f g : Option StoreFault) (fault : StoreFault) (answer : ProbeFault) → b.rows ≡ a.rows → b.kept ≡ a.kept → (tells → Passes (story a.disk) (story b.disk) Same) → f ≡ None → IsUnknown plan a.rows (faults a.disk) (faults b.disk) fault → Keeps fault f g answer → Asks plan tells story faults a b f g
-  asks_met a b f g fault answer rows kept images none why keeps = record {
-    rows = rows;
-    kept = kept;
+  pub asks_met : (a b : View D) (f g : Option StoreFault) (fault : StoreFault) (answer : ProbeFault) → SameBooks a b → (tells → Passes (story a.disk) (story b.disk) Same) → f ≡ None → IsUnknown plan a.rows (faults a.disk) (faults b.disk) fault → Keeps fault f g answer → Asks plan tells story faults a b f g
+  asks_met a b f g fault answer books images none why keeps = record {
+    rows = books.rows;
+    kept = books.kept;
+    opened = books.opened;
+    faultless = books.faultless;
     images = images;
     stays = λ x is. absurd (some_or f x none is);
     none = λ was is. count_same fault why keeps is;
-    met = λ x was is. subst (λ (r : List EquivRow). IsMet plan r (faults b.disk) x) (sym rows) (met_by fault why keeps x is);
+    met = λ x was is. subst (λ (r : List EquivRow). IsMet plan r (faults b.disk) x) (sym books.rows) (met_by fault why keeps x is);
   }
     where
       count_same : (y : StoreFault) → IsUnknown plan a.rows (faults a.disk) (faults b.disk) y → Keeps y f g answer → g ≡ None → faults b.disk ≡ faults a.disk

@@ -20,12 +20,16 @@ use Rattle.run_queue.specs.Seen.{RunView, Seen}
 use Rattle.run_core.proofs.Marking.{fresh_count}
 use Rattle.plan_model.specs.Sound.{IsSound}
 use Rattle.store_model.specs.declared.signature.EquivRow.{EquivRow}
-use Rattle.build_store.specs.View.{View}
+use Rattle.build_store.specs.View.{NothingOpen, OpenViews, View}
 use Rattle.build_store.specs.declared.kept.KeptSig.{KeptSig}
 use Rattle.run_queue.specs.Laws.{BeginIsRun}
 use Rattle.run_model.specs.Opening.{Opening}
 use Rattle.run_queue.specs.Opening.{MayRun}
 use Rattle.run_model.specs.Stands.{IsSettledIn}
+use Rattle.std.proofs.lemmas.Option.{none-some}
+use Rattle.run_queue.specs.Flights.{nothing_open}
+use Rattle.run_queue.proofs.Opened.{nothing_is_empty}
+use Rattle.run_queue.proofs.Touched.{none_runs}
 
 not_later : (held : Store) (calls : List Call) (t : ℕ) (image : Store) → LeftSince held calls t image → t ≤ length calls
 not_later held [] t image (le, e) = le
@@ -60,10 +64,17 @@ begin_is_run o plan options written may = record {
   grown = sym (append-nil o.book);
   own = λ line has t task at pn name. absurd (no_line has.0 line has.1);
   readable = subst (AllByRecursion IsReadable) (sym (append-nil o.book)) may.readable;
-  valid = λ none. begins_valid o plan may;
-  objects = λ none image is t task at not_yet line has pn name q below. ap (λ (h : Store). h q) (may.durable image is);
-  swept = λ none. may.swept;
-  durable = λ none image is. subst (λ (h : Store). IsValid o.gives o.reading h (o.book ++ [])) (sym (may.durable image is)) (begins_valid o plan may);
+  opened = nothing_open;
+  book = λ none. (begins_valid o plan may).lines;
+  open_are = λ none folder. refl;
+  flights = λ none. record {
+    each = λ folder one is. absurd (none-some one is);
+    apart = λ folder beside one other is_one is_other ne. absurd (none-some one is_one);
+  };
+  touched = λ none t flies. absurd (none-some flies.0 flies.1.1);
+  flying = λ none t seat runs. absurd (none_runs (length plan.tasks) t seat runs);
+  objects = λ none image is t task at not_yet on_ground line has pn name q below. ap (λ (h : Store). h q) (may.durable image is);
+  durable = λ none image is. record { in_flight = []; fly = tt; once = tt; valid = subst (λ (h : Store). IsValid o.gives o.reading h (o.book ++ [])) (sym (may.durable image is)) (begins_valid o plan may) };
   later = omega arith;
   marked = λ k entry at. absurd (cc);
   reusable = may.may;
@@ -71,6 +82,7 @@ begin_is_run o plan options written may = record {
   were_there = λ k t there entry at. absurd (cc);
   real = λ k entry at. absurd (cc);
   stored = λ t sg settled. absurd (none_settled plan t settled);
+  missing = λ t seat runs. absurd (none_runs (length plan.tasks) t seat runs);
   there = tt;
   answered = λ none t a at. absurd (none_begun (length plan.tasks) t a at);
   met = λ t settled. absurd (none_settled plan t settled);
@@ -81,12 +93,13 @@ begin_is_run o plan options written may = record {
   settled = λ k entry at. absurd (cc);
 }
 
-abbrev pub begins_as : Plan → Options → List (Option Avail) → List EquivRow → List KeptSig → List Logged → Story → List ℕ → Seen
-begins_as plan options begun rows kept tale story written = record {
+abbrev pub begins_as : Plan → Options → List (Option Avail) → List EquivRow → List KeptSig → OpenViews → List Logged → Story → List ℕ → Seen
+begins_as plan options begun rows kept opened tale story written = record {
   plan = plan;
   options = options;
   rows = rows;
   kept = kept;
+  opened = opened;
   sink_failed = false;
   fault = None;
   tale = tale;
@@ -96,14 +109,16 @@ begins_as plan options begun rows kept tale story written = record {
   written = written;
 }
 
-pub begins_run : (o : Opening) (plan : Plan) (options : Options) (begun : List (Option Avail)) (rows : List EquivRow) (kept : List KeptSig) (tale : List Logged) (story : Story) (written : List ℕ) → IsOpening o story rows → begun ≡ replicate (length plan.tasks) None → kept ≡ [] → tale ≡ [] → MayRun o plan → IsRun o (begins_as plan options begun rows kept tale story written)
-begins_run o plan options begun rows kept tale story written opening none_begun none_kept no_tale may =
+pub begins_run : (o : Opening) (plan : Plan) (options : Options) (begun : List (Option Avail)) (rows : List EquivRow) (kept : List KeptSig) (opened : OpenViews) (tale : List Logged) (story : Story) (written : List ℕ) → IsOpening o story rows → begun ≡ replicate (length plan.tasks) None → kept ≡ [] → NothingOpen opened → tale ≡ [] → MayRun o plan → IsRun o
+    (begins_as plan options begun rows kept opened tale story written)
+begins_run o plan options begun rows kept opened tale story written opening none_begun none_kept nothing no_tale may =
     let a = begin_is_run o plan options written may in
-    let b = subst (λ (n : List (Option Avail)). IsRun o (begins_as plan options n (rows_of o.book) [] [] o.story written)) (sym none_begun) a in
-    let c = subst (λ (r : List EquivRow). IsRun o (begins_as plan options begun r [] [] o.story written)) (sym opening.rows_are) b in
-    let d = subst (λ (k : List KeptSig). IsRun o (begins_as plan options begun rows k [] o.story written)) (sym none_kept) c in
-    let e = subst (λ (t : List Logged). IsRun o (begins_as plan options begun rows kept t o.story written)) (sym no_tale) d in
-    subst (λ (s : Story). IsRun o (begins_as plan options begun rows kept tale s written)) opening.story_is e
+    let b = subst (λ (n : List (Option Avail)). IsRun o (begins_as plan options n (rows_of o.book) [] [] [] o.story written)) (sym none_begun) a in
+    let c = subst (λ (r : List EquivRow). IsRun o (begins_as plan options begun r [] [] [] o.story written)) (sym opening.rows_are) b in
+    let d = subst (λ (k : List KeptSig). IsRun o (begins_as plan options begun rows k [] [] o.story written)) (sym none_kept) c in
+    let f = subst (λ (v : OpenViews). IsRun o (begins_as plan options begun rows kept v [] o.story written)) (sym (nothing_is_empty opened nothing)) d in
+    let e = subst (λ (t : List Logged). IsRun o (begins_as plan options begun rows kept opened t o.story written)) (sym no_tale) f in
+    subst (λ (s : Story). IsRun o (begins_as plan options begun rows kept opened tale s written)) opening.story_is e
 
 abbrev pub begins_view : {D W : Type 0} → Plan → Options → View D → W → List (Option Avail) → List Logged → RunView D W
 begins_view plan options store sink begun tale = record {
@@ -118,14 +133,15 @@ begins_view plan options store sink begun tale = record {
   known = None;
 }
 
-pub begins_state : {D W : Type 0} (count : ℕ) (plan : Plan) (options : Options) (store : View D) (sink : W) (begun : List (Option Avail)) (tale : List Logged) → tale ≡ [] → IsSound plan → count ≡ 0 → length begun ≡ length plan.tasks → IsState count (begins_view plan options store sink begun tale)
-begins_state count plan options store sink begun tale no_tale sound unharmed long =
+pub begins_state : {D W : Type 0} (count : ℕ) (plan : Plan) (options : Options) (store : View D) (sink : W) (begun : List (Option Avail)) (tale : List Logged) → tale ≡ [] → IsSound plan → count ≡ 0 → store.faultless ≡ true → length begun ≡ length plan.tasks → IsState count (begins_view plan options store sink begun tale)
+begins_state count plan options store sink begun tale no_tale sound unharmed clean long =
     subst (λ (l : List Logged). IsState count (begins_view plan options store sink begun l)) (sym no_tale) (record {
       sound = sound;
       long = long;
       orderly = λ k entry at. absurd (cc);
       current = tt;
       unharmed = λ none. unharmed;
+      clean = λ none. clean;
       heard = λ none. refl;
       unbroken = λ none. refl;
       cause = tt;

@@ -1,5 +1,5 @@
 -- A task is restored while publications of others are open.
-use Rattle.std.proofs.Common.{◌≡◌, ◌≢◌, ◌∙◌, sym, ap, subst, refl, ℕ, ◌+◌, ◌≤◌, ◌⊎◌, inl, inr, arith, true, false, List, [], length, take, Some, None}
+use Rattle.std.proofs.Common.{◌≡◌, ◌∙◌, sym, ap, subst, refl, ℕ, ◌+◌, ◌≤◌, ◌⊎◌, inl, inr, arith, true, false, List, [], length, take, Some, None}
 use Rattle.std.specs.Prelude.{Option}
 use Rattle.std.specs.List.{slice_get}
 use Rattle.std.proofs.lemmas.Bool.{cases_eq, false≢true}
@@ -39,7 +39,7 @@ use Rattle.run_queue.proofs.Honest.{honest_stays}
 use Rattle.run_queue.proofs.Leaving.{left_now}
 use Rattle.run_queue.proofs.Meanwhile.{still_valid}
 use Rattle.run_queue.proofs.Placing.{has_place}
-use Rattle.run_queue.proofs.PutBack.{HasRow, has_row}
+use Rattle.run_queue.proofs.OfRows.{HasRow, has_row}
 use Rattle.run_queue.proofs.Putting.{settled_front}
 
 module _ (o : Opening) (plan : Plan) (tale : List Logged) (opened : OpenTasks) (w : IsUnderWay o plan tale opened) (t : ℕ) (s : Signed) (at : slice_get plan.tasks t ≡ Some s.task) (is_s : slice_get (signatures (rows_of (book_after o.gives plan o.book tale)) plan.tasks) t ≡ Some s)

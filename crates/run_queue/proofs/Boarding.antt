@@ -1,11 +1,11 @@
 -- A publication is opened beside others; an event is marked that records nothing.
-use Rattle.std.proofs.Common.{◌≡◌, ◌≢◌, ◌∙◌, sym, ap, subst, ℕ, ◌⊎◌, inl, inr, List, [], ◌∷◌, ◌++◌, length, Some, None, append-nil}
-use Rattle.std.specs.Prelude.{Bool, codes, false, if◌then◌else◌}
+use Rattle.std.proofs.Common.{◌≡◌, ◌≢◌, ◌∙◌, sym, ap, subst, refl, ℕ, ◌⊎◌, inl, inr, List, [], ◌∷◌, ◌++◌, length, Some, None, append-nil}
+use Rattle.std.specs.Prelude.{Bool, Option, false, if◌then◌else◌}
+use Rattle.std.specs.Option.{option_map}
 use Rattle.std.specs.List.{AllByRecursion}
 use Rattle.std.specs.Str.{bytes_eq}
 use Rattle.meta_model.proofs.Bools.{either_way, same_text, text_itself}
 use Rattle.std.proofs.lemmas.Option.{none-some, same_Some}
-use Rattle.tree_model.specs.Path.{inside}
 use Rattle.outside_traits.specs.Store.{Store}
 use Rattle.outside_traits.proofs.Puts.{path_cases}
 use Rattle.meta_model.specs.declared.event.Logged.{Logged}
@@ -13,7 +13,6 @@ use Rattle.meta_model.specs.declared.plan.Plan.{Plan}
 use Rattle.tale_model.specs.declared.fate.Fate.{Fate}
 use Rattle.tale_model.specs.Fates.{NoneRuns, fate_at, fate_by, fates_told, is_running, task_of}
 use Rattle.run_core.proofs.Steps.{told_push}
-use Rattle.store_opening.specs.Paths.{staged_record_path}
 use Rattle.store_model.specs.Available.{task_folder}
 use Rattle.store_model.specs.Origins.{Book}
 use Rattle.store_model.specs.Spelling.{name_of}
@@ -21,11 +20,10 @@ use Rattle.store_model.specs.Valid.{IsValid}
 use Rattle.run_model.specs.Books.{book_after}
 use Rattle.run_model.specs.InFlight.{book_with, lines_in_flight}
 use Rattle.run_model.specs.Opening.{Opening}
-use Rattle.run_queue.specs.FlightLaws.{BeginsUnderWay, EndsWithNothing, LandingIsSwept, MarksKeepFlights, OneMoreOrLess, OpeningKeepsFlights, OpeningKeepsOthers, RunHasNothingOpen}
-use Rattle.run_queue.specs.Flights.{AreFlights, Closes, Flies, IsFlight, IsInHand, IsStagingOf, OpenTask, OpenTasks, OpensAt}
+use Rattle.run_queue.specs.FlightLaws.{BeginsUnderWay, EndsWithNothing, MarksKeepFlights, OneMoreOrLess, OpeningKeepsFlights, OpeningKeepsOthers}
+use Rattle.run_queue.specs.Flights.{AreFlights, Flies, IsFlight, IsInHand, OpenTask, OpenTasks, OpensAt, view_of}
 use Rattle.run_queue.proofs.Growing.{book_grows}
 use Rattle.run_queue.proofs.Notes.{set_other}
-use Rattle.run_queue.proofs.Putting.{book_now, durable_now, readable_now}
 
 -- ---- nothing is open
 
@@ -51,43 +49,22 @@ begins_under_way o plan may clear = (
   },
 )
 
-pub run_has_nothing_open : RunHasNothingOpen
-run_has_nothing_open o s run faultless orderly clear = (
-  record {
-    may = run.may;
-    orderly = orderly;
-    lines = run.lines;
-    grown = run.grown;
-    readable = readable_now o s run;
-    reuse = run.reusable clear;
-    flights = record {
-      each = λ folder one is. absurd (none-some one is);
-      apart = λ folder beside one other is_one is_other ne. absurd (none-some one is_one);
-    };
-  },
-  λ image is. record {
-    in_flight = [];
-    fly = tt;
-    once = tt;
-    valid = subst (IsValid o.gives o.reading image) (sym (append-nil (book_now o s))) (durable_now o s run faultless image is);
-  },
-  λ from image le since. run.images from image le since,
-  λ image is t task at not_yet on_ground. run.objects faultless image is t task at not_yet,
-  λ q below not_staged. run.swept faultless q below,
-)
-
 none_open : (o : Opening) (plan : Plan) (tale : List Logged) (opened : OpenTasks) → AreFlights o plan tale opened → NoneRuns (fates_told (length plan.tasks) tale) → (folder : List ℕ) (one : OpenTask) → opened folder ≡ Some one → ⊥
 none_open o plan tale opened flights rest folder one is = let h = flights.each folder one is in rest h.number (ap is_running h.runs)
 
 pub ends_with_nothing : EndsWithNothing
 ends_with_nothing o plan tale opened flights rest = (
   λ image v. by image v.in_flight v.fly v.valid,
-  λ held litter q below. litter q below (λ folder one is staged. none_open o plan tale opened flights rest folder one is),
+  λ views same folder. sym (same folder) ∙ nothing folder (opened folder) refl,
 )
   where
     by : (image : Store) (ts : List ℕ) → AllByRecursion (Flies plan opened) ts → IsValid o.gives o.reading image (book_with o plan tale ts) → IsValid o.gives o.reading image (book_after o.gives plan o.book tale)
     by image [] fly valid = subst (IsValid o.gives o.reading image) (append-nil (book_after o.gives plan o.book tale)) valid
     by image (t ∷ ts) fly valid = absurd (none_open o plan tale opened flights rest (task_folder fly.0.0.signed.task) fly.0.0 fly.0.1.1)
+
+    nothing : (folder : List ℕ) (x : Option OpenTask) → opened folder ≡ x → option_map view_of (opened folder) ≡ None
+    nothing folder None is = ap (option_map view_of) is
+    nothing folder (Some one) is = absurd (none_open o plan tale opened flights rest folder one is)
 
 -- ---- one more is opened
 
@@ -133,32 +110,10 @@ still_open : (opened later : OpenTasks) (folder : List ℕ) (one : OpenTask) →
 still_open opened later folder one opens beside other is = opens.others beside (λ same. let n : None ≡ Some other = sym opens.none ∙ sym (ap opened same) ∙ is in cc) ∙ is
 
 pub opening_keeps_others : OpeningKeepsOthers
-opening_keeps_others o plan tale opened later folder one opens image = (
-  λ were t task at not_yet on_ground. were t task at not_yet (λ flies. on_ground (flies.0, (flies.1.0, still_open opened later folder one opens (task_folder flies.0.signed.task) flies.0 flies.1.1))),
-  λ litter q below not_staged. litter q below (λ beside other is. not_staged beside other (still_open opened later folder one opens beside other is)),
-)
+opening_keeps_others o plan tale opened later folder one opens image were t task at not_yet on_ground =
+    were t task at not_yet (λ flies. on_ground (flies.0, (flies.1.0, still_open opened later folder one opens (task_folder flies.0.signed.task) flies.0 flies.1.1)))
 
--- ---- one is closed
-
-pub landing_is_swept : LandingIsSwept
-landing_is_swept opened later folder one is_open closes held own litter q below not_staged =
-    by (path_cases q (inside (codes "tmp/old") folder)) (path_cases q (inside (codes "tmp/stamp") folder)) (path_cases q (staged_record_path (name_of one.signed.sig)))
-  where
-    -- no open publication has it
-    none_has : q ≢ inside (codes "tmp/old") folder → q ≢ inside (codes "tmp/stamp") folder → q ≢ staged_record_path (name_of one.signed.sig) → (beside : List ℕ) (other : OpenTask) → opened beside ≡ Some other → IsStagingOf beside (name_of other.signed.sig) q → ⊥
-    none_has a b c beside other is staged = elim (path_cases beside folder) [
-      | inl same ↦
-          let x : one ≡ other = same_Some one other (sym is_open ∙ sym (ap opened same) ∙ is) in
-          let mine : IsStagingOf folder (name_of one.signed.sig) q = subst (λ (y : OpenTask). IsStagingOf folder (name_of y.signed.sig) q) (sym x) (subst (λ (f : List ℕ). IsStagingOf f (name_of other.signed.sig) q) same staged) in
-          elim mine [ inl e ↦ a e | inr rest ↦ elim rest [ inl e ↦ b e | inr e ↦ c e ] ]
-      | inr ne ↦ not_staged beside other (closes.others beside ne ∙ is) staged
-    ]
-
-    by : (q ≡ inside (codes "tmp/old") folder) ⊎ (q ≢ inside (codes "tmp/old") folder) → (q ≡ inside (codes "tmp/stamp") folder) ⊎ (q ≢ inside (codes "tmp/stamp") folder) → (q ≡ staged_record_path (name_of one.signed.sig)) ⊎ (q ≢ staged_record_path (name_of one.signed.sig)) → held q ≡ None
-    by (inl e) b c = own q (inl e)
-    by (inr a) (inl e) c = own q (inr (inl e))
-    by (inr a) (inr b) (inl e) = own q (inr (inr e))
-    by (inr a) (inr b) (inr c) = litter q below (none_has a b c)
+-- ---- as plain values
 
 pub one_more_or_less : OneMoreOrLess
 one_more_or_less folder one opened = (

@@ -1,6 +1,6 @@
 -- A fault that is kept has its cause, and a task that breaks off by one had one kept.
 use Rattle.std.proofs.Common.{◌≡◌, ◌∙◌, sym, ap, subst, refl, ℕ, arith, false, List, [], ◌∷◌, ◌++◌, Option, Some, None}
-use Rattle.std.specs.Prelude.{IfSome, IsSome, ◌||◌}
+use Rattle.std.specs.Prelude.{IsSome, ◌||◌}
 use Rattle.std.specs.List.{slice_get}
 use Rattle.std.proofs.lemmas.Bool.{false≢true}
 use Rattle.std.proofs.lemmas.List.Folds.{list_any-append}
@@ -29,13 +29,10 @@ use Rattle.setscene_plan.specs.View.{IsAskedOf, IsNamedFor}
 use Rattle.build_store.specs.Faults.{IsClash, IsCollision, IsRefusal, IsUnsteady, is_disk_fault}
 use Rattle.build_store.specs.declared.fault.StoreFault.{StoreFault}
 use Rattle.build_store.specs.declared.fault.StoreFault.TheVariants as fault_of
-use Rattle.task_worker.specs.declared.given.Given.{Given}
 use Rattle.task_worker.specs.declared.given.Given.TheVariants as givens
 use Rattle.run_queue.specs.declared.fault.RunFault.{RunFault}
-use Rattle.run_queue.specs.declared.fault.RunFault.TheVariants as ends
 use Rattle.run_model.specs.Causes.{IsClashOf, IsUnsteadyOf, fault_broke, is_fault_break}
-use Rattle.run_queue.specs.Causes.{IsOfGiven, IsStoreCause, IsStoreOfGiven}
-use Rattle.run_queue.specs.Keeps.{IsSteady}
+use Rattle.run_queue.specs.Causes.{IsStoreCause, IsStoreOfGiven}
 use Rattle.run_queue.specs.Puts.{IsSignedAt}
 
 -- ---- of the store
@@ -113,15 +110,6 @@ refusal_given tasks rows number s tree manifest (fault_of.Unsteady pn task held 
     let same : manifest ≡ given = cc in
     (record { task = s.task; is_task = at; pn_is = pn_is; name_is = task_is }, (tree, ap (givens.Tree tree) same))
 refusal_given tasks rows number s tree manifest fault_of.Memory at listed refused = tt
-
--- a fault that isn't that an output isn't steady carries nothing of it
-pub steady_given : (tasks : List PlanTask) (number : ℕ) (g : Given) (f : Option RunFault) → IsSteady f → IfSome f (IsOfGiven tasks number g)
-steady_given tasks number g None is = tt
-steady_given tasks number g (Some (ends.Store fault_of.Disk)) is = tt
-steady_given tasks number g (Some (ends.Store (fault_of.Collision name held given))) is = tt
-steady_given tasks number g (Some (ends.Store (fault_of.Unsteady pn task held given))) is = absurd is
-steady_given tasks number g (Some (ends.Store fault_of.Memory)) is = tt
-steady_given tasks number g (Some ends.Write) is = tt
 
 -- ---- tasks that break off
 

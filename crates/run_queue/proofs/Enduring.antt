@@ -39,7 +39,7 @@ use Rattle.run_model.specs.Books.{book_after, book_by, rows_after, signed_after}
 use Rattle.run_model.specs.Stands.{HasEnded, HasOwnRow, IsStanding}
 use Rattle.run_queue.proofs.Aside.{object_on, work_on}
 use Rattle.run_queue.proofs.Clearing.{unihash_is}
-use Rattle.run_queue.proofs.Found.{signed_task_at}
+use Rattle.run_queue.proofs.OwnNames.{signed_task_at}
 use Rattle.run_queue.proofs.Placing.{has_place}
 
 -- ---- numbers and signatures of tasks

@@ -30,7 +30,7 @@ use Rattle.run_queue.specs.Flights.{AreOnce, Flies, FliesAs, IsFlight, IsInHand,
 use Rattle.run_queue.specs.Joined.{AllTwo, AreTwo}
 use Rattle.run_queue.specs.Stands.{IsReadAfter}
 use Rattle.run_queue.proofs.Enduring.{differ_at}
-use Rattle.run_queue.proofs.Found.{has_own_name}
+use Rattle.run_queue.proofs.OwnNames.{has_own_name}
 use Rattle.run_queue.proofs.Growing.{ended_line}
 use Rattle.run_queue.proofs.Joining.{lines_join}
 use Rattle.run_queue.proofs.Placing.{has_place}

@@ -1,7 +1,7 @@
 -- What a crash leaves is valid with what had ended, and with lines of tasks that ran.
-use Rattle.std.proofs.Common.{◌≡◌, ◌∙◌, sym, subst, refl, ℕ, zero, suc, arith, List, [], ◌∷◌, ◌++◌, length, take, Some, append-nil}
+use Rattle.std.proofs.Common.{sym, subst, arith, List, [], length, take, append-nil}
 use Rattle.std.specs.Prelude.{Option}
-use Rattle.std.specs.List.{AllByRecursion, slice_get}
+use Rattle.std.specs.List.{AllByRecursion}
 use Rattle.std.proofs.lemmas.List.{take_all}
 use Rattle.std.proofs.lemmas.Option.{none-some}
 use Rattle.outside_traits.specs.Store.{Store}
@@ -10,10 +10,10 @@ use Rattle.meta_model.specs.declared.event.Logged.{Logged}
 use Rattle.meta_model.specs.declared.plan.Plan.{Plan}
 use Rattle.store_model.specs.Origins.{Book}
 use Rattle.store_model.specs.Readable.{IsReadable}
-use Rattle.store_model.specs.Valid.{IsValid, IsValidLine}
-use Rattle.run_model.specs.Books.{book_after, line_of_ended}
+use Rattle.store_model.specs.Valid.{IsValid}
+use Rattle.run_model.specs.Books.{book_after}
 use Rattle.run_model.specs.Build.{IsLeftByRun}
-use Rattle.run_model.specs.InFlight.{AreInFlight, IsValidAfter, RunsAfter, lines_in_flight}
+use Rattle.run_model.specs.InFlight.{AreInFlight, IsValidAfter}
 use Rattle.run_model.specs.Opening.{Opening}
 use Rattle.run_queue.specs.Stands.{IsLeft, IsReadAfter}
 
@@ -24,20 +24,6 @@ none_flies plan told = record {
   runs = λ k t here. absurd (none-some t here);
   apart = λ j k t u seat one other a b. absurd (none-some t one);
 }
-
-one_flies : (plan : Plan) (told : List Logged) (t seat : ℕ) → RunsAfter plan told t seat → AreInFlight plan told (t ∷ [])
-one_flies plan told t seat runs = record {
-  runs = λ k u here. (seat, at k u here);
-  apart = λ j k u v other one two a b. place j u one ∙ sym (place k v two);
-}
-  where
-    place : (k u : ℕ) → slice_get (t ∷ []) k ≡ Some u → k ≡ zero
-    place zero u here = refl
-    place (suc k) u here = absurd (none-some u here)
-
-    at : (k u : ℕ) → slice_get (t ∷ []) k ≡ Some u → RunsAfter plan told u seat
-    at zero u here = let same : t ≡ u = cc in subst (λ (n : ℕ). RunsAfter plan told n seat) same runs
-    at (suc k) u here = absurd (none-some u here)
 
 -- ---- what is valid after all events of a tale
 
@@ -52,27 +38,6 @@ module _ (o : Opening) (plan : Plan) (told : List Logged) (image : Store) where
   pub ended_alone : IsValid o.gives o.reading image (book_after o.gives plan o.book told) → AllByRecursion IsReadable (book_after o.gives plan o.book told) → IsReadAfter o plan told image
   unfolding valid_alone
   ended_alone valid readable = record { after = valid_alone valid; readable = subst (AllByRecursion IsReadable) (sym (append-nil Book_now)) readable }
-
-  -- with the lines of a task that runs besides
-  one_more : (t : ℕ) (more : Book) → line_of_ended o.gives plan (book_after o.gives plan o.book told) t ≡ more → more ≡ lines_in_flight o.gives plan (book_after o.gives plan o.book told) (t ∷ [])
-  one_more t more is = sym is ∙ sym (append-nil (line_of_ended o.gives plan Book_now t))
-
-  pub valid_with : (t seat : ℕ) (more : Book) → RunsAfter plan told t seat → line_of_ended o.gives plan (book_after o.gives plan o.book told) t ≡ more → IsValid o.gives o.reading image (book_after o.gives plan o.book told ++ more)
-      → AllByRecursion (IsValidLine o.gives o.reading (book_after o.gives plan o.book told)) more → IsValidAfter o plan told image
-  valid_with t seat more runs is valid alone = record {
-    in_flight = t ∷ [];
-    flies = one_flies plan told t seat runs;
-    valid = subst (λ (b : Book). IsValid o.gives o.reading image (Book_now ++ b)) (one_more t more is) valid;
-    alone = subst (AllByRecursion (IsValidLine o.gives o.reading Book_now)) (one_more t more is) alone;
-  }
-
-  pub ended_with : (t seat : ℕ) (more : Book) → RunsAfter plan told t seat → line_of_ended o.gives plan (book_after o.gives plan o.book told) t ≡ more → IsValid o.gives o.reading image (book_after o.gives plan o.book told ++ more)
-      → AllByRecursion (IsValidLine o.gives o.reading (book_after o.gives plan o.book told)) more → AllByRecursion IsReadable (book_after o.gives plan o.book told ++ more) → IsReadAfter o plan told image
-  unfolding valid_with
-  ended_with t seat more runs is valid alone readable = record {
-    after = valid_with t seat more runs is valid alone;
-    readable = subst (λ (b : Book). AllByRecursion IsReadable (Book_now ++ b)) (one_more t more is) readable;
-  }
 
   -- the whole tale is a front of itself
   pub after_all : IsReadAfter o plan told image → IsReadAfter o plan (take (length told) told) image

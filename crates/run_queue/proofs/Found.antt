@@ -1,17 +1,10 @@
 -- A task whose output is in its work folder is found.
-use Rattle.std.proofs.Common.{◌≡◌, ◌≢◌, ◌∙◌, sym, ap, subst, refl, ℕ, ◌<◌, zero, suc, arith, Bool, true, List, [], ◌∷◌, ◌++◌, length, map, get_or, append_assoc, Some, None, inl, inr}
-use Rattle.std.specs.Prelude.{Contains, IsSome}
-use Rattle.std.specs.List.{AllByRecursion, slice_get}
-use Rattle.std.specs.Option.{option_map}
-use Rattle.std.proofs.lemmas.List.{append-nil, length-map, map-append}
-use Rattle.std.proofs.lemmas.List.Elements.{All-contains_itself, recursion_from_All}
-use Rattle.std.proofs.lemmas.Option.{same_Some, slice_get-get_or, slice_get-map, slice_get_within}
-use Rattle.tree_model.specs.declared.entry.Entry.{Entry}
-use Rattle.tree_model.specs.Manifest.{content_of}
-use Rattle.tree_model.specs.Path.{IsAtOrBelow, IsBelow, inside}
-use Rattle.tree_model.specs.Tree.{IsTree, StandsAt, entry_at}
-use Rattle.tree_model.proofs.EditLemmas.{removed_is}
-use Rattle.outside_traits.specs.Store.{HoldsTree, Store}
+use Rattle.std.proofs.Common.{◌≡◌, ◌≢◌, ◌∙◌, sym, ap, subst, refl, ℕ, ◌<◌, arith, Bool, true, List, [], ◌∷◌, ◌++◌, length, Some, None, inl, inr}
+use Rattle.std.specs.Prelude.{IsSome}
+use Rattle.std.specs.List.{slice_get}
+use Rattle.std.proofs.lemmas.List.{length-map}
+use Rattle.std.proofs.lemmas.Option.{same_Some, slice_get_within}
+use Rattle.outside_traits.specs.Store.{Store}
 use Rattle.outside_traits.specs.Story.{IsImage, IsSound, moment}
 use Rattle.outside_traits.proofs.Images.{now-since}
 use Rattle.meta_model.specs.declared.event.Avail.{Avail}
@@ -19,7 +12,7 @@ use Rattle.meta_model.specs.declared.event.Avail.TheVariants as avail
 use Rattle.meta_model.specs.declared.event.Event.TheVariants as events
 use Rattle.meta_model.specs.declared.event.Logged.{Logged}
 use Rattle.meta_model.specs.declared.plan.PlanTask.{PlanTask}
-use Rattle.meta_model.specs.CleanBuild.{Built, Entries, Gives, clean_build}
+use Rattle.meta_model.specs.CleanBuild.{Built, clean_build}
 use Rattle.meta_model.proofs.Building.{all_tasks}
 use Rattle.tale_model.specs.declared.fate.Fate.{Fate}
 use Rattle.tale_model.specs.declared.fate.Fate.TheVariants as fate
@@ -31,17 +24,13 @@ use Rattle.run_core.specs.History.{IsInOrder, IsOrderly, settled_as}
 use Rattle.tale_model.specs.Need.{IsIn}
 use Rattle.run_core.proofs.Steps.{count_told, told_push}
 use Rattle.store_model.specs.declared.signature.EquivRow.{EquivRow}
-use Rattle.store_model.specs.Available.{HoldsClean, IsAvailable, IsInWork, work_folder}
-use Rattle.store_model.specs.Origins.{Book, Reading, rows_of}
-use Rattle.store_model.specs.Premises.{HasNoCollision, IsContent}
-use Rattle.store_model.specs.Premises as of
+use Rattle.store_model.specs.Available.{IsAvailable, IsInWork, work_folder}
+use Rattle.store_model.specs.Origins.{Book, rows_of}
+use Rattle.store_model.specs.Premises.{HasNoCollision}
 use Rattle.store_model.specs.Reuse.{MayReuse}
 use Rattle.store_model.specs.Rows.{row_at}
-use Rattle.store_model.specs.Signatures.{Signed, signature, signatures, signed_from}
+use Rattle.store_model.specs.Signatures.{Signed, signatures}
 use Rattle.store_model.specs.Spelling.{name_of}
-use Rattle.store_model.proofs.Contents.{tree_same}
-use Rattle.store_model.proofs.Ordered.{each_weaker}
-use Rattle.store_model.proofs.Reusing.{known, reuse_is_clean}
 use Rattle.store_model.proofs.Standing.{row_found}
 use Rattle.run_model.specs.Opening.{Opening}
 use Rattle.run_model.specs.Books.{rows_after, signed_after}
@@ -49,7 +38,6 @@ use Rattle.run_model.specs.Courses.{IsCourse}
 use Rattle.run_queue.specs.Keeps.{IsRun, IsUpToDate, WasThere}
 use Rattle.run_queue.specs.Seen.{IsBegunIn, Known, Seen}
 use Rattle.run_model.specs.Stands.{HasEnded, IsStanding, HasOwnRow}
-use Rattle.store_model.proofs.Standing.{row_found}
 use Rattle.setscene_plan.proofs.Naming.{signed_count}
 use Rattle.run_queue.proofs.Agreement.{some_known}
 use Rattle.run_queue.proofs.Answered.{AgreesOn, agrees_back, no_collision, one_signature, unbegun, work_on}
@@ -60,76 +48,7 @@ use Rattle.run_queue.proofs.Passed.{left_since}
 use Rattle.run_queue.proofs.ReadyJobs.{task_at}
 use Rattle.run_queue.proofs.Settled.{SettlesOne}
 use Rattle.run_queue.proofs.There.{tells_one}
-
--- ---- the tasks of signatures, and their names
-
-tasks_from : (rows : List EquivRow) (before : List Signed) (tasks : List PlanTask) → map (λ (s : Signed). s.task) (signed_from rows before tasks) ≡ map (λ (s : Signed). s.task) before ++ tasks
-tasks_from rows before [] = sym (append-nil (map (λ (s : Signed). s.task) before))
-tasks_from rows before (task ∷ tasks) =
-    let s : Signed = record { task = task; sig = signature rows before task } in
-    tasks_from rows (before ++ s ∷ []) tasks
-    ∙ ap (λ l. l ++ tasks) (map-append (λ (x : Signed). x.task) before (s ∷ []))
-    ∙ append_assoc (map (λ (x : Signed). x.task) before) (task ∷ []) tasks
-
-pub signed_task_at : (rows : List EquivRow) (tasks : List PlanTask) (t : ℕ) (s : Signed) → slice_get (signatures rows tasks) t ≡ Some s → slice_get tasks t ≡ Some s.task
-signed_task_at rows tasks t s is = sym (ap (λ (l : List PlanTask). slice_get l t) (tasks_from rows [] tasks)) ∙ slice_get-map (λ (x : Signed). x.task) (signatures rows tasks) t ∙ ap (option_map (λ (x : Signed). x.task)) is
-
-abbrev HasOwnName : Signed → Type 0
-HasOwnName s = (s.sig.pn ≡ s.task.id.pn) × (s.sig.task ≡ s.task.id.task)
-
-each_pushed : {X : Type 0} (P : X → Type 0) (xs : List X) (x : X) → AllByRecursion P xs → P x → AllByRecursion P (xs ++ x ∷ [])
-each_pushed P [] x all p = (p, tt)
-each_pushed P (y ∷ xs) x all p = (all.0, each_pushed P xs x all.1 p)
-
-named_from : (rows : List EquivRow) (before : List Signed) (tasks : List PlanTask) → AllByRecursion HasOwnName before → AllByRecursion HasOwnName (signed_from rows before tasks)
-named_from rows before [] all = all
-named_from rows before (task ∷ tasks) all = named_from rows (before ++ record { task = task; sig = signature rows before task } ∷ []) tasks (each_pushed HasOwnName before (record { task = task; sig = signature rows before task }) all (refl, refl))
-
-each_at : {X : Type 0} (P : X → Type 0) (xs : List X) (t : ℕ) (x : X) → AllByRecursion P xs → slice_get xs t ≡ Some x → P x
-each_at P [] t x all is = absurd (let n : None ≡ Some x = is in cc)
-each_at P (y ∷ xs) zero x all is = subst P (same_Some y x is) all.0
-each_at P (y ∷ xs) (suc t) x all is = each_at P xs t x all.1 is
-
-pub has_own_name : (rows : List EquivRow) (tasks : List PlanTask) (t : ℕ) (s : Signed) → slice_get (signatures rows tasks) t ≡ Some s → (s.sig.pn ≡ s.task.id.pn) × (s.sig.task ≡ s.task.id.task)
-has_own_name rows tasks t s is = each_at HasOwnName (signatures rows tasks) t s (named_from rows [] tasks tt) is
-
--- ---- the clean output of a task that is in its work folder, and that it is a tree
-
-pub entry_held : (tree : Entries) (e : List ℕ × Entry) → IsTree tree → Contains tree e → entry_at tree e.0 ≡ Some e.1
-entry_held tree e is c =
-    let at : slice_get tree c.0 ≡ Some e = slice_get-get_or tree c.0 e c.1 ∙ ap (λ x. Some x) c.2 in
-    let stands : StandsAt tree e.0 c.0 = (c.1, λ d. let same : Some (get_or tree c.0 d) ≡ Some e = sym (slice_get-get_or tree c.0 d c.1) ∙ at in let one : get_or tree c.0 d ≡ e = cc in ap (λ x. x.0) one) in
-    sym (removed_is tree c.0 e.0 e is stands (sym c.2))
-
-pub record CleanTree (held : Store) (folder : List ℕ) (built : Built) : Type 0 where
-  pub clean : HoldsClean held folder built
-  pub tree : IsTree clean.tree
-
-pub clean_tree : (gives : Gives) (reading : Reading) (held : Store) (book : Book) (tasks : List PlanTask) → MayReuse gives reading held book tasks → (n : ℕ) (s : Signed) (built : Built) → slice_get (signatures (rows_of book) tasks) n ≡ Some s → slice_get (clean_build gives tasks) n ≡ Some built
-    → IsInWork held (rows_of book) s → CleanTree held (work_folder s.task) built
-clean_tree gives reading held book tasks may n s built is_s is_b w =
-    let f = row_found book (name_of s.sig) w.row w.stored.is_row in
-    let reused = reuse_is_clean gives reading held book tasks may n s built is_s is_b f.0 f.1 f.2 f.4 in
-    let m = w.folder in
-    let held_known = each_weaker (Contains m.tree) (λ e. IsContent gives reading held book tasks (content_of e.1))
-    (λ e c. inr (inside (work_folder s.task) e.0, e.1, m.holds.entries e.0 ∙ entry_held m.tree e m.is_tree c, refl))
-    m.tree (recursion_from_All (Contains m.tree) m.tree (All-contains_itself m.tree)) in
-    let one : m.tree ≡ reused.tree = tree_same (IsContent gives reading held book tasks) may.no_clash m.tree reused.tree held_known
-    (known gives reading held book tasks may.valid may.no_clash reused.tree (of.output f.0 f.1 reused.tree f.2 reused.origin))
-    (sym m.manifest ∙ ap (λ (r : EquivRow). r.manifest) (sym f.3) ∙ reused.manifest) in
-    record {
-      clean = record { tree = reused.tree; clean = reused.clean; holds = subst (λ t. HoldsTree (work_folder s.task) t held) one m.holds };
-      tree = subst IsTree one m.is_tree;
-    }
-
-pub holds_on : (one other : Store) (folder : List ℕ) (tree : Entries) → ((q : List ℕ) → IsAtOrBelow folder q → one q ≡ other q) → ((q : List ℕ) → IsBelow q folder → one q ≡ other q) → HoldsTree folder tree one → HoldsTree folder tree other
-holds_on one other folder tree same above h = record {
-  entries = λ path. sym (same (inside folder path) (inr (path, refl))) ∙ h.entries path;
-  outside = record {
-    at = sym (same folder (inl refl)) ∙ h.outside.at;
-    above = λ q below. sym (above q below) ∙ h.outside.above q below;
-  };
-}
+use Rattle.run_queue.proofs.OwnNames.{CleanTree, clean_tree, has_own_name, holds_on, signed_task_at}
 
 -- ---- a task that is found
 
@@ -162,7 +81,10 @@ module _ (o : Opening) (s : Seen) (run : IsRun o s) (sound : IsSound s.story) (n
   fresh : IsBegunIn s.begun t → ⊥
   fresh b =
       let a = run.answered none t b.0 b.1 not_ended in
-      (subst (λ (x : Avail). IsAvailable o.story.held s.rows s.options.setscene signed.0 x) a.1 (a.0 signed.0 signed.1)).0 held
+      elim a.1 [
+        | inl same ↦ (subst (λ (x : Avail). IsAvailable o.story.held s.rows s.options.setscene signed.0 x) same (a.0 signed.0 signed.1)).0 held
+        | inr gone ↦ (subst (λ (x : Avail). IsAvailable o.story.held s.rows s.options.setscene signed.0 x) gone.0 (a.0 signed.0 signed.1)).0 held
+      ]
 
   rows_are : s.rows ≡ rows_of (o.book ++ run.lines)
   rows_are = run.rows ∙ ap rows_of run.grown
@@ -235,6 +157,7 @@ module _ (o : Opening) (s : Seen) (run : IsRun o s) (sound : IsSound s.story) (n
       within = in_count;
       before = answer.0.waits;
       after = λ e. (let n : fate.Found ≡ fate.Ended = e in cc);
+      rests = λ other e. (let n : fate.Found ≡ fate.Running other = e in cc);
       book = λ b. refl;
       stored = λ x at. subst (λ (y : Signed). row_at s.rows (name_of y.sig) ≢ None) (same_Some signed.0 x (sym signed.1 ∙ at)) has_row;
       so = tells_one o s (events.Found t) t avail.Work run.rows was refl;

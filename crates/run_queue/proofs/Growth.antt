@@ -125,6 +125,7 @@ module _ (o : Opening) (plan : Plan) (book more : Book) (may : MayReuse o.gives 
     at = f.at;
     signed = signed_same;
     clean = f.clean;
+    says = f.says;
     is_tree = f.is_tree;
     needs = needs_same;
     readable = subst IsReadable (sym (line_same book more one.signed one.tree others)) f.readable;

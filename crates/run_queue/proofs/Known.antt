@@ -63,13 +63,14 @@ sound_ordered plan sound t = by (slice_get plan.tasks t) refl
     by None e = λ k d lt. absurd (omega (arith, lt))
     by (Some task) e = (sound.tasks t task e).below
 
-pub state_known : {D W : Type 0} (count now : ℕ) (s : RunView D W) (store : Store D) (k : Known) → IsState count s → s.fault ≡ None → now ≡ count → IsUpToDate s.plan store.rows k → IsState now (record s { store = store; known = Some k })
-state_known count now s store k is none same known = record {
+pub state_known : {D W : Type 0} (count now : ℕ) (s : RunView D W) (store : Store D) (k : Known) → IsState count s → s.fault ≡ None → now ≡ count → store.faultless ≡ s.store.faultless → IsUpToDate s.plan store.rows k → IsState now (record s { store = store; known = Some k })
+state_known count now s store k is none same clean known = record {
   sound = is.sound;
   long = is.long;
   orderly = is.orderly;
   current = known;
   unharmed = λ n. same ∙ is.unharmed n;
+  clean = λ n. clean ∙ is.clean n;
   heard = is.heard;
   unbroken = is.unbroken;
   cause = subst (λ (f : Option RunFault). IfSome f (IsCause now s.plan store.rows s.sink_failed)) (sym none) tt;

@@ -189,7 +189,7 @@ module _ (o : Opening) (plan : Plan) (tale : List Logged) (opened : OpenTasks) (
       )
 
   -- another one flies still
-  still_flies : (u : ℕ) → (t ≡ u → ⊥) → Flies plan opened u → Flies plan later u
+  pub still_flies : (u : ℕ) → (t ≡ u → ⊥) → Flies plan opened u → Flies plan later u
   still_flies u ne (other, gl) =
       (other, (gl.0, closes.others (task_folder other.signed.task) (λ same. Rattle.run_queue.proofs.Flights.folders_differ plan w.may.sound t u one.signed.task other.signed.task fl.0 gl.0 ne (sym same)) ∙ gl.1))
 
@@ -334,7 +334,7 @@ module _ (o : Opening) (plan : Plan) (tale : List Logged) (opened : OpenTasks) (
     | inl known ↦ were u other at_u open_u.1 (λ flies. on_ground (still_flies u (λ same. open_u.0 (sym same)) flies)) l known pn name q below
     | inr own ↦
         let sig = Rattle.run_queue.proofs.Joining.line_has (HasSig one.signed.sig) Own l (line_named o plan Now w.reuse t one flight) own in
-        let mine = Rattle.run_queue.proofs.Found.has_own_name (rows_of Now) plan.tasks t one.signed flight.signed in
+        let mine = Rattle.run_queue.proofs.OwnNames.has_own_name (rows_of Now) plan.tasks t one.signed flight.signed in
         absurd (differ_at plan w.may.sound u t other one.signed.task at_u fl.0 open_u.0 (sym pn ∙ ap (λ g. g.pn) sig ∙ mine.0) (sym name ∙ ap (λ g. g.task) sig ∙ mine.1))
   ]
     where

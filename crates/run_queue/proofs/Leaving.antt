@@ -18,7 +18,7 @@ use Rattle.meta_model.specs.declared.event.Logged.{Logged}
 use Rattle.meta_model.specs.declared.plan.Plan.{Plan}
 use Rattle.meta_model.specs.declared.plan.PlanTask.{PlanTask}
 use Rattle.tale_model.specs.Fates.{fate_at, fates_told, is_settled}
-use Rattle.store_model.specs.Available.{object_folder, task_folder}
+use Rattle.store_model.specs.Available.{object_folder}
 use Rattle.store_model.specs.Lines.{HasLine}
 use Rattle.store_model.specs.Origins.{Book, Line, rows_of}
 use Rattle.store_model.specs.Premises.{Differ}
@@ -39,7 +39,7 @@ use Rattle.run_model.specs.Books.{book_after}
 use Rattle.run_model.specs.Opening.{Opening}
 use Rattle.run_model.specs.Own.{IsAside, IsObjectOfNone, IsUnihashOver}
 use Rattle.run_model.specs.Stands.{AllStand, HasStarted, IsSettledIn}
-use Rattle.run_queue.specs.Flights.{AreLeft, FliesAs, HasLitterOf, IsFlight, IsUnderWay, IsValidWith, KeepOtherObjects, OpenTask, OpenTasks, StandTo}
+use Rattle.run_queue.specs.Flights.{AreLeft, FliesAs, IsFlight, IsUnderWay, IsValidWith, KeepOtherObjects, OpenTask, OpenTasks, StandTo}
 use Rattle.run_queue.specs.Opening.{MayRun}
 use Rattle.run_queue.specs.Seen.{IsBegunIn}
 use Rattle.run_queue.specs.Stands.{IsAsBegun, IsLeft, IsPublishing, KeepsFolders}
@@ -252,7 +252,7 @@ module _ (o : Opening) (plan : Plan) (tale : List Logged) (opened : OpenTasks) (
       now : (i : Store) → IsImage a i → AllStand o plan (take (k + 1) tale) i
       now i is = stands k entry here lt i (now-since a entry.moment i (marked k entry here) is)
 
-  -- ---- objects, and what is under `tmp/`
+  -- ---- objects
 
   pub objects_now : (a b : Story) → Passes a b (Piece (publication (rows_of (book_after o.gives plan o.book tale)) one.signed one.tree) a.held) → EachNow a (KeepOtherObjects o plan tale opened) → EachNow b (KeepOtherObjects o plan tale opened)
   objects_now a b pass were image is u other at_u not_yet on_ground l has pn name q below =
@@ -260,8 +260,3 @@ module _ (o : Opening) (plan : Plan) (tale : List Logged) (opened : OpenTasks) (
       (keeps_object o plan w.may.sound Now valid p line.line t one.signed.task fl.0 refl line.of_task line.pn line.task which_line u other at_u
       (λ same. on_ground (one, (subst (λ (n : ℕ). slice_get plan.tasks n ≡ Some one.signed.task) (sym same) fl.0, fl.1))) l has pn name made.0 image made.2.own).object q below
       ∙ were made.0 made.1 u other at_u not_yet on_ground l has pn name q below
-
-  pub litter_now : (held old new : Store) → Piece (publication (rows_of (book_after o.gives plan o.book tale)) one.signed one.tree) held old new → HasLitterOf opened old → HasLitterOf opened new
-  litter_now held old new piece were q below not_staged =
-      piece.staged.temporary q below (λ e. not_staged (task_folder one.signed.task) one fl.1 (inl e)) (λ e. not_staged (task_folder one.signed.task) one fl.1 (inr (inl e))) (λ e. not_staged (task_folder one.signed.task) one fl.1 (inr (inr e)))
-      ∙ were q below not_staged

@@ -3,7 +3,7 @@ pub mod Notes
 pub mod Printed
 pub mod Growing
 pub mod There
-pub mod Ending
+pub mod AtEnd
 pub mod Unsettled
 pub mod Agreement
 pub mod ReadBack
@@ -22,6 +22,10 @@ pub mod Asked
 pub mod Known
 pub mod Answered
 pub mod Settled
+pub mod OwnNames
+pub mod OfRows
+pub mod Opened
+pub mod Openable
 pub mod Found
 pub mod Aside
 pub mod Recorded

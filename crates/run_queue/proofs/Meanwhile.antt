@@ -1,16 +1,15 @@
 -- What others' turns leave of publications that are open, and of tasks that run.
-use Rattle.std.proofs.Common.{◌≡◌, ◌≢◌, ◌∙◌, sym, ap, subst, refl, ℕ, zero, suc, ◌⊎◌, inl, inr, true, false, List, [], ◌∷◌, ◌++◌, length, Some, None}
-use Rattle.std.specs.Prelude.{Option, codes}
+use Rattle.std.proofs.Common.{◌≡◌, ◌≢◌, ◌∙◌, sym, ap, subst, refl, ℕ, ◌⊎◌, inl, inr, true, false, List, [], ◌∷◌, ◌++◌, length, Some, None}
+use Rattle.std.specs.Prelude.{IsSome, Option, codes}
 use Rattle.std.specs.Option.{option_or}
-use Rattle.std.specs.List.{AllByRecursion, slice_get}
+use Rattle.std.specs.List.{AllByRecursion}
 use Rattle.std.proofs.lemmas.Bool.{cases_eq, false≢true}
 use Rattle.std.proofs.lemmas.List.{map-append}
-use Rattle.std.proofs.lemmas.Option.{none-some}
 use Rattle.std.proofs.lemmas.List.Folds.{find-append}
 use Rattle.tree_model.specs.Path.{inside}
 use Rattle.outside_traits.specs.Store.{Store}
 use Rattle.outside_traits.proofs.Puts.{path_cases}
-use Rattle.meta_model.specs.declared.event.Avail.TheVariants.{Missing}
+use Rattle.meta_model.specs.declared.event.Avail.TheVariants.{Missing, Object}
 use Rattle.meta_model.specs.declared.event.Logged.{Logged}
 use Rattle.meta_model.specs.declared.plan.Plan.{Plan}
 use Rattle.tale_model.specs.declared.fate.Fate.{Fate}
@@ -18,9 +17,11 @@ use Rattle.tale_model.specs.Fates.{fate_at, fate_by, fates_told, is_running, tas
 use Rattle.run_core.proofs.Steps.{told_push}
 use Rattle.run_model.specs.InFlight.{RunsAfter}
 use Rattle.run_model.specs.Stands.{HasBroken, IsPlaced}
-use Rattle.run_queue.specs.Keeps.{nobody}
+use Rattle.run_queue.specs.Keeps.{IsToldOf, WasThere, nobody}
+use Rattle.run_queue.specs.Seen.{Seen}
+use Rattle.run_queue.specs.declared.fault.RunFault.{RunFault}
 use Rattle.run_queue.proofs.Notes.{set_other}
-use Rattle.run_queue.proofs.Touched.{broken_on}
+use Rattle.run_queue.proofs.Touched.{broken_on, placed_on}
 use Rattle.store_model.specs.Available.{IsAvailable, IsStored}
 use Rattle.store_model.specs.Origins.{row_of, rows_of}
 use Rattle.store_model.specs.Paths.{record_path}
@@ -37,10 +38,10 @@ use Rattle.store_model.proofs.Staying.{signatures_stay}
 use Rattle.build_store.specs.Publication.{Publishes, Restores}
 use Rattle.run_model.specs.Opening.{Opening}
 use Rattle.run_queue.specs.FlightLaws.{MissingStays, OtherBytes, RestoringKeepsValid, StartedStaysMissing, ToldAtEnd, ToldGoesOn}
-use Rattle.run_queue.specs.Flights.{IsToldOf, IsValidWith, OpenTasks}
+use Rattle.run_queue.specs.Flights.{IsValidWith, OpenTasks}
 use Rattle.run_queue.proofs.Clearing.{signature_fits, unihashes_are}
 use Rattle.run_queue.proofs.Enduring.{signed_task}
-use Rattle.run_queue.proofs.Found.{signed_task_at}
+use Rattle.run_queue.proofs.OwnNames.{signed_task_at}
 use Rattle.run_queue.proofs.Honest.{foreign_record}
 
 -- ---- a restoring
@@ -123,18 +124,9 @@ told_at_end o s halted t none told = elim told [
   ]
 ]
 
-front_get : (xs : List Logged) (k : ℕ) (x y : Logged) → slice_get xs k ≡ Some x → slice_get (xs ++ y ∷ []) k ≡ Some x
-front_get [] k x y e = absurd (none-some x e)
-front_get (z ∷ xs) zero x y e = e
-front_get (z ∷ xs) (suc k) x y e = front_get xs k x y e
-
-placed_still : (tale : List Logged) (e : Logged) (t : ℕ) → IsPlaced tale t → IsPlaced (tale ++ e ∷ []) t
-placed_still tale e t (inl f) = inl (record { place = f.place; entry = f.entry; is_entry = front_get tale f.place f.entry e f.is_entry; ends = f.ends })
-placed_still tale e t (inr r) = inr (record { place = r.place; entry = r.entry; is_entry = front_get tale r.place r.entry e r.is_entry; restores = r.restores })
-
 pub told_goes_on : ToldGoesOn
 told_goes_on o s later halted t entry same_plan same_tale stays there own told = elim told [
-  | inl placed ↦ inl (subst (λ (l : List Logged). IsPlaced l t) (sym same_tale) (placed_still s.tale entry t placed))
+  | inl placed ↦ inl (subst (λ (l : List Logged). IsPlaced l t) (sym same_tale) (placed_on s.tale entry t placed))
   | inr rest ↦ elim rest [
     | inl runs ↦ runs_on runs.0 runs.1 (cases_eq t (task_of entry.event))
     | inr more ↦ elim more [
@@ -158,3 +150,43 @@ told_goes_on o s later halted t entry same_plan same_tale stays there own told =
     runs_on seat runs (inr ne) =
         let now : RunsAfter s.plan (s.tale ++ entry ∷ []) t seat = ap (λ (l : List Fate). fate_at l t) (told_push (length s.plan.tasks) s.tale entry) ∙ set_other (fates_told (length s.plan.tasks) s.tale) (task_of entry.event) t (fate_by entry.event) (λ e. ne (sym e)) ∙ runs in
         inr (inl (seat, subst (λ (p : Plan). RunsAfter p later.tale t seat) (sym same_plan) (subst (λ (l : List Logged). RunsAfter s.plan l t seat) (sym same_tale) now)))
+
+-- where a fault is kept it stays, as long as none is kept now only where none was
+pub fault_stays : (old new : Option RunFault) → (new ≡ None → old ≡ None) → IsSome old → IsSome new
+fault_stays old (Some f) stays is = refl
+fault_stays None None stays is = is
+fault_stays (Some f) None stays is = absurd (let n : Some f ≡ None = stays refl in cc)
+
+-- A task is told of still, by views that say the same of what was there, where a fault stays.
+pub told_by : (o : Opening) (s later : Seen) (halted : ℕ) (but : ℕ → Type 0) (t : ℕ) → later.plan ≡ s.plan → later.tale ≡ s.tale → (IsSome s.fault → IsSome later.fault) → (WasThere o s t Object → WasThere o later t Object) → IsToldOf o s halted but t → IsToldOf o later halted but t
+told_by o s later halted but t same_plan same_tale stays there told = elim told [
+  | inl placed ↦ inl (subst (λ (l : List Logged). IsPlaced l t) (sym same_tale) placed)
+  | inr rest ↦ elim rest [
+    | inl runs ↦ inr (inl (runs.0, subst (λ (p : Plan). RunsAfter p later.tale t runs.0) (sym same_plan) (subst (λ (l : List Logged). RunsAfter s.plan l t runs.0) (sym same_tale) runs.1)))
+    | inr more ↦ elim more [
+      | inl it ↦ inr (inr (inl (
+        stays it.0,
+        elim it.1 [
+          | inl broken ↦ inl (subst (λ (l : List Logged). HasBroken l t) (sym same_tale) broken)
+          | inr was ↦ inr (was.0, there was.1)
+        ],
+      )))
+      | inr other ↦ inr (inr (inr other))
+    ]
+  ]
+]
+
+-- Behind one more entry, also where it needn't have been told of before.
+pub told_on : (o : Opening) (s later : Seen) (halted : ℕ) (but : ℕ → Type 0) (t : ℕ) (entry : Logged) → later.plan ≡ s.plan → later.tale ≡ s.tale ++ entry ∷ [] → (IsSome s.fault → IsSome later.fault) → (WasThere o s t Object → WasThere o later t Object)
+    → ((seat : ℕ) → t ≡ task_of entry.event → RunsAfter s.plan s.tale t seat → IsPlaced later.tale t ⊎ (IsSome later.fault × HasBroken later.tale t))
+    → (but t → IsToldOf o later halted nobody t) → IsToldOf o s halted but t → IsToldOf o later halted nobody t
+told_on o s later halted but t entry same_plan same_tale stays there own spare told = elim told [
+  | inl placed ↦ told_goes_on o s later halted t entry same_plan same_tale stays there own (inl placed)
+  | inr rest ↦ elim rest [
+    | inl runs ↦ told_goes_on o s later halted t entry same_plan same_tale stays there own (inr (inl runs))
+    | inr more ↦ elim more [
+      | inl it ↦ told_goes_on o s later halted t entry same_plan same_tale stays there own (inr (inr (inl it)))
+      | inr other ↦ spare other
+    ]
+  ]
+]

@@ -1,20 +1,18 @@
 -- Calls of the store that change nothing leave what a run keeps over its opening.
-use Rattle.std.proofs.Common.{◌≡◌, sym, subst, refl, ℕ, ◌≤◌, ◌++◌, arith, List, [], None, inl, inr}
+use Rattle.std.proofs.Common.{◌≡◌, sym, subst, refl, ℕ, ◌≤◌, arith, List, [], None, inl, inr}
 use Rattle.std.specs.Prelude.{Option}
 use Rattle.outside_traits.specs.Passes.{Passes, Same}
 use Rattle.outside_traits.specs.Store.{Store}
 use Rattle.outside_traits.specs.Story.{IsImage, IsImageSince, Story, moment}
 use Rattle.outside_traits.proofs.Images.{now-since, since-now}
-use Rattle.store_model.specs.Opened.{HasNoLitter}
-use Rattle.store_model.specs.Valid.{IsValid}
 use Rattle.run_model.specs.Opening.{Opening}
-use Rattle.run_queue.specs.Keeps.{IsRun, MayBeHalted, nobody}
+use Rattle.run_queue.specs.Keeps.{IsRun, nobody}
 use Rattle.run_queue.specs.declared.fault.RunFault.{RunFault}
 use Rattle.build_store.specs.View.{SameBooks, View}
 use Rattle.run_queue.specs.Seen.{RunView, Seen, seen}
 use Rattle.run_queue.specs.Stands.{IsLeft}
 use Rattle.run_queue.proofs.Flying.{ended_alone}
-use Rattle.run_queue.proofs.Touched.{halted_as, told_by}
+use Rattle.run_queue.proofs.Meanwhile.{fault_stays, told_by}
 
 -- an image of now was one before
 pub same_now : (old new : Story) (image : Store) → Passes old new Same → IsImage new image → IsImage old image
@@ -35,9 +33,13 @@ passed_run o s story fault p faultless run = record {
   grown = run.grown;
   own = run.own;
   readable = run.readable;
-  valid = λ none. subst (λ (h : Store). IsValid o.gives o.reading h (o.book ++ run.lines)) (sym p.held) (run.valid (faultless none));
+  opened = run.opened;
+  book = λ none. run.book (faultless none);
+  open_are = λ none. run.open_are (faultless none);
+  flights = λ none. run.flights (faultless none);
+  touched = λ none. run.touched (faultless none);
+  flying = λ none. run.flying (faultless none);
   durable = λ none image is. run.durable (faultless none) image (same_now s.story story image p is);
-  swept = λ none. subst HasNoLitter (sym p.held) (run.swept (faultless none));
   objects = λ none image is. run.objects (faultless none) image (same_now s.story story image p is);
   later = let a = run.later in let b = p.later in omega arith;
   marked = λ k entry at. let a = run.marked k entry at in let b = p.later in omega arith;
@@ -46,12 +48,12 @@ passed_run o s story fault p faultless run = record {
   were_there = run.were_there;
   real = run.real;
   stored = run.stored;
+  missing = run.missing;
   there = run.there;
   answered = λ none. run.answered (faultless none);
   met = run.met;
   halted = run.halted;
-  told = told_by s.begun s.begun s.tale s.tale s.fault fault run.halted (MayBeHalted o s) (MayBeHalted o (record s { story = story; fault = fault })) nobody (λ u b. inl b) (λ u up. up) faultless
-      (halted_as o s (record s { story = story; fault = fault }) (λ u broken. broken) (λ u was x here. was x here)) (λ u never. absurd never) run.told;
+  told = λ u b. told_by o s (record s { story = story; fault = fault }) run.halted nobody u refl refl (fault_stays s.fault fault faultless) (λ was x here. was x here) (run.told u b);
   images = λ t image le since. run.images t image le (same_since s.story story t image p (let a = run.later in omega (arith, a, le)) since);
   stands = λ image is. run.stands image (same_now s.story story image p is);
   settled = λ k entry at lt image since. run.settled k entry at lt image (same_since s.story story entry.moment image p (run.marked k entry at) since);
@@ -68,6 +70,7 @@ passed_view story written o old store fault books p faultless run =
       options = old.options;
       rows = sym books.rows i;
       kept = sym books.kept i;
+      opened = sym books.opened i;
       sink_failed = old.sink_failed;
       fault = fault;
       tale = old.tale;

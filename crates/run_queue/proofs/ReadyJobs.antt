@@ -1,5 +1,5 @@
 -- The job of a ready task over what is read back is the clean build's.
-use Rattle.std.proofs.Common.{◌≡◌, ◌∙◌, sym, ap, subst, refl, ℕ, ◌<◌, zero, suc, arith, Bool, true, false, List, [], ◌∷◌, ◌++◌, length, map, Some, Ok, Err, inr}
+use Rattle.std.proofs.Common.{◌≡◌, ◌∙◌, sym, ap, subst, refl, ℕ, ◌<◌, zero, suc, arith, Bool, true, false, List, [], ◌∷◌, ◌++◌, length, map, None, Some, Ok, Err, inl, inr}
 use Rattle.std.specs.Prelude.{All, Option, Result, if◌then◌else◌}
 use Rattle.std.specs.List.{AllByRecursion, filter_map, slice_get}
 use Rattle.std.specs.Option.{option_map}
@@ -44,7 +44,9 @@ use Rattle.run_queue.specs.Outputs.IsTooLarge.{laid as too_laid, output as too_o
 use Rattle.run_model.specs.Books.{book_by}
 use Rattle.run_model.specs.Courses.{IsCourse, clean_says, said}
 use Rattle.run_queue.specs.Keeps.{IsRun, IsUpToDate, WasThere}
-use Rattle.run_queue.specs.Seen.{Known, Seen}
+use Rattle.run_queue.specs.Seen.{IsBegun, Known, Seen}
+use Rattle.store_model.specs.Available.{IsAvailable}
+use Rattle.setscene_plan.proofs.Naming.{signed_at}
 use Rattle.run_model.specs.Stands.{AllStand, HasEnded}
 use Rattle.run_queue.specs.Turns.{IsCleanJob}
 use Rattle.run_queue.proofs.Agreement.{some_known}
@@ -198,14 +200,25 @@ module _ (o : Opening) (s : Seen) (k : Known) (t seat : ℕ) (task : PlanTask) (
   settles_started moment = settles_none (events.Started t seat) moment refl refl (λ b. refl)
 
   -- it was missing when the run began
-  pub told_missing : WasSo o s.plan s.options s.tale (events.Started t seat)
-  told_missing = tells_one o s (events.Started t seat) t Missing run.rows was refl
-    where
-      not_ended : HasEnded s.plan s.tale t → ⊥
-      not_ended ended = let n : fate.Waiting ≡ fate.Ended = sym answer.0.waits ∙ ended in cc
+  not_ended : HasEnded s.plan s.tale t → ⊥
+  not_ended ended = let n : fate.Waiting ≡ fate.Ended = sym answer.0.waits ∙ ended in cc
 
-      was : WasThere o s t Missing
-      was = some_known (λ (x : Known). (u : ℕ) (a : Avail) → IsIn x.need u → (HasEnded s.plan s.tale u → ⊥) → slice_get x.avail u ≡ Some a → WasThere o s u a) s.known k known run.there t Missing answer.0.needed not_ended answer.0.missing
+  was_missing : WasThere o s t Missing
+  was_missing = some_known (λ (x : Known). (u : ℕ) (a : Avail) → IsIn x.need u → (HasEnded s.plan s.tale u → ⊥) → slice_get x.avail u ≡ Some a → WasThere o s u a) s.known k known run.there t Missing answer.0.needed not_ended answer.0.missing
+
+  pub told_missing : WasSo o s.plan s.options s.tale (events.Started t seat)
+  told_missing = tells_one o s (events.Started t seat) t Missing run.rows was_missing refl
+
+  -- so it isn't begun
+  pub not_begun : s.fault ≡ None → IsBegun s t → ⊥
+  not_begun none begun =
+      let lt : t < length s.plan.tasks = ready_lt s.plan k s.tale t seat now.need answer.0 in
+      let x = signed_at s.rows s.plan.tasks t lt in
+      let was = run.answered none t begun.0 begun.1 not_ended in
+      elim was.1 [
+        | inl object ↦ (was_missing x.0 x.1).1 (subst (IsAvailable o.story.held s.rows s.options.setscene x.0) object (was.0 x.0 x.1)).1
+        | inr gone ↦ (let n : fate.Waiting ≡ fate.Running gone.1.0 = sym answer.0.waits ∙ gone.1.1 in cc)
+      ]
 
   pub settles_large : (moment : ℕ) → SettlesNone o s.plan s.tale (record { event = events.Failed t why.TooLarge; seat = seat; moment = moment })
   settles_large moment = settles_none (events.Failed t why.TooLarge) moment refl refl (λ b. refl)

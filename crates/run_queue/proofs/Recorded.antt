@@ -1,5 +1,5 @@
 -- The line of a publication, and what stores are valid with during it and behind it.
-use Rattle.std.proofs.Common.{◌≡◌, ◌∙◌, sym, ap, subst, refl, ℕ, ◌⊎◌, inl, inr, Bool, true, false, List, [], ◌∷◌, ◌++◌, map, Some, None, Result, Ok, append-nil, zero, suc, take}
+use Rattle.std.proofs.Common.{◌≡◌, ◌∙◌, sym, ap, refl, ℕ, ◌⊎◌, inl, inr, Bool, true, false, List, [], ◌∷◌, ◌++◌, map, Some, None, Result, Ok, append-nil, zero, suc, take}
 use Rattle.std.specs.Prelude.{Option, is_none, if◌then◌else◌}
 use Rattle.std.specs.Str.{bytes_eq}
 use Rattle.std.specs.List.{AllByRecursion, slice_get}
@@ -32,9 +32,8 @@ use Rattle.store_model.proofs.Standing.{each_line, row_found, row_none}
 use Rattle.store_model.specs.Lines.{HasLine}
 use Rattle.build_store.specs.Laws.{IsOfLine, IsOfTask}
 use Rattle.store_model.specs.Paths.{record_path}
-use Rattle.build_store.specs.Publication.{IsPublished, Publishes, line_for, publication, rows_with, unihash_for}
+use Rattle.build_store.specs.Publication.{line_for, publication, rows_with, unihash_for}
 use Rattle.store_model.specs.Publication.{Publication, record_file}
-use Rattle.build_store.proofs.Validity.{published_is_valid}
 
 -- ---- records of a book
 
@@ -156,37 +155,9 @@ module _ (gives : Gives) (reading : Reading) (book : Book) (s : Signed) (tree : 
   abbrev q : Publication
   q = publication (rows_of book) s tree
 
-  -- no record is held under a new name
-  pub unknown : (image : Store) → IsValid gives reading image book → (publication (rows_of book) s tree).is_new ≡ true → image (record_path (name_of s.sig)) ≡ None
-  unknown image valid new = by put.stands
-    where
-      by : (HasLine book put.line × (put.more ≡ []) × ((publication (rows_of book) s tree).is_new ≡ false)) ⊎ (IsValidLine gives reading book put.line × (put.more ≡ put.line ∷ []) × (row_at (rows_of book) (name_of s.sig) ≡ None) × (put.line ≡ recorded (rows_of book) s tree)) → image (record_path (name_of s.sig)) ≡ None
-      by (inl known) = absurd (let n : true ≡ false = sym new ∙ known.2 in cc)
-      by (inr none) = no_record gives reading image book s.sig valid none.2
-
   -- the line, as the laws of publications ask for it
   pub which : HasLine book put.line ⊎ IsValidLine gives reading book put.line
   which = elim put.stands [ inl known ↦ inl known.0 | inr new ↦ inr new.0 ]
-
-  -- at each moment a store is valid with the book, or with the longer one
-  pub either_valid : (old new : Store) → IsValid gives reading old book → Publishes (publication (rows_of book) s tree) old new → IsValid gives reading new book ⊎ IsValid gives reading new (book ++ put.more)
-  either_valid old new valid publishes = by put.stands (published_is_valid q put.line old new put.of publishes gives reading book valid which)
-    where
-      by : (HasLine book put.line × (put.more ≡ []) × ((publication (rows_of book) s tree).is_new ≡ false)) ⊎ (IsValidLine gives reading book put.line × (put.more ≡ put.line ∷ []) × (row_at (rows_of book) (name_of s.sig) ≡ None) × (put.line ≡ recorded (rows_of book) s tree))
-          → IsValid gives reading new book ⊎ IsValid gives reading new (book ++ put.line ∷ []) → IsValid gives reading new book ⊎ IsValid gives reading new (book ++ put.more)
-      by w (inl v) = inl v
-      by (inl known) (inr v) = absurd (not_twice gives reading book put.line known.0 v.lines)
-      by (inr added) (inr v) = inr (subst (λ (m : Book). IsValid gives reading new (book ++ m)) (sym added.1) v)
-
-  -- behind it with the longer one
-  pub published_valid : (old new : Store) → IsValid gives reading old book → Publishes (publication (rows_of book) s tree) old new → IsPublished (publication (rows_of book) s tree) new → IsValid gives reading new (book ++ put.more)
-  published_valid old new valid publishes is = by put.stands (either_valid old new valid publishes)
-    where
-      by : (HasLine book put.line × (put.more ≡ []) × ((publication (rows_of book) s tree).is_new ≡ false)) ⊎ (IsValidLine gives reading book put.line × (put.more ≡ put.line ∷ []) × (row_at (rows_of book) (name_of s.sig) ≡ None) × (put.line ≡ recorded (rows_of book) s tree))
-          → IsValid gives reading new book ⊎ IsValid gives reading new (book ++ put.more) → IsValid gives reading new (book ++ put.more)
-      by w (inr v) = v
-      by (inl known) (inl v) = subst (λ (b : Book). IsValid gives reading new b) (sym (ap (λ (m : Book). book ++ m) known.1 ∙ append-nil book)) v
-      by (inr added) (inl v) = absurd (let n : None ≡ Some q.file = sym (no_record gives reading new book s.sig v added.2) ∙ is.stored in cc)
 
 -- ---- fronts of longer lists
 

@@ -121,14 +121,15 @@ current_anyway says plan rows later (Some m) same is =
     subst (λ (r : List EquivRow). IsCurrent no_meaning (view_of plan r) m) (sym same) (current_follows says no_meaning (view_of plan rows) m (λ t sig there said. tt) is)
 
 -- What every state keeps, it keeps with what is known afterwards, and with the fault that may have been met.
-pub state_after : {D W : Type 0} (count now : ℕ) (s : RunView D W) (store : View D) (begun : List (Option Avail)) (fault : Option RunFault) (made : Option Replan) → IsState count s → s.fault ≡ None → length begun ≡ length s.begun → (fault ≡ None → now ≡ 0) → IfSome fault (IsCause now s.plan store.rows s.sink_failed)
+pub state_after : {D W : Type 0} (count now : ℕ) (s : RunView D W) (store : View D) (begun : List (Option Avail)) (fault : Option RunFault) (made : Option Replan) → IsState count s → s.fault ≡ None → store.faultless ≡ s.store.faultless → length begun ≡ length s.begun → (fault ≡ None → now ≡ 0) → IfSome fault (IsCause now s.plan store.rows s.sink_failed)
     → IfSome made (IsCurrent no_meaning (view_of s.plan store.rows)) → IsState now (record s { store = store; begun = begun; fault = fault; known = option_map known_in made })
-state_after count now s store begun fault made is none long unharmed cause current = record {
+state_after count now s store begun fault made is none clean long unharmed cause current = record {
   sound = is.sound;
   long = long ∙ is.long;
   orderly = is.orderly;
   current = known made current;
   unharmed = unharmed;
+  clean = λ n. clean ∙ is.clean none;
   heard = λ n. is.heard none;
   unbroken = λ n. is.unbroken none;
   cause = cause;

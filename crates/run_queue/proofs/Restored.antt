@@ -2,7 +2,6 @@
 use Rattle.std.proofs.Common.{◌≡◌, ◌≢◌, ◌∙◌, sym, ap, subst, refl, ℕ, ◌<◌, ◌-◌, ◌^◌, min, zero, suc, arith, Bool, true, false, List, [], ◌∷◌, ◌++◌, length, set, Some, None, ◌⊎◌, inl, inr}
 use Rattle.std.specs.Prelude.{IsSome, Option}
 use Rattle.std.specs.List.{slice_get}
-use Rattle.std.proofs.lemmas.Bool.{false≢true}
 use Rattle.std.proofs.lemmas.Option.{same_Some, slice_get_within}
 use Rattle.outside_traits.specs.Store.{Store}
 use Rattle.outside_traits.specs.Story.{IsImage, Story, moment}
@@ -25,12 +24,11 @@ use Rattle.run_core.proofs.Steps.{count_told, told_push}
 use Rattle.store_model.specs.declared.signature.EquivRow.{EquivRow}
 use Rattle.store_model.specs.Available.{IsInWork}
 use Rattle.store_model.specs.Origins.{rows_of}
-use Rattle.store_model.specs.Opened.{HasNoLitter}
 use Rattle.store_model.specs.Rows.{row_at}
 use Rattle.store_model.specs.Signatures.{Signed, signatures}
 use Rattle.store_model.specs.Spelling.{name_of}
 use Rattle.build_store.specs.Publication.{IsRestored}
-use Rattle.build_store.specs.View.{SameBooks, View}
+use Rattle.build_store.specs.View.{SameRows, View}
 use Rattle.run_model.specs.Opening.{Opening}
 use Rattle.run_model.specs.Books.{rows_after, signed_after}
 use Rattle.run_model.specs.Courses.{IsCourse}
@@ -120,6 +118,7 @@ module _ (o : Opening) (s : Seen) (run : IsRun o s) (sound : story_of.IsSound s.
       within = in_count;
       before = answer.0.waits;
       after = λ e. (let n : fate.Restored ≡ fate.Ended = e in cc);
+      rests = λ other e. (let n : fate.Restored ≡ fate.Running other = e in cc);
       book = λ b. refl;
       stored = λ x here. subst (λ (y : Signed). row_at s.rows (name_of y.sig) ≢ None) (same_Some (signed o s run sound none orderly k is_known now t answer object).0 x (sym (signed o s run sound none orderly k is_known now t answer object).1 ∙ here)) has_some;
       so = tells_one o s (events.Restored t) t avail.Object run.rows (was o s run sound none orderly k is_known now t answer object) refl;
@@ -134,7 +133,7 @@ module _ (o : Opening) (s : Seen) (run : IsRun o s) (sound : story_of.IsSound s.
 
 module _ {D W : Type 0} (story : D → Story) (written : W → List ℕ) (o : Opening) (old : RunView D W) (run : IsRun o (seen story written old)) (none : old.fault ≡ None) (orderly : EachAfter (IsOrderly old.plan.tasks) old.tale) (k : Known) (is_known : old.known ≡ Some k) (now : IsUpToDate old.plan old.store.rows k) (t : ℕ)
     (answer : MayAnswer old.options old.plan.tasks k.need k.avail (fates_told (length old.plan.tasks) old.tale) (next.Settle t)) (object : slice_get k.avail t ≡ Some avail.Object)
-    (sound : story_of.IsSound (story old.store.disk)) (store : View D) (later_sound : story_of.IsSound (story store.disk)) (books : SameBooks old.store store) where
+    (sound : story_of.IsSound (story old.store.disk)) (store : View D) (later_sound : story_of.IsSound (story store.disk)) (books : SameRows old.store store) where
   own : (x : Signed) × (slice_get (signatures old.store.rows old.plan.tasks) t ≡ Some x)
   own = signed o (seen story written old) run sound none orderly k is_known now t answer object
 
@@ -149,6 +148,7 @@ module _ {D W : Type 0} (story : D → Story) (written : W → List ℕ) (o : Op
       options = old.options;
       rows = sym books.rows i;
       kept = sym books.kept i;
+      opened = sym books.opened i;
       sink_failed = old.sink_failed;
       fault = fault;
       tale = old.tale;
@@ -158,27 +158,26 @@ module _ {D W : Type 0} (story : D → Story) (written : W → List ℕ) (o : Op
       written = written old.sink;
     }
 
-    run_by : (fault : Option RunFault) (but : ℕ → Type 0) → IsSome fault ⊎ but t → (fault ≡ None → HasNoLitter (story store.disk).held) → IsRunBut o (record (seen story written old) { story = story store.disk; begun = begun; fault = fault }) but
-    run_by fault but spare swept =
+    run_by : (fault : Option RunFault) (but : ℕ → Type 0) → IsSome fault ⊎ but t → IsRunBut o (record (seen story written old) { story = story store.disk; begun = begun; fault = fault }) but
+    run_by fault but spare =
         let p = puts (signed o (seen story written old) run sound none orderly k is_known now t answer object).0 (signed o (seen story written old) run sound none orderly k is_known now t answer object).1 in
-        restoring_run o (seen story written old) run sound none orderly k is_known now t answer object (story store.disk) later_sound (p.images tt) (p.others tt) begun begins restoring fault but spare swept
+        restoring_run o (seen story written old) run sound none orderly k is_known now t answer object (story store.disk) later_sound (p.images tt) (p.others tt) begun begins restoring fault but spare
 
     -- Where a restoring met a fault, which is kept, it leaves what a run keeps.
     pub restoring_view : (fault : Option RunFault) → IsSome fault → IsRun o (seen story written (record old { store = store; begun = begun; fault = fault }))
-    restoring_view fault some = subst (IsRun o) (path fault) (run_by fault nobody (inl some) (λ no. absurd (false≢true (subst (λ (f : Option RunFault). IsSome f) no some))))
+    restoring_view fault some = subst (IsRun o) (path fault) (run_by fault nobody (inl some))
 
     -- and where it met none, but that its task isn't told of yet
-    untold_view : (fault : Option RunFault) → (fault ≡ None → HasNoLitter (story store.disk).held) → IsRunBut o (seen story written (record old { store = store; begun = begun; fault = fault })) (λ u. u ≡ t)
-    untold_view fault swept = subst (λ (x : Seen). IsRunBut o x (λ u. u ≡ t)) (path fault) (run_by fault (λ u. u ≡ t) (inr refl) swept)
+    untold_view : (fault : Option RunFault) → IsRunBut o (seen story written (record old { store = store; begun = begun; fault = fault })) (λ u. u ≡ t)
+    untold_view fault = subst (λ (x : Seen). IsRunBut o x (λ u. u ≡ t)) (path fault) (run_by fault (λ u. u ≡ t) (inr refl))
 
     -- A task that was restored and marked so leaves it too.
     pub restored_view : (new : RunView D W) (seat : ℕ) → IsFree (fates_told (length old.plan.tasks) old.tale) seat → ((x : Signed) → IsSignedAt old.store.rows old.plan.tasks t x → HasPutObject (Unit {0}) (story old.store.disk) (story store.disk) old.store.rows x true)
-        → (HasNoLitter (story old.store.disk).held → HasNoLitter (story store.disk).held)
         → Notes seat (events.Restored t) (record old { store = store; begun = begun; fault = old.fault }) new → MarksAt (story store.disk) seat (events.Restored t) old.tale new.tale → (IsSome old.fault → new.fault ≡ old.fault) → IsRun o (seen story written new)
-    restored_view new seat free answered sweeps notes marks stays =
+    restored_view new seat free answered notes marks stays =
         settled_view story written o (record old { store = store; begun = begun; fault = old.fault }) new (λ u. u ≡ t) seat (events.Restored t) notes marks stays
         (subst (λ (x : Seen). SettlesOne o x (logged_at x seat (events.Restored t))) (path old.fault) settles)
-        (untold_view old.fault (λ no. sweeps (run.swept no)))
+        (untold_view old.fault)
         (λ u same. subst (IsPlaced (old.tale ++ logged_at (seen story written (record old { store = store; begun = begun; fault = old.fault })) seat (events.Restored t) ∷ [])) (sym same)
         (restored_last old.tale (logged_at (seen story written (record old { store = store; begun = begun; fault = old.fault })) seat (events.Restored t)) t refl))
         may

@@ -31,13 +31,17 @@ use Rattle.run_model.specs.Opening.{Opening}
 use Rattle.run_model.specs.Books.{book_after, book_by, rows_after, signed_after}
 use Rattle.run_model.specs.Courses.{IsCourse}
 use Rattle.run_queue.specs.Courses.{IsReal}
-use Rattle.run_queue.specs.Keeps.{IsRun, IsRunBut, MayBeHalted, WasThere}
+use Rattle.run_queue.specs.Flights.{AreFlights, IsValidWith}
+use Rattle.run_queue.specs.Keeps.{IsRun, IsRunBut, WasThere}
 use Rattle.run_queue.specs.declared.fault.RunFault.{RunFault}
 use Rattle.run_queue.specs.Seen.{Known, RunView, Seen, seen}
+use Rattle.run_model.specs.InFlight.{RunsAfter}
 use Rattle.run_model.specs.Stands.{AllStand, HasEnded, HasOwnRow, IsSettledIn, IsStanding, IsPlaced}
 use Rattle.run_queue.specs.Stands.{HasObjects}
 use Rattle.run_queue.specs.Turns.{MarksAt, Notes}
-use Rattle.run_queue.proofs.Touched.{broken_on, halted_as, left_behind, told_on}
+use Rattle.run_queue.proofs.Boarding.{marks_keep_flights}
+use Rattle.run_queue.proofs.Meanwhile.{fault_stays, told_on}
+use Rattle.run_queue.proofs.Touched.{left_behind}
 use Rattle.run_queue.proofs.Growing.{book_grows, legal_grows}
 use Rattle.run_queue.proofs.There.{WasSo, there_grows}
 use Rattle.run_queue.proofs.Notes.{set_other, set_same}
@@ -49,6 +53,7 @@ pub record SettlesOne (o : Opening) (s : Seen) (e : Logged) : Type 0 where
   pub within : task_of e.event < length (fates_told (length s.plan.tasks) s.tale)
   pub before : fate_at (fates_told (length s.plan.tasks) s.tale) (task_of e.event) ≡ fate.Waiting
   pub after : fate_by e.event ≢ fate.Ended
+  pub rests : (seat : ℕ) → fate_by e.event ≢ fate.Running seat
   pub book : (b : Book) → book_by o.gives s.plan b e.event ≡ b
   pub stored : (sg : Signed) → slice_get (signatures s.rows s.plan.tasks) (task_of e.event) ≡ Some sg → row_at s.rows (name_of sg.sig) ≢ None
   pub met : (a : Avail) × WasThere o s (task_of e.event) a × (a ≢ Missing)
@@ -150,10 +155,14 @@ settled_run o s but seat event failed fault written settles run own faultless ma
       grown = books ∙ run.grown;
       own = run.own;
       readable = run.readable;
-      valid = λ none. run.valid (faultless none);
-      durable = λ none. run.durable (faultless none);
-      swept = λ none. run.swept (faultless none);
-      objects = λ none image is u task at_task not_yet. subst (λ (b : Book). HasObjects b o.story.held image task) (sym books) (run.objects (faultless none) image is u task at_task (λ ended. not_yet (ended_on o s e settles u ended)));
+      opened = run.opened;
+      book = λ none. run.book (faultless none);
+      open_are = λ none. run.open_are (faultless none);
+      flights = λ none. (flown none).0;
+      touched = λ none. run.touched (faultless none);
+      flying = λ none u other runs begun. run.flying (faultless none) u other (ran u other runs).1 begun;
+      durable = λ none image is. (flown none).1 image (run.durable (faultless none) image is);
+      objects = λ none image is u task at_task not_yet on_ground. subst (λ (b : Book). HasObjects b o.story.held image task) (sym books) (run.objects (faultless none) image is u task at_task (λ ended. not_yet (ended_on o s e settles u ended)) on_ground);
       later = run.later;
       marked = λ k x here. elim (front_at o s e settles k x here) [
         | inl f ↦ run.marked k x f
@@ -170,10 +179,13 @@ settled_run o s but seat event failed fault written settles run own faultless ma
         | inl same ↦ settles.stored sg (ap (slice_get (signatures s.rows s.plan.tasks)) same ∙ is)
         | inr ne ↦ run.stored u sg (settled_back o s e settles u ne settled) is
       ];
+      missing = λ u other runs sg is. run.missing u other (ran u other runs).1 sg is;
       there = if_some_on s.known (λ (k : Known). (u : ℕ) (a : Avail) → IsIn k.need u → (HasEnded s.plan s.tale u → ⊥) → slice_get k.avail u ≡ Some a → WasThere o s u a)
           (λ (k : Known). (u : ℕ) (a : Avail) → IsIn k.need u → (HasEnded s.plan (s.tale ++ e ∷ []) u → ⊥) → slice_get k.avail u ≡ Some a → WasThere o later u a)
           (λ k h u a member not_yet is. h u a member (λ ended. not_yet (ended_on o s e settles u ended)) is) run.there;
-      answered = λ none u a is not_yet. run.answered (faultless none) u a is (λ ended. not_yet (ended_on o s e settles u ended));
+      answered = λ none u a is not_yet.
+          let was = run.answered (faultless none) u a is (λ ended. not_yet (ended_on o s e settles u ended)) in
+          ((λ x here. was.0 x here), elim was.1 [ inl object ↦ inl object | inr gone ↦ inr (gone.0, (gone.1.0, runs_on u gone.1.0 gone.1.1)) ]);
       met = λ u settled not_yet. elim (cases_eq (task_of event) u) [
         | inl same ↦ subst (λ (v : ℕ). (a : Avail) × WasThere o later v a × (a ≢ Missing)) same (settles.met.0, settles.met.1, settles.met.2)
         | inr ne ↦
@@ -181,7 +193,7 @@ settled_run o s but seat event failed fault written settles run own faultless ma
             (m.0, m.1, m.2)
       ];
       halted = run.halted;
-      told = told_on s.begun s.tale e s.fault fault run.halted (MayBeHalted o s) (MayBeHalted o later) but faultless (halted_as o s later (broken_on s.tale e) (λ u was x here. was x here)) (λ u b. inl (own u b)) run.told;
+      told = λ u b. told_on o s later run.halted but u e refl refl (fault_stays s.fault fault faultless) (λ was x here. was x here) (λ other same runs. absurd (waits u other runs (sym same))) (λ spare. inl (own u spare)) (run.told u b);
       images = λ t image le since. elim (run.images t image le since) [ inl before ↦ inl before | inr left ↦ inr (left_behind o s.plan s.begun s.tale e image left) ];
       stands = λ image is. stands_on o s e settles image is (run.stands image is);
       settled = λ k x here lt image since. elim (front_at o s e settles k x here) [
@@ -195,6 +207,22 @@ settled_run o s but seat event failed fault written settles run own faultless ma
             subst (λ (l : List Logged). AllStand o s.plan l image) (sym whole) (stands_on o s e settles image image_now (run.stands image image_now))
       ];
     }
+  where
+    -- the task of the event waits
+    waits : (u other : ℕ) → RunsAfter s.plan s.tale u other → task_of event ≡ u → ⊥
+    waits u other runs same = let n : fate.Waiting ≡ fate.Running other = sym settles.before ∙ ap (fate_at (fates_told (length s.plan.tasks) s.tale)) same ∙ runs in cc
+
+    runs_on : (u other : ℕ) → RunsAfter s.plan s.tale u other → RunsAfter s.plan (s.tale ++ logged_at s seat event ∷ []) u other
+    runs_on u other runs = other_fate o s (logged_at s seat event) settles u (waits u other runs) ∙ runs
+
+    ran : (u other : ℕ) → RunsAfter s.plan (s.tale ++ logged_at s seat event ∷ []) u other → (task_of event ≡ u → ⊥) × RunsAfter s.plan s.tale u other
+    ran u other runs = elim (cases_eq (task_of event) u) [
+      | inl same ↦ absurd (settles.rests other (sym (own_fate o s (logged_at s seat event) settles) ∙ ap (fate_at (fates_told (length s.plan.tasks) (s.tale ++ logged_at s seat event ∷ []))) same ∙ runs))
+      | inr ne ↦ (ne, sym (other_fate o s (logged_at s seat event) settles u ne) ∙ runs)
+    ]
+
+    flown : (none : fault ≡ None) → AreFlights o s.plan (s.tale ++ logged_at s seat event ∷ []) run.opened × ((image : Store) → IsValidWith o s.plan s.tale run.opened image → IsValidWith o s.plan (s.tale ++ logged_at s seat event ∷ []) run.opened image)
+    flown none = marks_keep_flights o s.plan s.tale run.opened (logged_at s seat event) settles.book (λ u other flies runs same. waits u other runs (sym same)) (run.flights (faultless none))
 
 -- the same of views of a state
 pub settled_view : {D W : Type 0} (story : D → Story) (written : W → List ℕ) (o : Opening) (old new : RunView D W) (but : ℕ → Type 0) (seat : ℕ) (event : Event) → Notes seat event old new → MarksAt (story old.store.disk) seat event old.tale new.tale → (IsSome old.fault → new.fault ≡ old.fault)
@@ -210,6 +238,7 @@ settled_view story written o old new but seat event n m stays settles run own ma
       options = sym n.options i;
       rows = (sym n.store i).rows;
       kept = (sym n.store i).kept;
+      opened = (sym n.store i).opened;
       sink_failed = new.sink_failed;
       fault = new.fault;
       tale = sym m.is i;

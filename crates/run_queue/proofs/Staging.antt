@@ -23,7 +23,7 @@ use Rattle.store_opening.proofs.SameLines.{entry_found, entry_there}
 use Rattle.build_store.specs.Publication.{Publishes, publication}
 use Rattle.build_store.proofs.Validity.{published_is_valid}
 use Rattle.run_model.specs.Books.{book_after, line_of_ended}
-use Rattle.run_model.specs.InFlight.{book_with, lines_in_flight}
+use Rattle.run_model.specs.InFlight.{lines_in_flight}
 use Rattle.run_model.specs.Opening.{Opening}
 use Rattle.run_queue.specs.Flights.{AreOnce, Flies, FliesAs, IsUnderWay, IsValidWith, OpenTask, OpenTasks}
 use Rattle.run_queue.proofs.Flights.{flight_of, line_is, put_of, two_besides}
@@ -142,11 +142,4 @@ module _ (o : Opening) (plan : Plan) (tale : List Logged) (opened : OpenTasks) (
   own_record image v = elim (place v.in_flight v.fly) [
     | inl has ↦ inr (held_record image (Now ++ Lines v.in_flight) v.valid has)
     | inr comes ↦ inl (no_record_yet image v.in_flight v.valid comes.0)
-  ]
-
-  -- where the record is held the line is among those in flight, or stands in the book
-  pub recorded_place : (image : Store) (v : IsValidWith o plan tale opened image) → image (record_path (name_of one.signed.sig)) ≡ Some (publication (rows_of (book_after o.gives plan o.book tale)) one.signed one.tree).file → HasLine (book_with o plan tale v.in_flight) put.line
-  recorded_place image v held = elim (place v.in_flight v.fly) [
-    | inl has ↦ has
-    | inr comes ↦ absurd (let n : None ≡ Some p.file = sym (no_record_yet image v.in_flight v.valid comes.0) ∙ held in cc)
   ]

@@ -1,10 +1,8 @@
 -- Which tasks a run touches.
 use Rattle.std.proofs.Common.{◌≡◌, ◌≢◌, ◌∙◌, sym, ap, subst, refl, ℕ, zero, suc, ◌⊎◌, inl, inr, List, [], ◌∷◌, ◌++◌, length, map, replicate, set, take, Some}
-use Rattle.std.specs.Prelude.{IsSome, None, Option, fold}
+use Rattle.std.specs.Prelude.{Option, fold}
 use Rattle.std.specs.List.{slice_get}
-use Rattle.std.proofs.lemmas.Bool.{cases_eq, false≢true}
 use Rattle.meta_model.specs.declared.event.Avail.{Avail}
-use Rattle.meta_model.specs.declared.event.Avail.TheVariants as avail
 use Rattle.meta_model.specs.declared.event.Cut.{Cut}
 use Rattle.meta_model.specs.declared.event.Cut.TheVariants as cuts
 use Rattle.meta_model.specs.declared.event.Event.{Event}
@@ -17,11 +15,9 @@ use Rattle.meta_model.specs.CleanBuild.{Gives}
 use Rattle.outside_traits.specs.Store.{Store}
 use Rattle.store_model.specs.Origins.{Book, Line, rows_of}
 use Rattle.tale_model.specs.Fates.{fate_at, fate_by, fates_by, fates_told, task_of}
-use Rattle.run_queue.specs.declared.fault.RunFault.{RunFault}
-use Rattle.run_queue.specs.Keeps.{MayBeHalted, WasThere, nobody}
 use Rattle.run_model.specs.Opening.{Opening}
 use Rattle.run_model.specs.Own.{IsAside, IsObjectOfNone, IsUnihashOver}
-use Rattle.run_queue.specs.Seen.{IsBegunIn, Seen}
+use Rattle.run_queue.specs.Seen.{IsBegunIn}
 use Rattle.run_queue.specs.Stands.{IsLeft, IsPublishing, IsReadAfter}
 use Rattle.run_model.specs.Books.{book_after}
 use Rattle.run_model.specs.Stands.{HasBroken, HasFinished, HasStarted, IsPlaced}
@@ -40,7 +36,7 @@ set_was (x ∷ xs) (suc t) (suc u) f g e = elim (set_was xs t u f g e) [
 ]
 
 -- an event by which a task runs starts it
-starts_by : (event : Event) (seat : ℕ) → fate_by event ≡ fate.Running seat → event ≡ events.Started (task_of event) seat
+pub starts_by : (event : Event) (seat : ℕ) → fate_by event ≡ fate.Running seat → event ≡ events.Started (task_of event) seat
 starts_by (events.Found t) seat e = absurd (let n : fate.Found ≡ fate.Running seat = e in cc)
 starts_by (events.Restored t) seat e = absurd (let n : fate.Restored ≡ fate.Running seat = e in cc)
 starts_by (events.Started t s) seat e = let n : fate.Running s ≡ fate.Running seat = e in let same : s ≡ seat = cc in ap (events.Started t) same
@@ -79,7 +75,7 @@ front_get (z ∷ xs) (suc k) x y e = front_get xs k x y e
 started_on : (tale : List Logged) (e : Logged) (t : ℕ) → HasStarted tale t → HasStarted (tale ++ e ∷ []) t
 started_on tale e t s = record { place = s.place; entry = s.entry; is_entry = front_get tale s.place s.entry e s.is_entry; seat = s.seat; starts = s.starts }
 
-placed_on : (tale : List Logged) (e : Logged) (t : ℕ) → IsPlaced tale t → IsPlaced (tale ++ e ∷ []) t
+pub placed_on : (tale : List Logged) (e : Logged) (t : ℕ) → IsPlaced tale t → IsPlaced (tale ++ e ∷ []) t
 placed_on tale e t (inl f) = inl (record { place = f.place; entry = f.entry; is_entry = front_get tale f.place f.entry e f.is_entry; ends = f.ends })
 placed_on tale e t (inr r) = inr (record { place = r.place; entry = r.entry; is_entry = front_get tale r.place r.entry e r.is_entry; restores = r.restores })
 
@@ -95,82 +91,12 @@ pub broken_last : (tale : List Logged) (e : Logged) (t : ℕ) (cut : Cut) → e.
 broken_last tale e t cut is other = record { place = length tale; entry = e; is_entry = last_get tale e; cut = cut; breaks = is; not_bench = other }
 
 -- a task that ended by the last entry
-finished_last : (tale : List Logged) (e : Logged) (t : ℕ) → e.event ≡ events.Ended t → HasFinished (tale ++ e ∷ []) t
+pub finished_last : (tale : List Logged) (e : Logged) (t : ℕ) → e.event ≡ events.Ended t → HasFinished (tale ++ e ∷ []) t
 finished_last tale e t is = record { place = length tale; entry = e; is_entry = last_get tale e; ends = is }
 
 -- a task that the last entry restores
 pub restored_last : (tale : List Logged) (e : Logged) (t : ℕ) → e.event ≡ events.Restored t → IsPlaced (tale ++ e ∷ []) t
 restored_last tale e t is = inr (record { place = length tale; entry = e; is_entry = last_get tale e; restores = is })
-
--- ---- what is told
-
--- by views that say the same of what was there
-pub halted_as : (o : Opening) (s later : Seen) → ((u : ℕ) → HasBroken s.tale u → HasBroken later.tale u) → ((u : ℕ) → WasThere o s u avail.Object → WasThere o later u avail.Object) → (u : ℕ) → MayBeHalted o s u → MayBeHalted o later u
-halted_as o s later breaks there u (inl broken) = inl (breaks u broken)
-halted_as o s later breaks there u (inr was) = inr (there u was)
-
--- where a fault is kept it stays, as long as none is kept now only where none was
-fault_stays : (old new : Option RunFault) → (new ≡ None → old ≡ None) → IsSome old → IsSome new
-fault_stays old (Some f) stays is = refl
-fault_stays None None stays is = is
-fault_stays (Some f) None stays is = absurd (let n : Some f ≡ None = stays refl in cc)
-
--- each begun task is placed in the tale, or it is the one that was halted, where a fault is kept and it may have met it, or one of these
-abbrev pub Told : List (Option Avail) → List Logged → Option RunFault → ℕ → (ℕ → Type 0) → (ℕ → Type 0) → Type 0
-Told begun tale fault halted may but = (u : ℕ) → (a : Avail) × (slice_get begun u ≡ Some (Some a)) → IsPlaced tale u ⊎ ((IsSome fault × (u ≡ halted) × may u) ⊎ but u)
-
--- A fault stays, and what is begun besides is placed; what needn't have been told of is placed, or it is the one that was halted.
-pub told_by : (begun more : List (Option Avail)) (tale longer : List Logged) (fault later : Option RunFault) (halted : ℕ) (may then' but : ℕ → Type 0)
-    → ((u : ℕ) → (a : Avail) × (slice_get more u ≡ Some (Some a)) → ((a : Avail) × (slice_get begun u ≡ Some (Some a))) ⊎ IsPlaced longer u)
-    → ((u : ℕ) → IsPlaced tale u → IsPlaced longer u) → (later ≡ None → fault ≡ None) → ((u : ℕ) → may u → then' u) → ((u : ℕ) → but u → IsPlaced longer u ⊎ (IsSome later × (u ≡ halted) × then' u))
-    → Told begun tale fault halted may but → Told more longer later halted then' nobody
-told_by begun more tale longer fault later halted may then' but begins placed stays also own told u b = elim (begins u b) [
-  | inl was ↦ elim (told u was) [
-    | inl up ↦ inl (placed u up)
-    | inr rest ↦ elim rest [
-      | inl it ↦ inr (inl (fault_stays fault later stays it.0, it.1, also u it.2))
-      | inr other ↦ elim (own u other) [ inl up ↦ inl up | inr it ↦ inr (inl it) ]
-    ]
-  ]
-  | inr now ↦ inl now
-]
-
--- behind one more entry
-pub told_on : (begun : List (Option Avail)) (tale : List Logged) (e : Logged) (fault later : Option RunFault) (halted : ℕ) (may then' but : ℕ → Type 0) → (later ≡ None → fault ≡ None) → ((u : ℕ) → may u → then' u)
-    → ((u : ℕ) → but u → IsPlaced (tale ++ e ∷ []) u ⊎ (IsSome later × (u ≡ halted) × then' u)) → Told begun tale fault halted may but → Told begun (tale ++ e ∷ []) later halted then' nobody
-told_on begun tale e fault later halted may then' but stays also own told = told_by begun begun tale (tale ++ e ∷ []) fault later halted may then' but (λ u b. inl b) (placed_on tale e) stays also own told
-
--- behind one more entry, by which a task that is begun besides ended
-pub told_ended : (begun more : List (Option Avail)) (t : ℕ) (tale : List Logged) (e : Logged) (fault later : Option RunFault) (halted : ℕ) (may then' : ℕ → Type 0) → ((u : ℕ) → (u ≡ t → ⊥) → slice_get more u ≡ slice_get begun u) → e.event ≡ events.Ended t
-    → (later ≡ None → fault ≡ None) → ((u : ℕ) → may u → then' u) → Told begun tale fault halted may nobody → Told more (tale ++ e ∷ []) later halted then' nobody
-told_ended begun more t tale e fault later halted may then' others ends stays also told = told_by begun more tale (tale ++ e ∷ []) fault later halted may then' nobody begins (placed_on tale e) stays also (λ u never. absurd never) told
-  where
-    begins : (u : ℕ) → (a : Avail) × (slice_get more u ≡ Some (Some a)) → ((a : Avail) × (slice_get begun u ≡ Some (Some a))) ⊎ IsPlaced (tale ++ e ∷ []) u
-    begins u b = elim (cases_eq u t) [
-      | inl same ↦ inr (inl (subst (HasFinished (tale ++ e ∷ [])) (sym same) (finished_last tale e t ends)))
-      | inr ne ↦ inl (b.0, sym (others u ne) ∙ b.1)
-    ]
-
--- with one more task begun, which is halted, or needn't be told of yet
-pub told_halted : (begun more : List (Option Avail)) (t : ℕ) (tale : List Logged) (fault later : Option RunFault) (halted : ℕ) (may then' but : ℕ → Type 0) → ((u : ℕ) → (u ≡ t → ⊥) → slice_get more u ≡ slice_get begun u) → fault ≡ None → (IsSome later × then' t) ⊎ but t
-    → Told begun tale fault halted may nobody → Told more tale later t then' but
-told_halted begun more t tale fault later halted may then' but others none spare told u b = elim (cases_eq u t) [
-  | inl same ↦ elim spare [
-    | inl some ↦ inr (inl (some.0, same, subst then' (sym same) some.1))
-    | inr it ↦ inr (inr (subst but (sym same) it))
-  ]
-  | inr ne ↦ elim (told u (b.0, sym (others u ne) ∙ b.1)) [
-    | inl up ↦ inl up
-    | inr rest ↦ elim rest [
-      | inl it ↦ absurd (none_some fault none it.0)
-      | inr never ↦ absurd never
-    ]
-  ]
-]
-  where
-    none_some : (f : Option RunFault) → f ≡ None → IsSome f → ⊥
-    none_some None e is = false≢true is
-    none_some (Some f) e is = let n : Some f ≡ None = e in cc
 
 -- ---- what a crash left
 

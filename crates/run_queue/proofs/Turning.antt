@@ -1,5 +1,5 @@
--- What a turn that publishes a task's output leaves of a run, as views of its state.
-use Rattle.std.proofs.Common.{◌≡◌, ◌≢◌, ◌∙◌, sym, ap, subst, refl, ℕ, ◌<◌, ◌-◌, ◌^◌, ◌⊎◌, inl, inr, zero, suc, arith, min, true, false, List, [], ◌∷◌, ◌++◌, length, set, All, Some, None, Ok, Err, get_or}
+-- What the turns of a job that is done leave of a run, as views of its state.
+use Rattle.std.proofs.Common.{◌≡◌, ◌≢◌, ◌∙◌, sym, ap, subst, refl, ℕ, ◌<◌, ◌-◌, ◌^◌, ◌⊎◌, inl, inr, zero, suc, arith, min, true, List, [], ◌∷◌, ◌++◌, length, set, All, Some, None, Ok, Err, get_or}
 use Rattle.tree_model.specs.declared.manifest.ManifestLine.{ManifestLine}
 use Rattle.std.specs.Prelude.{IfSome, IsSome, Option}
 use Rattle.std.specs.Option.{option_map}
@@ -12,7 +12,6 @@ use Rattle.outside_traits.specs.Store.{Store}
 use Rattle.outside_traits.specs.Story.{Story, moment}
 use Rattle.outside_traits.specs.Story as story_of
 use Rattle.outside_traits.proofs.Calls.{then_same}
-use Rattle.outside_traits.proofs.Images.{held-image}
 use Rattle.meta_model.specs.declared.event.Avail.{Avail}
 use Rattle.meta_model.specs.declared.event.Event.{Event}
 use Rattle.meta_model.specs.declared.event.Event.TheVariants as events
@@ -36,14 +35,11 @@ use Rattle.run_core.specs.History.{IsOrderly}
 use Rattle.tale_model.specs.Need.{IsIn, deps_in}
 use Rattle.store_model.specs.declared.signature.EquivRow.{EquivRow}
 use Rattle.store_model.specs.Origins.{rows_of}
-use Rattle.store_model.specs.Opened.{HasNoLitter}
 use Rattle.store_model.specs.Recording.{NeedsHaveRows}
 use Rattle.store_model.specs.Reuse.{MayReuse}
-use Rattle.store_model.specs.Rows.{row_at}
 use Rattle.store_model.specs.Signatures.{Signed, signatures}
 use Rattle.store_model.specs.Spelling.{name_of}
 use Rattle.build_store.specs.Publication.{IsPublished, line_for, publication}
-use Rattle.store_model.specs.Publication.{Publication}
 use Rattle.store_model.specs.Readable.{IsReadable}
 use Rattle.build_store.specs.View.{SameBooks, View}
 use Rattle.run_model.specs.Opening.{Opening}
@@ -51,25 +47,48 @@ use Rattle.run_model.specs.Courses.{IsCourse, clean_says, said}
 use Rattle.run_queue.specs.declared.fault.RunFault.{RunFault}
 use Rattle.run_queue.specs.Asking.{earlier_in, kept_or_meant}
 use Rattle.run_queue.specs.Keeps.{IsRun, IsUpToDate, WasThere}
-use Rattle.run_queue.specs.Puts.{HasPut, IsCleanOutput, IsSignedAt, Puts}
+use Rattle.run_queue.specs.Puts.{IsCleanOutput, IsSignedAt}
 use Rattle.setscene_plan.specs.declared.replan.Replan.{Replan}
 use Rattle.setscene_plan.specs.Replans.{IsCurrent}
 use Rattle.run_queue.specs.Seen.{Known, RunView, Seen, known_in, no_meaning, seen}
-use Rattle.run_model.specs.Stands.{HasBroken, HasEnded}
-use Rattle.run_queue.specs.Turns.{IsCleanJob, IsGivenBy, MarksAt, Notes, closed_as}
+use Rattle.run_model.specs.Stands.{HasEnded}
+use Rattle.run_queue.specs.Turns.{BreaksBy, IsCleanJob, IsGivenBy, MarksAt, Notes, closed_as, SameButFault}
 use Rattle.run_queue.proofs.Agreement.{running_over}
 use Rattle.run_queue.proofs.Breaking.{running_within}
-use Rattle.run_queue.proofs.Concluding.{HaltsAt, ended_run, ended_there, fault_run, faulty_run}
 use Rattle.run_queue.proofs.Enduring.{signed_task}
 use Rattle.run_queue.proofs.Growing.{course_of_front}
 use Rattle.run_queue.proofs.Jobs.{end_may_come, given_is_clean, says}
 use Rattle.setscene_plan.proofs.Naming.{signed_at}
 use Rattle.run_queue.proofs.Passed.{same_now}
-use Rattle.run_queue.proofs.Putting.{Begins, book_now, durable_now, may_now, readable_more}
 use Rattle.run_queue.proofs.Recorded.{IsPut, put_line}
 use Rattle.run_queue.proofs.Touched.{broken_last}
-use Rattle.run_queue.proofs.Unsettled.{logged_at, noted_but, noted_run}
 use Rattle.run_queue.proofs.There.{tells_none}
+use Rattle.run_queue.proofs.Unsettled.{logged_at, noted_run}
+use Rattle.tree_model.specs.declared.hash.Hash.{Hash}
+use Rattle.meta_model.specs.declared.event.Avail.TheVariants.{Missing}
+use Rattle.outside_traits.specs.Passes.{EachNow}
+use Rattle.outside_traits.proofs.Puts.{path_cases}
+use Rattle.store_model.specs.Available.{task_folder}
+use Rattle.tale_model.specs.Fates.{task_of}
+use Rattle.build_store.specs.declared.kept.KeptSig.{KeptSig}
+use Rattle.build_store.specs.Openings.{IsOpen, Lands, OpensTask, open_view}
+use Rattle.build_store.specs.Pieces.{IsPublishing}
+use Rattle.build_store.specs.Publication.{rows_with}
+use Rattle.build_store.specs.View.{OpenViews, opened_at}
+use Rattle.run_model.specs.Books.{book_after}
+use Rattle.run_queue.specs.Flights.{Closes, FliesAs, IsFlight, OpenTask, OpenTasks, SameOpen, view_of, with_open, without_open}
+use Rattle.run_queue.specs.Puts.{MayOpen}
+use Rattle.run_queue.specs.Seen.{IsBegun, IsBegunIn}
+use Rattle.run_queue.specs.AskingLaws.{same_story}
+use Rattle.run_queue.proofs.Boarding.{one_more_or_less}
+use Rattle.run_queue.proofs.Concluding.{ended_run, ended_there, fault_run, flies_now, opened_with, put, turned_run}
+use Rattle.run_queue.proofs.Flights.{flight_of}
+use Rattle.run_queue.proofs.Opened.{flies_as, needs_now, none_of, open_besides, unbegun_now, under_way}
+use Rattle.run_queue.proofs.OwnNames.{signed_task_at}
+use Rattle.run_queue.proofs.Passed.{passed_run}
+use Rattle.run_queue.proofs.Putting.{Begins, book_now, may_now}
+use Rattle.run_queue.proofs.ReadyJobs.{task_at}
+use Rattle.run_queue.proofs.Unsettled.{IsSpared, was_none}
 
 -- ---- what is there before a publication
 
@@ -141,128 +160,233 @@ begins_at old new t a lt is = record {
   others = λ u ne. ap (λ (l : List (Option Avail)). slice_get l u) is ∙ set_beside old t u (Some a) ne;
 }
 
--- ---- a publication over a run
+-- ---- a publication is opened
 
 module _ {D W : Type 0} (story : D → Story) (written : W → List ℕ) (o : Opening) (old : RunView D W) (t seat : ℕ) (tree : Entries) (store : View D) (begun : List (Option Avail))
     (run : IsRun o (seen story written old)) (faultless : old.fault ≡ None) (orderly : EachAfter (IsOrderly old.plan.tasks) old.tale) (runs : fate_at (fates_told (length old.plan.tasks) old.tale) t ≡ fate.Running seat) (lt : t < length old.plan.tasks)
-    (output : IsCleanOutput o.gives old.plan.tasks t tree) (sound : story_of.IsSound (story old.store.disk)) (begins : Begins old.begun begun t) where
+    (output : IsCleanOutput o.gives old.plan.tasks t tree) (is_tree : IsTree tree) (sound : story_of.IsSound (story old.store.disk)) (begins : Begins old.begun begun t) (here : slice_get begun t ≡ Some (Some Missing))
+    (rows : store.rows ≡ old.store.rows) where
   abbrev s : Seen
   s = seen story written old
 
-  -- what a publication did, by the signature over the book
-  images : (r : IsReady o (seen story written old) t tree) → Puts (Unit {0}) (story old.store.disk) (story store.disk) (publication old.store.rows r.sg tree) → Puts (Unit {0}) (story old.store.disk) (story store.disk) (publication (rows_of (book_now o (seen story written old))) r.sg tree)
-  images r puts = subst (λ (rows : List EquivRow). Puts (Unit {0}) (story old.store.disk) (story store.disk) (publication rows r.sg tree)) run.rows puts
+  -- The publication of a task, by its signature, flies where it may be opened.
+  module _ (k : Known) (now : IsUpToDate old.plan old.store.rows k) (x : Signed) (signed : IsSignedAt old.store.rows old.plan.tasks t x) (may : MayOpen old.store.rows old.store.opened x tree) where
+    none : run.opened (task_folder x.task) ≡ None
+    none = none_of run.opened old.store.opened (run.open_are faultless) (task_folder x.task) may.closed
 
-  -- ---- a fault
+    flight : IsFlight o old.plan (book_after o.gives old.plan o.book old.tale) t (record { signed = x; tree = tree })
+    flight = record {
+      at = signed_task_at old.store.rows old.plan.tasks t x signed;
+      signed = subst (λ (r : List EquivRow). slice_get (signatures r old.plan.tasks) t ≡ Some x) run.rows signed;
+      clean = (output.built, output.is_built, output.clean);
+      says = output.says;
+      is_tree = is_tree;
+      needs = needs_now o (seen story written old) run orderly t seat runs x signed;
+      readable = subst (λ (r : List EquivRow). IsReadable (line_for r x tree)) run.rows may.readable;
+    }
 
-  fault_known : (f : RunFault) (k : Known) → IsUpToDate old.plan old.store.rows k → store.rows ≡ old.store.rows
-      → ((x : Signed) → IsSignedAt old.store.rows old.plan.tasks t x → Puts (Unit {0}) (story old.store.disk) (story store.disk) (publication old.store.rows x tree))
-      → ((x : Signed) → IsSignedAt old.store.rows old.plan.tasks t x → IsReadable (line_for old.store.rows x tree) ⊎ (store.disk ≡ old.store.disk))
-      → HaltsAt o (record (seen story written old) { story = story store.disk; begun = begun; kept = store.kept; fault = Some f }) t
-  fault_known f k now same puts readable =
-      let r = ready o (seen story written old) k t seat tree run faultless orderly now lt runs output in
-      let p = images r (puts r.sg r.signed) in
-      by r p (readable r.sg r.signed)
+    apart : (beside : List ℕ) (other : OpenTask) → run.opened beside ≡ Some other → name_of x.sig ≢ name_of other.signed.sig
+    apart beside other is same = may.apart beside (view_of other) (sym (run.open_are faultless beside) ∙ ap (option_map view_of) is) (sym same)
+
+    -- what is open before the disk is touched
+    before : (kept : List KeptSig) → (r : IsRun o (record (seen story written old) { kept = kept; opened = open_view x tree ∷ old.store.opened; begun = begun })) × (r.opened ≡ with_open (task_folder x.task) (record { signed = x; tree = tree }) run.opened)
+    before kept =
+        opened_with o (seen story written old) run faultless t seat runs begun begins here (record { signed = x; tree = tree }) none flight apart kept (open_view x tree ∷ old.store.opened)
+        (open_besides run.opened old.store.opened (record { signed = x; tree = tree }) (run.open_are faultless))
+
+    -- and behind the turn
+    turned_at : (kept : List KeptSig) (views : OpenViews) (fault : Option RunFault) → (fault ≡ None → SameOpen (with_open (task_folder x.task) (record { signed = x; tree = tree }) run.opened) views)
+        → Passes (story old.store.disk) (story store.disk) (IsPublishing (publication old.store.rows x tree) (story old.store.disk).held)
+        → IsRun o (record (seen story written old) { kept = kept; opened = views; fault = fault; begun = begun; story = story store.disk })
+    turned_at kept views fault are pass =
+        let r = before kept in
+        turned_run o (record (seen story written old) { kept = kept; opened = open_view x tree ∷ old.store.opened; begun = begun }) r.0
+        faultless orderly (may_now o (seen story written old) run faultless now.clear) t (record { signed = x; tree = tree })
+        (subst (λ (w : OpenTasks). FliesAs old.plan w t (record { signed = x; tree = tree })) (sym r.1)
+        (flies_now o (seen story written old) run faultless t seat runs begun begins here (record { signed = x; tree = tree }) none flight apart))
+        (story store.disk) sound (subst (λ (r : List EquivRow). Passes (story old.store.disk) (story store.disk) (IsPublishing (publication r x tree) (story old.store.disk).held)) run.rows pass) kept views fault
+        (λ no. subst (λ (w : OpenTasks). SameOpen w views) (sym r.1) (are no))
+
+  path : (fault : Option RunFault) → record (seen story written old) { kept = store.kept; opened = store.opened; fault = fault; begun = begun; story = story store.disk } ≡ seen story written (record old { store = store; begun = begun; fault = fault })
+  path fault = λ i. record {
+    plan = old.plan;
+    options = old.options;
+    rows = sym rows i;
+    kept = store.kept;
+    opened = store.opened;
+    sink_failed = old.sink_failed;
+    fault = fault;
+    tale = old.tale;
+    begun = begun;
+    known = old.known;
+    story = story store.disk;
+    written = written old.sink;
+  }
+
+  -- A turn that opened the publication leaves what a run keeps.
+  pub opened_seen : (k : Known) → IsUpToDate old.plan old.store.rows k
+      → ((x : Signed) → IsSignedAt old.store.rows old.plan.tasks t x → OpensTask old.store store x tree × MayOpen old.store.rows old.store.opened x tree)
+      → ((x : Signed) → IsSignedAt old.store.rows old.plan.tasks t x → Passes (story old.store.disk) (story store.disk) (IsPublishing (publication old.store.rows x tree) (story old.store.disk).held))
+      → IsRun o (seen story written (record old { store = store; begun = begun }))
+  opened_seen k now opens pass =
+      let x = signed_at old.store.rows old.plan.tasks t lt in
+      let both = opens x.0 x.1 in
+      subst (λ (v : Seen). IsRun o v) (path old.fault)
+      (turned_at k now x.0 x.1 both.1 store.kept store.opened old.fault (λ no beside. same x.0 x.1 both.1 both.0 k now beside (path_cases beside (task_folder x.0.task))) (pass x.0 x.1))
     where
-      by : (r : IsReady o (seen story written old) t tree) → Puts (Unit {0}) (story old.store.disk) (story store.disk) (publication (rows_of (book_now o (seen story written old))) r.sg tree) → IsReadable (line_for old.store.rows r.sg tree) ⊎ (store.disk ≡ old.store.disk)
-          → HaltsAt o (record (seen story written old) { story = story store.disk; begun = begun; kept = store.kept; fault = Some f }) t
-      by r p (inl is) =
-          faulty_run o (seen story written old) run faultless orderly r.may t r.sg r.at r.is_sg tree r.put seat runs (story store.disk) sound (p.images tt) (p.others tt) begun begins store.kept f (r.built, r.is_built, r.clean)
-          (readable_more o (seen story written old) run faultless orderly r.may t r.sg r.at r.is_sg tree r.put (ap is_settled runs) (story store.disk) sound (p.images tt) (p.others tt) (subst (λ (rows : List EquivRow). IsReadable (line_for rows r.sg tree)) run.rows is))
-      by r p (inr disk) =
-          subst (λ (d : D). HaltsAt o (record (seen story written old) { story = story d; begun = begun; kept = store.kept; fault = Some f }) t) (sym disk)
-          (fault_run o (seen story written old) begun store.kept f t faultless begins run)
+      same : (x : Signed) (signed : IsSignedAt old.store.rows old.plan.tasks t x) (may : MayOpen old.store.rows old.store.opened x tree) → OpensTask old.store store x tree → (k : Known) → IsUpToDate old.plan old.store.rows k → (beside : List ℕ) → (beside ≡ task_folder x.task) ⊎ (beside ≢ task_folder x.task) → option_map view_of (with_open (task_folder
+          x.task) (record { signed = x; tree = tree }) run.opened beside) ≡ opened_at store.opened beside
+      same x signed may opens k now beside (inl e) =
+          let at = (one_more_or_less (task_folder x.task) (record { signed = x; tree = tree }) run.opened).0 (none k now x signed may) in
+          ap (λ (f : List ℕ). option_map view_of (with_open (task_folder x.task) (record { signed = x; tree = tree }) run.opened f)) e ∙ ap (option_map view_of) at.is_open ∙ sym opens.opened.is_open ∙ sym (ap (opened_at store.opened) e)
+      same x signed may opens k now beside (inr ne) =
+          let at = (one_more_or_less (task_folder x.task) (record { signed = x; tree = tree }) run.opened).0 (none k now x signed may) in
+          ap (option_map view_of) (at.others beside ne) ∙ run.open_are faultless beside ∙ sym (opens.opened.others beside ne)
 
-  -- A fault that was met leaves what a run keeps, with that fault.
-  pub fault_seen : (f : RunFault) → IfSome old.known (IsUpToDate old.plan old.store.rows) → store.rows ≡ old.store.rows → (old.known ≡ None → store ≡ old.store)
-      → ((x : Signed) → IsSignedAt old.store.rows old.plan.tasks t x → Puts (Unit {0}) (story old.store.disk) (story store.disk) (publication old.store.rows x tree))
-      → ((x : Signed) → IsSignedAt old.store.rows old.plan.tasks t x → IsReadable (line_for old.store.rows x tree) ⊎ (store.disk ≡ old.store.disk))
-      → HaltsAt o (seen story written (record old { store = store; begun = begun; fault = Some f })) t
-  fault_seen f current same unlooked puts readable = subst (λ (x : Seen). HaltsAt o x t) one (by old.known refl current)
+  -- So does a turn in which a fault was met, with that fault.
+  pub open_fault_seen : (f : RunFault) → IfSome old.known (IsUpToDate old.plan old.store.rows) → (old.known ≡ None → store ≡ old.store)
+      → ((store.disk ≡ old.store.disk) ⊎ ((x : Signed) → IsSignedAt old.store.rows old.plan.tasks t x → MayOpen old.store.rows old.store.opened x tree))
+      → ((x : Signed) → IsSignedAt old.store.rows old.plan.tasks t x → Passes (story old.store.disk) (story store.disk) (IsPublishing (publication old.store.rows x tree) (story old.store.disk).held))
+      → IsRun o (seen story written (record old { store = store; begun = begun; fault = Some f }))
+  open_fault_seen f current unlooked may pass = subst (λ (v : Seen). IsRun o v) (path (Some f)) (by old.known refl current)
     where
-      one : record (seen story written old) { story = story store.disk; begun = begun; kept = store.kept; fault = Some f } ≡ seen story written (record old { store = store; begun = begun; fault = Some f })
-      one = λ i. record {
-        plan = old.plan;
-        options = old.options;
-        rows = sym same i;
-        kept = store.kept;
-        sink_failed = old.sink_failed;
-        fault = Some f;
-        tale = old.tale;
-        begun = begun;
-        known = old.known;
-        story = story store.disk;
-        written = written old.sink;
-      }
+      untouched : store.disk ≡ old.store.disk → IsRun o (record (seen story written old) { kept = store.kept; opened = store.opened; fault = Some f; begun = begun; story = story store.disk })
+      untouched disk =
+          subst (λ (d : D). IsRun o (record (seen story written old) { kept = store.kept; opened = store.opened; fault = Some f; begun = begun; story = story d })) (sym disk)
+          (fault_run o (seen story written old) run faultless t seat runs begun begins store.kept store.opened f)
 
-      by : (known : Option Known) → old.known ≡ known → IfSome known (IsUpToDate old.plan old.store.rows) → HaltsAt o (record (seen story written old) { story = story store.disk; begun = begun; kept = store.kept; fault = Some f }) t
-      by (Some k) is now = fault_known f k now same puts readable
-      by None is now =
-          subst (λ (v : View D). HaltsAt o (record (seen story written old) { story = story v.disk; begun = begun; kept = store.kept; fault = Some f }) t) (sym (unlooked is))
-          (fault_run o (seen story written old) begun store.kept f t faultless begins run)
+      by : (known : Option Known) → old.known ≡ known → IfSome known (IsUpToDate old.plan old.store.rows) → IsRun o (record (seen story written old) { kept = store.kept; opened = store.opened; fault = Some f; begun = begun; story = story store.disk })
+      by None is now = untouched (ap (λ (v : View D). v.disk) (unlooked is))
+      by (Some k) is now = elim may [
+        | inl disk ↦ untouched disk
+        | inr may_open ↦
+            let x = signed_at old.store.rows old.plan.tasks t lt in
+            turned_at k now x.0 x.1 (may_open x.0 x.1) store.kept store.opened (Some f) (λ no. absurd (let n : Some f ≡ None = no in cc)) (pass x.0 x.1)
+      ]
+
+-- ---- a publication goes on
+
+module _ {D W : Type 0} (story : D → Story) (written : W → List ℕ) (o : Opening) (old : RunView D W) (t seat : ℕ) (store : View D)
+    (run : IsRun o (seen story written old)) (faultless : old.fault ≡ None) (orderly : EachAfter (IsOrderly old.plan.tasks) old.tale) (runs : fate_at (fates_told (length old.plan.tasks) old.tale) t ≡ fate.Running seat) (lt : t < length old.plan.tasks)
+    (sound : story_of.IsSound (story old.store.disk))
+    (pass : (x : Signed) → IsSignedAt old.store.rows old.plan.tasks t x → (tree : Entries) → IsOpen old.store.opened x tree → Passes (story old.store.disk) (story store.disk) (IsPublishing (publication old.store.rows x tree) (story old.store.disk).held)) where
+  flies : (x : Signed) → IsSignedAt old.store.rows old.plan.tasks t x → (tree : Entries) → IsOpen old.store.opened x tree → FliesAs old.plan run.opened t (record { signed = x; tree = tree })
+  flies x signed tree open_now = flies_as o (seen story written old) run faultless t x (signed_task_at old.store.rows old.plan.tasks t x signed) signed tree open_now
+
+  by_book : (x : Signed) → IsSignedAt old.store.rows old.plan.tasks t x → (tree : Entries) → IsOpen old.store.opened x tree → Passes (story old.store.disk) (story store.disk) (IsPublishing (publication (rows_of (book_now o (seen story written old))) x tree) (story old.store.disk).held)
+  by_book x signed tree open_now = subst (λ (r : List EquivRow). Passes (story old.store.disk) (story store.disk) (IsPublishing (publication r x tree) (story old.store.disk).held)) run.rows (pass x signed tree open_now)
+
+  behind_it : (k : Known) → IsUpToDate old.plan old.store.rows k → (x : Signed) → IsSignedAt old.store.rows old.plan.tasks t x → (tree : Entries) → IsOpen old.store.opened x tree → (kept : List KeptSig) (views : OpenViews) (fault : Option RunFault) → (fault ≡ None → SameOpen run.opened views)
+      → IsRun o (record (seen story written old) { kept = kept; opened = views; fault = fault; story = story store.disk })
+  behind_it k now x signed tree open_now kept views fault are =
+      turned_run o (seen story written old) run faultless orderly (may_now o (seen story written old) run faultless now.clear) t (record { signed = x; tree = tree }) (flies x signed tree open_now) (story store.disk) sound (by_book x signed tree open_now) kept views fault are
+
+  step_path : (fault : Option RunFault) → store.rows ≡ old.store.rows → record (seen story written old) { kept = store.kept; opened = store.opened; fault = fault; story = story store.disk } ≡ seen story written (record old { store = store; fault = fault })
+  step_path fault rows = λ i. record {
+    plan = old.plan;
+    options = old.options;
+    rows = sym rows i;
+    kept = store.kept;
+    opened = store.opened;
+    sink_failed = old.sink_failed;
+    fault = fault;
+    tale = old.tale;
+    begun = old.begun;
+    known = old.known;
+    story = story store.disk;
+    written = written old.sink;
+  }
+
+  -- A turn behind which more is left leaves what a run keeps.
+  pub stepped_seen : (k : Known) → IsUpToDate old.plan old.store.rows k → ((x : Signed) → IsSignedAt old.store.rows old.plan.tasks t x → Rattle.build_store.specs.Openings.GoesOn old.store store x) → IsRun o (seen story written (record old { store = store }))
+  stepped_seen k now goes =
+      let x = signed_at old.store.rows old.plan.tasks t lt in
+      let g = goes x.0 x.1 in
+      subst (λ (v : Seen). IsRun o v) (step_path old.fault g.books.rows)
+      (behind_it k now x.0 x.1 g.tree g.was_open store.kept store.opened old.fault (λ no beside. run.open_are faultless beside ∙ sym (ap (λ (v : OpenViews). opened_at v beside) g.books.opened)))
+
+  -- So does a turn in which a fault was met, with that fault.
+  pub step_fault_seen : (f : RunFault) → IfSome old.known (IsUpToDate old.plan old.store.rows) → store.rows ≡ old.store.rows → (old.known ≡ None → store ≡ old.store)
+      → ((x : Signed) → IsSignedAt old.store.rows old.plan.tasks t x → (store ≡ old.store) ⊎ ((tree : Entries) × IsOpen old.store.opened x tree))
+      → IsRun o (seen story written (record old { store = store; fault = Some f }))
+  step_fault_seen f current rows unlooked touched = by old.known refl current
+    where
+      untouched : store ≡ old.store → IsRun o (seen story written (record old { store = store; fault = Some f }))
+      untouched same =
+          subst (λ (v : View D). IsRun o (seen story written (record old { store = v; fault = Some f }))) (sym same)
+          (passed_run o (seen story written old) (story old.store.disk) (Some f) (same_story (story old.store.disk)) (λ no. absurd (let n : Some f ≡ None = no in cc)) run)
+
+      by : (known : Option Known) → old.known ≡ known → IfSome known (IsUpToDate old.plan old.store.rows) → IsRun o (seen story written (record old { store = store; fault = Some f }))
+      by None is now = untouched (unlooked is)
+      by (Some k) is now =
+          let x = signed_at old.store.rows old.plan.tasks t lt in
+          elim (touched x.0 x.1) [
+            | inl same ↦ untouched same
+            | inr it ↦ subst (λ (v : Seen). IsRun o v) (step_path (Some f) rows) (behind_it k now x.0 x.1 it.0 it.1 store.kept store.opened (Some f) (λ no. absurd (let n : Some f ≡ None = no in cc)))
+          ]
 
   -- ---- the task has ended
 
-  -- the event may come
-  may_come : (at : ℕ) (course : Course) → course.plan ≡ old.plan → IsCourse o old.options (old.tale ++ record { event = events.Ended t; seat = seat; moment = at } ∷ []) course → MayCome course old.tale (record { event = events.Ended t; seat = seat; moment = at })
-  may_come at course same longer =
-      let is = course_of_front o old.options old.tale (record { event = events.Ended t; seat = seat; moment = at }) course longer in (
-        subst (λ (p : Plan). fate_at (fates_told (length p.tasks) old.tale) t ≡ fate.Running seat) (sym same) runs,
-        is.clean t ∙ ap (λ (p : Plan). clean_says o.gives p.tasks t) same ∙ output.says,
-      )
-
-  module _ (new : RunView D W) (k : Known) (now : IsUpToDate old.plan old.store.rows k) (after : View D) (books : SameBooks store after) (passed : Passes (story store.disk) (story after.disk) Same) (later_sound : story_of.IsSound (story after.disk)) (is_tree : IsTree tree)
-      (puts : (x : Signed) → IsSignedAt old.store.rows old.plan.tasks t x → Puts (Unit {0}) (story old.store.disk) (story store.disk) (publication old.store.rows x tree))
-      (put : (x : Signed) → IsSignedAt old.store.rows old.plan.tasks t x → HasPut (Unit {0}) (story store.disk) old.store.rows store.rows x tree)
-      (readable : (x : Signed) → IsSignedAt old.store.rows old.plan.tasks t x → IsReadable (line_for old.store.rows x tree) ⊎ (store.disk ≡ old.store.disk))
-      (sweeps : HasNoLitter (story old.store.disk).held → HasNoLitter (story store.disk).held)
+  module _ (new : RunView D W) (k : Known) (now : IsUpToDate old.plan old.store.rows k) (after : View D) (books : SameBooks store after) (passed : Passes (story store.disk) (story after.disk) Same) (later_sound : story_of.IsSound (story after.disk))
+      (unihash : Hash) (lands : (x : Signed) → IsSignedAt old.store.rows old.plan.tasks t x → Lands old.store store x unihash)
+      (published : (x : Signed) → IsSignedAt old.store.rows old.plan.tasks t x → (tree : Entries) → IsOpen old.store.opened x tree → EachNow (story store.disk) (IsPublished (publication old.store.rows x tree)))
       (tells : Type 0) (tell : tells) (before : Replan) (was_known : old.known ≡ Some (known_in before)) (was : IsCurrent no_meaning (record { plan = old.plan; rows = old.store.rows }) before)
-      (made : Option Replan) (fault : Option RunFault) (current : IfSome made (IsCurrent (kept_or_meant (earlier_in before) tells (story store.disk).held store.rows old.options.setscene old.plan.tasks begun) (record { plan = old.plan; rows = store.rows })))
-      (notes : Notes seat (events.Ended t) (record old { store = after; begun = begun; fault = fault; known = option_map known_in made }) new) (marks : MarksAt (story after.disk) seat (events.Ended t) old.tale new.tale) where
-    abbrev r : IsReady o (seen story written old) t tree
-    r = ready o (seen story written old) k t seat tree run faultless orderly now lt runs output
+      (made : Option Replan) (fault : Option RunFault) (current : IfSome made (IsCurrent (kept_or_meant (earlier_in before) tells (story store.disk).held store.rows old.options.setscene old.plan.tasks old.begun) (record { plan = old.plan; rows = store.rows })))
+      (notes : Notes seat (events.Ended t) (record old { store = after; fault = fault; known = option_map known_in made }) new) (marks : MarksAt (story after.disk) seat (events.Ended t) old.tale new.tale) where
+    x : (sg : Signed) × (slice_get (signatures old.store.rows old.plan.tasks) t ≡ Some sg)
+    x = signed_at old.store.rows old.plan.tasks t lt
 
-    has_put : (x : IsReady o (seen story written old) t tree) → HasPut (Unit {0}) (story store.disk) (rows_of (book_now o (seen story written old))) store.rows x.sg tree
-    has_put x = subst (λ (rows : List EquivRow). HasPut (Unit {0}) (story store.disk) rows store.rows x.sg tree) run.rows (put x.sg x.signed)
+    land : Lands old.store store x.0 unihash
+    land = lands x.0 x.1
 
-    -- where the disk is as it was the line stands in the book
-    no_more : (x : IsReady o (seen story written old) t tree) → store.disk ≡ old.store.disk → x.put.more ≡ []
-    no_more x disk = by x.put.stands
+    abbrev one : OpenTask
+    one = record { signed = x.0; tree = land.tree }
+
+    fl : FliesAs old.plan run.opened t one
+    fl = flies x.0 x.1 land.tree land.was_open
+
+    abbrev may : MayReuse o.gives o.reading o.story.held (book_now o (seen story written old)) old.plan.tasks
+    may = may_now o (seen story written old) run faultless now.clear
+
+    turn : Passes (story old.store.disk) (story after.disk) (IsPublishing (publication (rows_of (book_now o (seen story written old))) x.0 land.tree) (story old.store.disk).held)
+    turn = then_same (by_book x.0 x.1 land.tree land.was_open) passed
+
+    all_there : (image : Store) → story_of.IsImage (story after.disk) image → IsPublished (publication (rows_of (book_now o (seen story written old))) x.0 land.tree) image
+    all_there image is = subst (λ (r : List EquivRow). IsPublished (publication r x.0 land.tree) image) run.rows (published x.0 x.1 land.tree land.was_open image (same_now (story store.disk) (story after.disk) image passed is))
+
+    abbrev line : IsPut o.gives o.reading (book_now o (seen story written old)) (publication (rows_of (book_now o (seen story written old))) x.0 land.tree) x.0 land.tree
+    line = put o (seen story written old) run faultless orderly may t one fl (story after.disk) sound turn
+
+    rows_are : after.rows ≡ rows_of (book_now o (seen story written old) ++ line.more)
+    rows_are = books.rows ∙ land.rows ∙ ap (λ (r : List EquivRow). rows_with r x.0 land.tree) run.rows ∙ line.rows
+
+    open_are : SameOpen (without_open (task_folder x.0.task) run.opened) after.opened
+    open_are beside = by (path_cases beside (task_folder x.0.task)) ∙ sym (ap (λ (v : OpenViews). opened_at v beside) books.opened)
       where
-        published : IsPublished (publication (rows_of (book_now o (seen story written old))) x.sg tree) (story old.store.disk).held
-        published = (has_put x).published tt (story old.store.disk).held (subst (λ (d : D). story_of.IsImage (story d) (story old.store.disk).held) (sym disk) (held-image (story old.store.disk) sound))
+        closes : Closes (task_folder x.0.task) run.opened (without_open (task_folder x.0.task) run.opened)
+        closes = (one_more_or_less (task_folder x.0.task) one run.opened).1
 
-        by : (Rattle.store_model.specs.Lines.HasLine (book_now o (seen story written old)) x.put.line × (x.put.more ≡ []) × ((publication (rows_of (book_now o (seen story written old))) x.sg tree).is_new ≡ false))
-            ⊎ (Rattle.store_model.specs.Valid.IsValidLine o.gives o.reading (book_now o (seen story written old)) x.put.line × (x.put.more ≡ x.put.line ∷ []) × (row_at (rows_of (book_now o (seen story written old))) (name_of x.sg.sig) ≡ None) × (x.put.line ≡ Rattle.store_model.specs.Recording.recorded (rows_of (book_now o (seen story written old))) x.sg tree))
-            → x.put.more ≡ []
-        by (inl known) = known.1
-        by (inr new_line) =
-            let none = Rattle.run_queue.proofs.Recorded.no_record o.gives o.reading (story old.store.disk).held (book_now o (seen story written old)) x.sg.sig (durable_now o (seen story written old) run faultless (story old.store.disk).held (held-image (story old.store.disk) sound)) new_line.2 in
-            absurd (let n : None ≡ Some (publication (rows_of (book_now o (seen story written old))) x.sg tree).file = sym none ∙ published.stored in cc)
+        by : (beside ≡ task_folder x.0.task) ⊎ (beside ≢ task_folder x.0.task) → option_map view_of (without_open (task_folder x.0.task) run.opened beside) ≡ opened_at store.opened beside
+        by (inl e) = ap (λ (f : List ℕ). option_map view_of (without_open (task_folder x.0.task) run.opened f)) e ∙ ap (option_map view_of) closes.closed ∙ sym land.opened.closed ∙ sym (ap (opened_at store.opened) e)
+        by (inr ne) = ap (option_map view_of) (closes.others beside ne) ∙ run.open_are faultless beside ∙ sym (land.opened.others beside ne)
 
-    more_readable : (x : IsReady o (seen story written old) t tree) → Puts (Unit {0}) (story old.store.disk) (story store.disk) (publication (rows_of (book_now o (seen story written old))) x.sg tree) → IsReadable (line_for old.store.rows x.sg tree) ⊎ (store.disk ≡ old.store.disk) → Rattle.std.specs.List.AllByRecursion IsReadable x.put.more
-    more_readable x p (inl is) = readable_more o (seen story written old) run faultless orderly x.may t x.sg x.at x.is_sg tree x.put (ap is_settled runs) (story store.disk) sound (p.images tt) (p.others tt) (subst (λ (rows : List EquivRow). IsReadable (line_for rows x.sg tree)) run.rows is)
-    more_readable x p (inr disk) = subst (Rattle.std.specs.List.AllByRecursion IsReadable) (sym (no_more x disk)) tt
+    -- the event may come
+    may_come : (at : ℕ) (course : Course) → course.plan ≡ old.plan → IsCourse o old.options (old.tale ++ record { event = events.Ended t; seat = seat; moment = at } ∷ []) course → MayCome course old.tale (record { event = events.Ended t; seat = seat; moment = at })
+    may_come at course same longer =
+        let is = course_of_front o old.options old.tale (record { event = events.Ended t; seat = seat; moment = at }) course longer in (
+          subst (λ (p : Plan). fate_at (fates_told (length p.tasks) old.tale) t ≡ fate.Running seat) (sym same) runs,
+          is.clean t ∙ ap (λ (p : Plan). clean_says o.gives p.tasks t) same ∙ (flight_of o old.plan old.tale run.opened (under_way o (seen story written old) run faultless orderly may) t one fl).says,
+        )
 
     -- A task that was published and marked as ended leaves what a run keeps, where the store was asked anew between.
     pub ended_seen : IsRun o (seen story written new)
     ended_seen =
-        let p = images r (puts r.sg r.signed) in
-        let h = has_put r in
-        let rows_are : after.rows ≡ rows_of (book_now o (seen story written old) ++ r.put.more) = books.rows ∙ h.rows_are ∙ r.put.rows in
-        let pass = then_same (p.images tt) passed in
-        let aside = then_same (p.others tt) passed in
-        let published : (image : Store) → story_of.IsImage (story after.disk) image → IsPublished (publication (rows_of (book_now o (seen story written old))) r.sg tree) image = λ image is. h.published tt image (same_now (story store.disk) (story after.disk) image passed is) in
-        let lines = more_readable r p (readable r.sg r.signed) in
-        let swept = subst HasNoLitter (sym passed.held) (sweeps (run.swept faultless)) in
         let course = may_come (min (moment (story after.disk)) (2 ^ 64 - 1)) in
-        let there = made_on made current (λ m is. ended_there o (seen story written old) run faultless orderly r.may t r.sg r.at r.is_sg tree r.put seat runs (story after.disk) sound pass aside begun begins
-        r.built r.is_built r.clean is_tree r.needs published later_sound swept lines
-        after.rows after.kept rows_are course tells tell before m was_known was (current_on m is)) in
+        let there = made_on made current (λ m is. ended_there o (seen story written old) run faultless orderly may t one fl (story after.disk) sound turn seat all_there later_sound
+        after.rows after.kept after.opened rows_are open_are course tells tell before m was_known was (current_on m is)) in
         subst (IsRun o) same
-        (ended_run o (seen story written old) run faultless orderly r.may t r.sg r.at r.is_sg tree r.put seat runs (story after.disk) sound pass aside begun begins
-        r.built r.is_built r.clean is_tree r.needs published later_sound swept lines
-        after.rows after.kept (option_map known_in made) new.sink_failed new.fault (written new.sink) rows_are there course)
+        (ended_run o (seen story written old) run faultless orderly may t one fl (story after.disk) sound turn seat all_there later_sound
+        after.rows after.kept after.opened (option_map known_in made) new.sink_failed new.fault (written new.sink) rows_are open_are there course)
       where
         Longer : List Logged
         Longer = old.tale ++ record { event = events.Ended t; seat = seat; moment = min (moment (story after.disk)) (2 ^ 64 - 1) } ∷ []
@@ -271,23 +395,35 @@ module _ {D W : Type 0} (story : D → Story) (written : W → List ℕ) (o : Op
         IsThen w = (u : ℕ) (a : Avail) → IsIn w.need u → (HasEnded old.plan Longer u → ⊥) → slice_get w.avail u ≡ Some a → WasThere o (record (seen story written old) { rows = after.rows }) u a
 
         -- what is known is up to date by the store as it is afterwards
-        current_on : (m : Replan) → IsCurrent (kept_or_meant (earlier_in before) tells (story store.disk).held store.rows old.options.setscene old.plan.tasks begun) (record { plan = old.plan; rows = store.rows }) m
-            → IsCurrent (kept_or_meant (earlier_in before) tells (story after.disk).held after.rows old.options.setscene old.plan.tasks begun) (record { plan = old.plan; rows = after.rows }) m
+        current_on : (m : Replan) → IsCurrent (kept_or_meant (earlier_in before) tells (story store.disk).held store.rows old.options.setscene old.plan.tasks old.begun) (record { plan = old.plan; rows = store.rows }) m
+            → IsCurrent (kept_or_meant (earlier_in before) tells (story after.disk).held after.rows old.options.setscene old.plan.tasks old.begun) (record { plan = old.plan; rows = after.rows }) m
         current_on m is =
-            subst (λ (rows : List EquivRow). IsCurrent (kept_or_meant (earlier_in before) tells (story after.disk).held rows old.options.setscene old.plan.tasks begun) (record { plan = old.plan; rows = rows }) m) (sym books.rows)
-            (subst (λ (held : Store). IsCurrent (kept_or_meant (earlier_in before) tells held store.rows old.options.setscene old.plan.tasks begun) (record { plan = old.plan; rows = store.rows }) m) (sym passed.held) is)
+            subst (λ (rows : List EquivRow). IsCurrent (kept_or_meant (earlier_in before) tells (story after.disk).held rows old.options.setscene old.plan.tasks old.begun) (record { plan = old.plan; rows = rows }) m) (sym books.rows)
+            (subst (λ (held : Store). IsCurrent (kept_or_meant (earlier_in before) tells held store.rows old.options.setscene old.plan.tasks old.begun) (record { plan = old.plan; rows = store.rows }) m) (sym passed.held) is)
 
-        made_on : (m : Option Replan) → IfSome m (IsCurrent (kept_or_meant (earlier_in before) tells (story store.disk).held store.rows old.options.setscene old.plan.tasks begun) (record { plan = old.plan; rows = store.rows }))
-            → ((n : Replan) → IsCurrent (kept_or_meant (earlier_in before) tells (story store.disk).held store.rows old.options.setscene old.plan.tasks begun) (record { plan = old.plan; rows = store.rows }) n → IsThen (known_in n)) → IfSome (option_map known_in m) IsThen
+        made_on : (m : Option Replan) → IfSome m (IsCurrent (kept_or_meant (earlier_in before) tells (story store.disk).held store.rows old.options.setscene old.plan.tasks old.begun) (record { plan = old.plan; rows = store.rows }))
+            → ((n : Replan) → IsCurrent (kept_or_meant (earlier_in before) tells (story store.disk).held store.rows old.options.setscene old.plan.tasks old.begun) (record { plan = old.plan; rows = store.rows }) n → IsThen (known_in n)) → IfSome (option_map known_in m) IsThen
         made_on None is f = tt
         made_on (Some n) is f = f n is
 
-        same : record (seen story written old) { rows = after.rows; kept = after.kept; sink_failed = new.sink_failed; fault = new.fault; tale = old.tale ++ record { event = events.Ended t; seat = seat; moment = min (moment (story after.disk)) (2 ^ 64 - 1) } ∷ []; begun = begun; known = option_map known_in made; story = story after.disk; written = written new.sink } ≡ seen story written new
+        same : record (seen story written old) {
+          rows = after.rows;
+          kept = after.kept;
+          opened = after.opened;
+          sink_failed = new.sink_failed;
+          fault = new.fault;
+          tale = old.tale ++ record { event = events.Ended t; seat = seat; moment = min (moment (story after.disk)) (2 ^ 64 - 1) } ∷ [];
+          known = option_map known_in made;
+          story = story after.disk;
+          written =
+              written new.sink;
+        } ≡ seen story written new
         same = λ i. record {
           plan = sym notes.plan i;
           options = sym notes.options i;
           rows = (sym notes.store i).rows;
           kept = (sym notes.store i).kept;
+          opened = (sym notes.store i).opened;
           sink_failed = new.sink_failed;
           fault = new.fault;
           tale = sym marks.is i;
@@ -311,32 +447,57 @@ pub none_known : (replan : Option Replan) → option_map known_in replan ≡ Non
 none_known None e = refl
 none_known (Some r) e = absurd (let n : Some (known_in r) ≡ None = e in cc)
 
--- what a device tells, where it tells
-pub told : (tells : Type 0) (old new : Story) (p : Publication) → tells → Puts tells old new p → Puts (Unit {0}) old new p
-told tells old new p t puts = record { images = λ u. puts.images t; others = λ u. puts.others t }
+-- a task that broke off by another cut than its bench's, where a fault is kept, is told of
+pub spared_by : (s : Seen) (seat t : ℕ) (cut : Cut) → cut ≢ cuts.Bench → IsSome s.fault → IsSpared s seat (events.Broke t cut)
+spared_by s seat t cut other some = inr (some, broken_last s.tale (logged_at s seat (events.Broke t cut)) t cut refl other)
 
-pub told_put : (tells : Type 0) (new : Story) (rows later : List EquivRow) (s : Signed) (tree : Entries) → tells → HasPut tells new rows later s tree → HasPut (Unit {0}) new rows later s tree
-told_put tells new rows later s tree t put = record { rows_are = put.rows_are; published = λ u. put.published t }
+-- so is one that runs and of which nothing is open, where no fault is kept
+pub spared_now : (o : Opening) (s : Seen) (seat number t : ℕ) (event : Event) → task_of event ≡ t → IsRun o s → s.fault ≡ None → fate_at (fates_told (length s.plan.tasks) s.tale) t ≡ fate.Running number → t < length s.plan.tasks → ((own : PlanTask) → slice_get s.plan.tasks t ≡ Some own → opened_at s.opened (task_folder own) ≡ None) → IsSpared s seat event
+spared_now o s seat number t event of run faultless runs lt none =
+    let own = task_at s.plan.tasks t lt in
+    inl (λ begun. unbegun_now o s run faultless t number runs own.0 own.1 (none own.0 own.1) (subst (λ (n : ℕ). IsBegun s n) of begun))
 
--- a task that broke off leaves what a run keeps
+-- So is one that breaks off by a cut that is chosen so.
+pub spared_either : {D W : Type 0} (story : D → Story) (written : W → List ℕ) (o : Opening) (old mid : RunView D W) (t seat : ℕ) (asked broke : Cut) → SameButFault old mid → BreaksBy t asked broke old mid → IsRun o (seen story written old) → fate_at (fates_told (length old.plan.tasks) old.tale) t ≡ fate.Running seat → t < length old.plan.tasks → IsSpared
+    (seen story written mid) seat (events.Broke t broke)
+spared_either story written o old mid t seat asked broke same cut run runs lt = elim cut [
+  | inl as_asked ↦ inl (λ begun. by as_asked.1 (subst (λ (l : List (Option Avail)). IsBegunIn l t) same.begun begun))
+  | inr it ↦ spared_by (seen story written mid) seat t broke it.0 it.1
+]
+  where
+    by : ((old.fault ≡ None) × ((own : PlanTask) → slice_get old.plan.tasks t ≡ Some own → opened_at old.store.opened (task_folder own) ≡ None)) ⊎ (slice_get old.begun t ≡ Some None) → IsBegunIn old.begun t → ⊥
+    by (inl sound) begun = let own = task_at old.plan.tasks t lt in unbegun_now o (seen story written old) run sound.0 t seat runs own.0 own.1 (sound.1 own.0 own.1) begun
+    by (inr none) begun = let n : Some None ≡ Some (Some begun.0) = sym none ∙ begun.1 in cc
+
+-- where nothing but the fault changed a run keeps what it keeps
+pub cut_seen : {D W : Type 0} (story : D → Story) (written : W → List ℕ) (o : Opening) (old mid : RunView D W) → SameButFault old mid → (IsSome old.fault → mid.fault ≡ old.fault) → IsRun o (seen story written old) → IsRun o (seen story written mid)
+cut_seen story written o old mid same stays run =
+    subst (λ (v : Seen). IsRun o v) path
+    (passed_run o (seen story written old) (story old.store.disk) mid.fault (same_story (story old.store.disk)) (was_none old.fault mid.fault stays) run)
+  where
+    path : record (seen story written old) { fault = mid.fault } ≡ seen story written mid
+    path = λ i. record {
+      plan = sym same.plan i;
+      options = sym same.options i;
+      rows = (sym same.store i).rows;
+      kept = (sym same.store i).kept;
+      opened = (sym same.store i).opened;
+      sink_failed = sym same.sink_failed i;
+      fault = mid.fault;
+      tale = sym same.tale i;
+      begun = sym same.begun i;
+      known = sym same.known i;
+      story = story (sym same.store i).disk;
+      written = written (sym same.sink i);
+    }
+
+-- A task that broke off leaves what a run keeps.
 pub broken_seen : {D W : Type 0} (story : D → Story) (written : W → List ℕ) (o : Opening) (mid new : RunView D W) (t seat : ℕ) (cut : Cut) → Notes seat (events.Broke t cut) mid new → MarksAt (story mid.store.disk) seat (events.Broke t cut) mid.tale new.tale → (IsSome mid.fault → new.fault ≡ mid.fault)
-    → fate_at (fates_told (length mid.plan.tasks) mid.tale) t ≡ fate.Running seat → IsRun o (seen story written mid) → IsRun o (seen story written new)
-broken_seen story written o mid new t seat cut n m stays runs run =
+    → fate_at (fates_told (length mid.plan.tasks) mid.tale) t ≡ fate.Running seat → IsSpared (seen story written mid) seat (events.Broke t cut) → IsRun o (seen story written mid) → IsRun o (seen story written new)
+broken_seen story written o mid new t seat cut n m stays runs spared run =
     noted_run story written o mid new seat (events.Broke t cut) n m stays
     (record { within = running_within (fates_told (length mid.plan.tasks) mid.tale) t seat runs; before = ap is_settled runs; after = refl; book = λ b. refl })
-    run
-    (λ course same is. subst (λ (p : Plan). fate_at (fates_told (length p.tasks) mid.tale) t ≡ fate.Running seat) (sym same) runs)
-    tt
-    (tells_none o mid.plan mid.options mid.tale (events.Broke t cut) refl)
-
--- and so does the task at which the run is halted
-pub halted_seen : {D W : Type 0} (story : D → Story) (written : W → List ℕ) (o : Opening) (mid new : RunView D W) (t seat : ℕ) (cut : Cut) → cut ≢ cuts.Bench → Notes seat (events.Broke t cut) mid new → MarksAt (story mid.store.disk) seat (events.Broke t cut) mid.tale new.tale → (IsSome mid.fault → new.fault ≡ mid.fault)
-    → fate_at (fates_told (length mid.plan.tasks) mid.tale) t ≡ fate.Running seat → IsSome mid.fault → HaltsAt o (seen story written mid) t → IsRun o (seen story written new)
-halted_seen story written o mid new t seat cut other n m stays runs some halts =
-    noted_but story written o mid new (λ u. u ≡ t) seat (events.Broke t cut) n m stays
-    (record { within = running_within (fates_told (length mid.plan.tasks) mid.tale) t seat runs; before = ap is_settled runs; after = refl; book = λ b. refl })
-    halts.0
-    (λ u same. (subst IsSome (sym (stays some)) some, same ∙ sym halts.1, inl (subst (HasBroken (mid.tale ++ logged_at (seen story written mid) seat (events.Broke t cut) ∷ [])) (sym same) (broken_last mid.tale (logged_at (seen story written mid) seat (events.Broke t cut)) t cut refl other))))
+    run spared
     (λ course same is. subst (λ (p : Plan). fate_at (fates_told (length p.tasks) mid.tale) t ≡ fate.Running seat) (sym same) runs)
     tt
     (tells_none o mid.plan mid.options mid.tale (events.Broke t cut) refl)
@@ -344,11 +505,11 @@ halted_seen story written o mid new t seat cut other n m stays runs some halts =
 -- a job that failed leaves what a run keeps
 pub failed_seen : {D W : Type 0} (story : D → Story) (written : W → List ℕ) (o : Opening) (old new : RunView D W) (job : Job) (g : Given) (cause : Why) (seat : ℕ) → outcome_of g ≡ Err cause → closed_as job.task g ≡ events.Failed job.task cause
     → IsCleanJob o (seen story written old) job → IsGivenBy o.gives job g → Notes seat (events.Failed job.task cause) old new → MarksAt (story old.store.disk) seat (events.Failed job.task cause) old.tale new.tale → (IsSome old.fault → new.fault ≡ old.fault)
-    → fate_at (fates_told (length old.plan.tasks) old.tale) job.task ≡ fate.Running seat → IsRun o (seen story written old) → IsRun o (seen story written new)
-failed_seen story written o old new job g cause seat fails closed j is_given n m stays runs run =
+    → fate_at (fates_told (length old.plan.tasks) old.tale) job.task ≡ fate.Running seat → IsSpared (seen story written old) seat (events.Failed job.task cause) → IsRun o (seen story written old) → IsRun o (seen story written new)
+failed_seen story written o old new job g cause seat fails closed j is_given n m stays runs spared run =
     noted_run story written o old new seat (events.Failed job.task cause) n m stays
     (record { within = running_within (fates_told (length old.plan.tasks) old.tale) job.task seat runs; before = ap is_settled runs; after = refl; book = λ b. refl })
-    run
+    run spared
     (λ course same longer.
     let at = logged_at (seen story written old) seat (events.Failed job.task cause) in
     subst (λ (e : Event). MayCome course old.tale (record { event = e; seat = seat; moment = at.moment })) closed

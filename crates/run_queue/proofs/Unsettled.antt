@@ -10,6 +10,7 @@ use Rattle.outside_traits.specs.Store.{Store}
 use Rattle.outside_traits.specs.Story.{IsImage, IsImageSince, Story, moment}
 use Rattle.outside_traits.proofs.Images.{since-now}
 use Rattle.meta_model.specs.declared.event.Avail.{Avail}
+use Rattle.meta_model.specs.declared.event.Avail.TheVariants.{Missing}
 use Rattle.meta_model.specs.declared.event.Event.{Event}
 use Rattle.meta_model.specs.declared.event.Logged.{Logged}
 use Rattle.meta_model.specs.declared.plan.Plan.{Plan}
@@ -21,7 +22,7 @@ use Rattle.run_core.proofs.Steps.{told_push}
 use Rattle.store_model.specs.Origins.{Book, rows_of}
 use Rattle.store_model.specs.Premises.{HasNoCollision}
 use Rattle.store_model.specs.declared.signature.EquivRow.{EquivRow}
-use Rattle.store_model.specs.Available.{HoldsClean, IsInWork, object_folder}
+use Rattle.store_model.specs.Available.{HoldsClean, IsAvailable, IsInWork, object_folder}
 use Rattle.store_model.specs.Reuse.{MayReuse}
 use Rattle.store_model.specs.Rows.{uni}
 use Rattle.store_model.specs.Signatures.{Signed, signatures}
@@ -30,14 +31,18 @@ use Rattle.run_model.specs.Opening.{Opening}
 use Rattle.run_model.specs.Books.{book_after, book_by, rows_after, signed_after}
 use Rattle.run_model.specs.Courses.{IsCourse}
 use Rattle.run_queue.specs.Courses.{IsReal}
-use Rattle.run_queue.specs.Keeps.{IsRun, IsRunBut, MayBeHalted, Prints, WasThere, nobody}
+use Rattle.run_queue.specs.Keeps.{IsRun, Prints, WasThere, nobody}
 use Rattle.run_queue.specs.declared.fault.RunFault.{RunFault}
-use Rattle.run_queue.specs.Seen.{Known, RunView, Seen, seen}
-use Rattle.run_model.specs.Stands.{AllStand, HasEnded, HasOwnRow, IsSettledIn}
+use Rattle.run_queue.specs.Flights.{AreFlights, IsValidWith}
+use Rattle.run_queue.specs.Seen.{IsBegun, Known, RunView, Seen, seen}
+use Rattle.run_model.specs.InFlight.{RunsAfter}
+use Rattle.run_model.specs.Stands.{AllStand, HasBroken, HasEnded, HasOwnRow, IsPlaced, IsSettledIn, there_by}
 use Rattle.run_queue.specs.Stands.{HasObjects}
 use Rattle.run_queue.specs.Turns.{Marks, MarksAt, Notes}
 use Rattle.run_model.specs.Report.{event_line, tale_text}
-use Rattle.run_queue.proofs.Touched.{broken_on, halted_as, left_behind, told_on}
+use Rattle.run_queue.proofs.Boarding.{marks_keep_flights}
+use Rattle.run_queue.proofs.Meanwhile.{fault_stays, told_on}
+use Rattle.run_queue.proofs.Touched.{left_behind, starts_by}
 use Rattle.run_queue.proofs.Growing.{book_grows, legal_grows}
 use Rattle.run_queue.proofs.There.{WasSo, there_grows}
 use Rattle.run_queue.proofs.Notes.{set_other, set_same}
@@ -148,15 +153,19 @@ noted_text written old new seat event base m prints =
     subst (λ (l : List Logged). Prints base (written new.sink) (tale_text old.plan.tasks l) new.sink_failed) (sym m.is)
     (prints_behind old.plan old.tale (record { event = event; seat = seat; moment = m.moment }) base (written new.sink) new.sink_failed prints)
 
--- An entry that settles no task leaves what a run keeps; of a task that needn't have been told of it may tell that the run is halted at it.
-pub unsettled_run : (o : Opening) (s : Seen) (but : ℕ → Type 0) (seat : ℕ) (event : Event) (failed : Bool) (fault : Option RunFault) (written : List ℕ) → SettlesNone o s.plan s.tale (logged_at s seat event) → (run : IsRunBut o s but)
-    → ((u : ℕ) → but u → IsSome fault × (u ≡ run.halted) × MayBeHalted o (behind s seat event failed fault written) u)
+-- The task of an event isn't begun, or a fault is kept, and the event breaks it off, not for its bench.
+abbrev pub IsSpared : Seen → ℕ → Event → Type 0
+IsSpared s seat event = (IsBegun s (task_of event) → ⊥) ⊎ (IsSome s.fault × HasBroken (s.tale ++ logged_at s seat event ∷ []) (task_of event))
+
+-- An entry that settles no task leaves what a run keeps.
+pub unsettled_run : (o : Opening) (s : Seen) (seat : ℕ) (event : Event) (failed : Bool) (fault : Option RunFault) (written : List ℕ) → SettlesNone o s.plan s.tale (logged_at s seat event) → IsRun o s
+    → IsSpared s seat event
     → (fault ≡ None → s.fault ≡ None)
     → ((course : Course) → course.plan ≡ s.plan → IsCourse o s.options (s.tale ++ logged_at s seat event ∷ []) course → MayCome course s.tale (logged_at s seat event))
     → IsReal o.gives s.plan.tasks event
     → WasSo o s.plan s.options s.tale event
     → IsRun o (behind s seat event failed fault written)
-unsettled_run o s but seat event failed fault written settles run own faultless may real there =
+unsettled_run o s seat event failed fault written settles run spared faultless may real there =
     let at : ℕ = min (moment s.story) (2 ^ 64 - 1) in
     let e : Logged = logged_at s seat event in
     let later : Seen = behind s seat event failed fault written in
@@ -169,10 +178,14 @@ unsettled_run o s but seat event failed fault written settles run own faultless 
       grown = books ∙ run.grown;
       own = run.own;
       readable = run.readable;
-      valid = λ none. run.valid (faultless none);
-      durable = λ none. run.durable (faultless none);
-      swept = λ none. run.swept (faultless none);
-      objects = λ none image is u task at_task not_yet. subst (λ (b : Book). HasObjects b o.story.held image task) (sym books) (run.objects (faultless none) image is u task at_task (λ ended. not_yet (ended_on o s.plan s.tale e settles u ended)));
+      opened = run.opened;
+      book = λ none. run.book (faultless none);
+      open_are = λ none. run.open_are (faultless none);
+      flights = λ none. (flown none).0;
+      touched = λ none. run.touched (faultless none);
+      flying = λ none u other runs begun. run.flying (faultless none) u other (sym (other_fate o s.plan s.tale e settles u (λ same. fresh none (subst (λ (n : ℕ). IsBegun s n) (sym same) begun))) ∙ runs) begun;
+      durable = λ none image is. (flown none).1 image (run.durable (faultless none) image is);
+      objects = λ none image is u task at_task not_yet on_ground. subst (λ (b : Book). HasObjects b o.story.held image task) (sym books) (run.objects (faultless none) image is u task at_task (λ ended. not_yet (ended_on o s.plan s.tale e settles u ended)) on_ground);
       later = run.later;
       marked = λ k x here. elim (front_at o s.plan s.tale e settles k x here) [
         | inl f ↦ run.marked k x f
@@ -186,15 +199,19 @@ unsettled_run o s but seat event failed fault written settles run own faultless 
         | inr l ↦ subst (λ (y : Logged). IsReal o.gives s.plan.tasks y.event) (sym l.1) real
       ];
       stored = λ u sg settled is. run.stored u sg (settled_back o s.plan s.tale e settles u settled) is;
+      missing = λ u other runs. missing_on u other runs (cases_eq (task_of event) u);
       there = if_some_on s.known (λ (k : Known). (u : ℕ) (a : Avail) → Rattle.tale_model.specs.Need.IsIn k.need u → (HasEnded s.plan s.tale u → ⊥) → slice_get k.avail u ≡ Some a → WasThere o s u a)
           (λ (k : Known). (u : ℕ) (a : Avail) → Rattle.tale_model.specs.Need.IsIn k.need u → (HasEnded s.plan (s.tale ++ e ∷ []) u → ⊥) → slice_get k.avail u ≡ Some a → WasThere o later u a)
           (λ k h u a member not_yet is. h u a member (λ ended. not_yet (ended_on o s.plan s.tale e settles u ended)) is) run.there;
-      answered = λ none u a is not_yet. run.answered (faultless none) u a is (λ ended. not_yet (ended_on o s.plan s.tale e settles u ended));
+      answered = λ none u a is not_yet.
+          let was = run.answered (faultless none) u a is (λ ended. not_yet (ended_on o s.plan s.tale e settles u ended)) in
+          let still = other_fate o s.plan s.tale e settles u (λ same. fresh none (subst (λ (n : ℕ). IsBegun s n) (sym same) (a, is))) in
+          ((λ x here. was.0 x here), elim was.1 [ inl object ↦ inl object | inr gone ↦ inr (gone.0, (gone.1.0, still ∙ gone.1.1)) ]);
       met = λ u settled not_yet.
           let m = run.met u (settled_back o s.plan s.tale e settles u settled) (λ ended. not_yet (ended_on o s.plan s.tale e settles u ended)) in
           (m.0, m.1, m.2);
       halted = run.halted;
-      told = told_on s.begun s.tale e s.fault fault run.halted (MayBeHalted o s) (MayBeHalted o later) but faultless (halted_as o s later (broken_on s.tale e) (λ u was x here. was x here)) (λ u b. inr (own u b)) run.told;
+      told = λ u b. told_on o s later run.halted nobody u e refl refl (fault_stays s.fault fault faultless) (λ was x here. was x here) (λ other same runs. ended u b same) (λ never. absurd never) (run.told u b);
       images = λ t image le since. elim (run.images t image le since) [ inl before ↦ inl before | inr left ↦ inr (left_behind o s.plan s.begun s.tale e image left) ];
       stands = λ image is. stands_on o s.plan s.tale e settles image (run.stands image is);
       settled = λ k x here lt image since. elim (front_at o s.plan s.tale e settles k x here) [
@@ -208,6 +225,29 @@ unsettled_run o s but seat event failed fault written settles run own faultless 
             subst (λ (l : List Logged). AllStand o s.plan l image) (sym whole) (stands_on o s.plan s.tale e settles image (run.stands image image_now))
       ];
     }
+  where
+    fresh : fault ≡ None → IsBegun s (task_of event) → ⊥
+    fresh none begun = elim spared [
+      | inl not ↦ not begun
+      | inr it ↦ false≢true (subst (λ (f : Option RunFault). IsSome f) (faultless none) it.0)
+    ]
+
+    flown : (none : fault ≡ None) → AreFlights o s.plan (s.tale ++ logged_at s seat event ∷ []) run.opened × ((image : Store) → IsValidWith o s.plan s.tale run.opened image → IsValidWith o s.plan (s.tale ++ logged_at s seat event ∷ []) run.opened image)
+    flown none = marks_keep_flights o s.plan s.tale run.opened (logged_at s seat event) settles.book
+        (λ u other flies runs same. fresh none (subst (λ (n : ℕ). IsBegun s n) same (run.touched (faultless none) u flies))) (run.flights (faultless none))
+
+    missing_on : (u other : ℕ) → RunsAfter s.plan (s.tale ++ logged_at s seat event ∷ []) u other → (task_of event ≡ u) ⊎ (task_of event ≡ u → ⊥) → WasThere o (behind s seat event failed fault written) u Missing
+    missing_on u other runs (inl same) sg is =
+        let starts : fate_by event ≡ fate.Running other = sym (own_fate o s.plan s.tale (logged_at s seat event) settles) ∙ ap (fate_at (fates_told (length s.plan.tasks) (s.tale ++ logged_at s seat event ∷ []))) same ∙ runs in
+        let told = there (task_of event) Missing (ap there_by (starts_by event other starts)) sg (ap (λ (r : List EquivRow). slice_get (signatures r s.plan.tasks) (task_of event)) (sym run.rows) ∙ ap (slice_get (signatures s.rows s.plan.tasks)) same ∙ is) in
+        subst (λ (r : List EquivRow). IsAvailable o.story.held r s.options.setscene sg Missing) (sym run.rows) told
+    missing_on u other runs (inr ne) sg is = run.missing u other (sym (other_fate o s.plan s.tale (logged_at s seat event) settles u ne) ∙ runs) sg is
+
+    ended : (u : ℕ) → IsBegun s u → u ≡ task_of event → IsPlaced (s.tale ++ logged_at s seat event ∷ []) u ⊎ (IsSome fault × HasBroken (s.tale ++ logged_at s seat event ∷ []) u)
+    ended u b same = elim spared [
+      | inl not ↦ absurd (not (subst (λ (n : ℕ). IsBegun s n) same b))
+      | inr it ↦ inr (fault_stays s.fault fault faultless it.0, subst (HasBroken (s.tale ++ logged_at s seat event ∷ [])) (sym same) it.1)
+    ]
 
 -- a fault that is kept stays, so where none is kept now none was
 pub was_none : (old new : Option RunFault) → (IsSome old → new ≡ old) → new ≡ None → old ≡ None
@@ -215,20 +255,21 @@ was_none None new stays none = refl
 was_none (Some f) new stays none = sym (stays refl) ∙ none
 
 -- the same of views of a state
-pub noted_but : {D W : Type 0} (story : D → Story) (written : W → List ℕ) (o : Opening) (old new : RunView D W) (but : ℕ → Type 0) (seat : ℕ) (event : Event) → Notes seat event old new → MarksAt (story old.store.disk) seat event old.tale new.tale → (IsSome old.fault → new.fault ≡ old.fault)
-    → SettlesNone o old.plan old.tale (logged_at (seen story written old) seat event) → (run : IsRunBut o (seen story written old) but)
-    → ((u : ℕ) → but u → IsSome new.fault × (u ≡ run.halted) × MayBeHalted o (behind (seen story written old) seat event new.sink_failed new.fault (written new.sink)) u)
+pub noted_run : {D W : Type 0} (story : D → Story) (written : W → List ℕ) (o : Opening) (old new : RunView D W) (seat : ℕ) (event : Event) → Notes seat event old new → MarksAt (story old.store.disk) seat event old.tale new.tale → (IsSome old.fault → new.fault ≡ old.fault)
+    → SettlesNone o old.plan old.tale (logged_at (seen story written old) seat event) → IsRun o (seen story written old)
+    → IsSpared (seen story written old) seat event
     → ((course : Course) → course.plan ≡ old.plan → IsCourse o old.options (old.tale ++ logged_at (seen story written old) seat event ∷ []) course → MayCome course old.tale (logged_at (seen story written old) seat event))
     → IsReal o.gives old.plan.tasks event
     → WasSo o old.plan old.options old.tale event
     → IsRun o (seen story written new)
-noted_but story written o old new but seat event n m stays settles run own may real there =
+noted_run story written o old new seat event n m stays settles run spared may real there =
     let made : Seen = behind (seen story written old) seat event new.sink_failed new.fault (written new.sink) in
     let same : made ≡ seen story written new = λ i. record {
       plan = sym n.plan i;
       options = sym n.options i;
       rows = (sym n.store i).rows;
       kept = (sym n.store i).kept;
+      opened = (sym n.store i).opened;
       sink_failed = new.sink_failed;
       fault = new.fault;
       tale = sym m.is i;
@@ -237,13 +278,4 @@ noted_but story written o old new but seat event n m stays settles run own may r
       story = story (sym n.store i).disk;
       written = written new.sink;
     } in
-    subst (IsRun o) same (unsettled_run o (seen story written old) but seat event new.sink_failed new.fault (written new.sink) settles run own (was_none old.fault new.fault stays) may real there)
-
--- where all that was begun is told of
-pub noted_run : {D W : Type 0} (story : D → Story) (written : W → List ℕ) (o : Opening) (old new : RunView D W) (seat : ℕ) (event : Event) → Notes seat event old new → MarksAt (story old.store.disk) seat event old.tale new.tale → (IsSome old.fault → new.fault ≡ old.fault)
-    → SettlesNone o old.plan old.tale (logged_at (seen story written old) seat event) → IsRun o (seen story written old)
-    → ((course : Course) → course.plan ≡ old.plan → IsCourse o old.options (old.tale ++ logged_at (seen story written old) seat event ∷ []) course → MayCome course old.tale (logged_at (seen story written old) seat event))
-    → IsReal o.gives old.plan.tasks event
-    → WasSo o old.plan old.options old.tale event
-    → IsRun o (seen story written new)
-noted_run story written o old new seat event n m stays settles run may real there = noted_but story written o old new nobody seat event n m stays settles run (λ u never. absurd never) may real there
+    subst (IsRun o) same (unsettled_run o (seen story written old) seat event new.sink_failed new.fault (written new.sink) settles run spared (was_none old.fault new.fault stays) may real there)

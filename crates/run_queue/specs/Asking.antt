@@ -100,11 +100,13 @@ Keeps fault_of.Memory old new answer = (new ≡ old) × (answer ≡ probe.Memory
 
 -- ---- what questions leave
 
--- Questions on the tasks of a plan leave a store's rows and kept signatures, and where the disk tells what it holds; and the first fault that
--- they meet is kept.
+-- Questions on the tasks of a plan leave all of a store but its disk, and where the disk tells what it holds; and the first fault that they meet is
+-- kept.
 pub record Asks {D : Type 0} (plan : Plan) (tells : Type 0) (story : D → Story) (faults : D → ℕ) (old new : View D) (before now : Option StoreFault) : Type 0 where
   pub rows : new.rows ≡ old.rows
   pub kept : new.kept ≡ old.kept
+  pub opened : new.opened ≡ old.opened
+  pub faultless : new.faultless ≡ old.faultless
   pub images : tells → Passes (story old.disk) (story new.disk) Same
   pub stays : (f : StoreFault) → before ≡ Some f → (now ≡ Some f) × (faults new.disk ≡ faults old.disk)
   pub none : before ≡ None → now ≡ None → faults new.disk ≡ faults old.disk

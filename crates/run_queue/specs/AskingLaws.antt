@@ -51,6 +51,8 @@ module _ {D : Type 0} (plan : Plan) (tells : Type 0) (story : D → Story) (faul
   asks_itself v f = record {
     rows = refl;
     kept = refl;
+    opened = refl;
+    faultless = refl;
     images = λ t. same_story (story v.disk);
     stays = λ x is. (is, refl);
     none = λ was is. refl;
@@ -61,6 +63,8 @@ module _ {D : Type 0} (plan : Plan) (tells : Type 0) (story : D → Story) (faul
   asks_more a b c f g h first second = record {
     rows = second.rows ∙ first.rows;
     kept = second.kept ∙ first.kept;
+    opened = second.opened ∙ first.opened;
+    faultless = second.faultless ∙ first.faultless;
     images = λ t. then_same (first.images t) (second.images t);
     stays = λ x is. let one = first.stays x is in let two = second.stays x one.0 in (two.0, two.1 ∙ one.1);
     none = λ was is. none_on g refl was is;

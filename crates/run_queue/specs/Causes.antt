@@ -1,5 +1,5 @@
 -- Why a fault is kept, over the rows that the store has then.
-use Rattle.std.specs.Prelude.{◌≡◌, ◌<◌, ℕ, Bool, true, List, Some}
+use Rattle.std.specs.Prelude.{◌≡◌, ◌<◌, ℕ, Bool, true, List, Option, None, Some}
 use Rattle.std.specs.List.{slice_get}
 use Rattle.meta_model.specs.CleanBuild.{Entries}
 use Rattle.meta_model.specs.declared.plan.Plan.{Plan}
@@ -47,3 +47,15 @@ IsStoreOfGiven tasks t g fault_of.Memory = Unit {0}
 abbrev pub IsOfGiven : List PlanTask → ℕ → Given → RunFault → Type 0
 IsOfGiven tasks t g (ends.Store f) = IsStoreOfGiven tasks t g f
 IsOfGiven tasks t g ends.Write = Unit {0}
+
+-- the same with nothing handed over: the fault carries nothing of an output
+abbrev pub IsOfNone : RunFault → Type 0
+IsOfNone (ends.Store fault_of.Disk) = Unit {0}
+IsOfNone (ends.Store (fault_of.Collision name held given)) = Unit {0}
+IsOfNone (ends.Store (fault_of.Unsteady pn task held given)) = ⊥
+IsOfNone (ends.Store fault_of.Memory) = Unit {0}
+IsOfNone ends.Write = Unit {0}
+
+abbrev pub IsOfHanded : List PlanTask → ℕ → Option Given → RunFault → Type 0
+IsOfHanded tasks t (Some g) f = IsOfGiven tasks t g f
+IsOfHanded tasks t None f = IsOfNone f

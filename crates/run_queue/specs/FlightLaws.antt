@@ -22,18 +22,18 @@ use Rattle.store_model.specs.Reuse.{MayReuse}
 use Rattle.store_model.specs.Rows.{row_at}
 use Rattle.store_model.specs.Signatures.{Signed, signatures}
 use Rattle.store_model.specs.Spelling.{name_of, signature_bytes}
-use Rattle.store_model.specs.Opened.{HasNoLitter}
 use Rattle.store_model.specs.Valid.{IsValid, IsValidBook, IsValidLine}
 use Rattle.build_store.specs.Pieces.{IsPublishing}
+use Rattle.build_store.specs.View.{NothingOpen, OpenViews}
 use Rattle.build_store.specs.Publication.{IsPublished, KeepsOthers, Publishes, Restores, publication, rows_with}
 use Rattle.run_model.specs.Books.{book_after, book_by, line_of_ended, rows_after}
 use Rattle.run_model.specs.Build.{IsLeftByRun}
 use Rattle.run_model.specs.InFlight.{RunsAfter, book_with, lines_in_flight}
 use Rattle.run_model.specs.Opening.{Opening}
 use Rattle.run_model.specs.Stands.{AllStand, HasBroken, IsPlaced}
-use Rattle.run_queue.specs.Flights.{AreFlights, AreLeft, AreOnce, Closes, Flies, FliesAs, HasLitterOf, IsFlight, IsInHand, IsStagingOf, IsToldOf, IsUnderWay, IsValidWith, KeepOtherObjects, OpenTask, OpenTasks, OpensAt, StandTo, nothing_open, with_open, without_open}
+use Rattle.run_queue.specs.Flights.{AreFlights, AreLeft, AreOnce, Closes, Flies, FliesAs, IsFlight, IsInHand, IsUnderWay, IsValidWith, KeepOtherObjects, OpenTask, OpenTasks, OpensAt, SameOpen, StandTo, nothing_open, with_open, without_open}
 use Rattle.run_queue.specs.Joined.{IsOther}
-use Rattle.run_queue.specs.Keeps.{IsRun, WasThere, nobody}
+use Rattle.run_queue.specs.Keeps.{IsToldOf, WasThere, nobody}
 use Rattle.run_queue.specs.Opening.{MayRun}
 use Rattle.run_queue.specs.Seen.{IsBegunIn, Seen}
 use Rattle.run_queue.specs.Stands.{IsLeft, IsReadAfter}
@@ -67,20 +67,11 @@ FlightStays = (o : Opening) (plan : Plan) (book more : Book) → MayReuse o.give
 abbrev pub BeginsUnderWay : Type 0
 BeginsUnderWay = (o : Opening) (plan : Plan) → MayRun o plan → HasNoCollision o.book (rows_of o.book) plan.tasks → IsUnderWay o plan [] nothing_open × EachNow o.story (IsValidWith o plan [] nothing_open)
 
--- A run that keeps no fault, as it is kept while each publication is one turn, is one with nothing open: all that is kept of one follows.
-abbrev pub RunHasNothingOpen : Type 0
-RunHasNothingOpen = (o : Opening) (s : Seen) → IsRun o s → s.fault ≡ None → EachAfter (IsOrderly s.plan.tasks) s.tale → HasNoCollision (book_after o.gives s.plan o.book s.tale) s.rows s.plan.tasks →
-    IsUnderWay o s.plan s.tale nothing_open
-    × EachNow s.story (IsValidWith o s.plan s.tale nothing_open)
-    × AreLeft o s.plan s.begun s.tale s.story
-    × EachNow s.story (KeepOtherObjects o s.plan s.tale nothing_open)
-    × HasLitterOf nothing_open s.story.held
-
--- At its end, where no task runs, nothing is open: what is valid with some lines in flight is so with the book of what ended, and there is no litter.
+-- At its end, where no task runs, nothing is open, in the store's books too: what is valid with some lines in flight is so with the book of what ended.
 abbrev pub EndsWithNothing : Type 0
 EndsWithNothing = (o : Opening) (plan : Plan) (tale : List Logged) (opened : OpenTasks) → AreFlights o plan tale opened → NoneRuns (fates_told (length plan.tasks) tale) →
     ((image : Store) → IsValidWith o plan tale opened image → IsValid o.gives o.reading image (book_after o.gives plan o.book tale))
-    × ((held : Store) → HasLitterOf opened held → HasNoLitter held)
+    × ((views : OpenViews) → SameOpen opened views → NothingOpen views)
 
 -- One more may be opened, of a task that runs, by its signature over the rows and with its clean output, where none that is open has its name. What
 -- was valid with some lines in flight is so still.
@@ -89,10 +80,10 @@ OpeningKeepsFlights = (o : Opening) (plan : Plan) (tale : List Logged) (opened l
     ((beside : List ℕ) (other : OpenTask) → opened beside ≡ Some other → name_of one.signed.sig ≢ name_of other.signed.sig) →
     AreFlights o plan tale later × ((image : Store) → IsValidWith o plan tale opened image → IsValidWith o plan tale later image)
 
--- So is what was said of other objects, and of what is under `tmp/`.
+-- So is what was said of other objects.
 abbrev pub OpeningKeepsOthers : Type 0
 OpeningKeepsOthers = (o : Opening) (plan : Plan) (tale : List Logged) (opened later : OpenTasks) (folder : List ℕ) (one : OpenTask) → OpensAt folder one opened later → (image : Store) →
-    (KeepOtherObjects o plan tale opened image → KeepOtherObjects o plan tale later image) × (HasLitterOf opened image → HasLitterOf later image)
+    KeepOtherObjects o plan tale opened image → KeepOtherObjects o plan tale later image
 
 -- As plain values: one more at a folder, and one less.
 abbrev pub OneMoreOrLess : Type 0
@@ -116,15 +107,13 @@ TurnLeaves = (o : Opening) (plan : Plan) (tale : List Logged) (opened : OpenTask
     (begun : List (Option Avail)) → IsBegunIn begun t → (a b : Story) → IsSound a → moment o.story ≤ moment a → Passes a b (IsPublishing (publication (rows_after o plan tale) one.signed one.tree) a.held) →
     EachNow a (IsValidWith o plan tale opened) → AreLeft o plan begun tale a → AreLeft o plan begun tale b
 
--- Settled tasks stand through it, now and since each event; so do the objects of tasks of which nothing is open, and all under `tmp/` but what is
--- its own.
+-- Settled tasks stand through it, now and since each event; so do the objects of tasks of which nothing is open.
 abbrev pub TurnKeepsStanding : Type 0
 TurnKeepsStanding = (o : Opening) (plan : Plan) (tale : List Logged) (opened : OpenTasks) → IsUnderWay o plan tale opened → (t : ℕ) (one : OpenTask) → FliesAs plan opened t one →
     (a b : Story) → IsSound a → ((k : ℕ) (entry : Logged) → slice_get tale k ≡ Some entry → entry.moment ≤ moment a) → Passes a b (IsPublishing (publication (rows_after o plan tale) one.signed one.tree) a.held) →
     (EachNow a (AllStand o plan tale) → EachNow b (AllStand o plan tale))
     × (StandTo o plan tale a → StandTo o plan tale b)
     × (EachNow a (KeepOtherObjects o plan tale opened) → EachNow b (KeepOtherObjects o plan tale opened))
-    × (HasLitterOf opened a.held → HasLitterOf opened b.held)
 
 -- ---- the last turn
 
@@ -147,10 +136,6 @@ LandingStands = (o : Opening) (plan : Plan) (tale : List Logged) (opened : OpenT
     (IsValidWith o plan tale opened image → IsValidWith o plan (tale ++ entry ∷ []) later image)
     × (AllStand o plan tale image → AllStand o plan (tale ++ entry ∷ []) image)
     × (KeepOtherObjects o plan tale opened image → KeepOtherObjects o plan (tale ++ entry ∷ []) later image)
-
--- And where nothing is held any more under `tmp/` that was its own, all that is held there is the others'.
-abbrev pub LandingIsSwept : Type 0
-LandingIsSwept = (opened later : OpenTasks) (folder : List ℕ) (one : OpenTask) → opened folder ≡ Some one → Closes folder opened later → (held : Store) → ((q : List ℕ) → IsStagingOf folder (name_of one.signed.sig) q → held q ≡ None) → HasLitterOf opened held → HasLitterOf later held
 
 -- Each settled task stands since its event, the task itself too, whose event is marked now.
 abbrev pub LandingStandsTo : Type 0

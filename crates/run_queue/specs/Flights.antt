@@ -1,20 +1,17 @@
 -- Publications that are open in a run, and their lines, which are in flight. (Own rules.)
-use Rattle.std.specs.Prelude.{◌≡◌, ◌≢◌, ◌⊎◌, ◌≤◌, ◌<◌, ◌+◌, ◌-◌, ◌^◌, ℕ, List, [], ◌∷◌, ◌++◌, take, codes, IsSome, Option, Some, None, Ok, if◌then◌else◌}
+use Rattle.std.specs.Prelude.{◌≡◌, ◌≢◌, ◌⊎◌, ◌≤◌, ◌<◌, ◌+◌, ◌-◌, ◌^◌, ℕ, List, [], ◌∷◌, ◌++◌, take, Option, Some, None, Ok, if◌then◌else◌}
 use Rattle.std.specs.List.{AllByRecursion, slice_get}
+use Rattle.std.specs.Option.{option_map}
 use Rattle.std.specs.Str.{bytes_eq}
-use Rattle.tree_model.specs.Path.{IsBelow, inside}
 use Rattle.tree_model.specs.Tree.{IsTree}
-use Rattle.tree_model.specs.declared.hash.Hash.{Hash}
 use Rattle.outside_traits.specs.Store.{Store}
 use Rattle.outside_traits.specs.Story.{IsImageSince, Story, moment}
 use Rattle.meta_model.specs.CleanBuild.{Entries}
 use Rattle.meta_model.specs.declared.event.Avail.{Avail}
-use Rattle.meta_model.specs.declared.event.Avail.TheVariants.{Missing, Object}
 use Rattle.meta_model.specs.declared.event.Logged.{Logged}
 use Rattle.meta_model.specs.declared.plan.Plan.{Plan}
 use Rattle.tale_model.specs.History.{EachAfter}
 use Rattle.run_core.specs.History.{IsOrderly}
-use Rattle.store_opening.specs.Paths.{staged_record_path}
 use Rattle.store_model.specs.Available.{task_folder}
 use Rattle.store_model.specs.Origins.{Book, rows_of}
 use Rattle.store_model.specs.Readable.{IsReadable}
@@ -23,16 +20,17 @@ use Rattle.store_model.specs.Reuse.{MayReuse}
 use Rattle.store_model.specs.Signatures.{Signed, signatures}
 use Rattle.store_model.specs.Spelling.{name_of}
 use Rattle.store_model.specs.Valid.{IsValid}
+use Rattle.build_store.specs.Openings.{open_view}
 use Rattle.build_store.specs.Publication.{line_for}
+use Rattle.build_store.specs.View.{OpenView, OpenViews, opened_at}
 use Rattle.run_model.specs.Books.{book_after}
 use Rattle.run_model.specs.CleanOutputs.{Has}
+use Rattle.run_model.specs.Courses.{clean_says, said}
 use Rattle.run_model.specs.InFlight.{RunsAfter, book_with}
 use Rattle.run_model.specs.Opening.{Opening}
-use Rattle.run_model.specs.Stands.{AllStand, HasBroken, HasEnded, IsPlaced}
+use Rattle.run_model.specs.Stands.{AllStand, HasEnded}
 use Rattle.meta_model.specs.declared.plan.PlanTask.{PlanTask}
-use Rattle.run_queue.specs.Keeps.{WasThere}
 use Rattle.run_queue.specs.Opening.{MayRun}
-use Rattle.run_queue.specs.Seen.{Seen}
 use Rattle.run_queue.specs.Stands.{HasObjects, IsLeft}
 
 -- ---- what is open
@@ -46,6 +44,14 @@ pub record OpenTask : Type 0 where
 abbrev pub OpenTasks : Type 0
 OpenTasks = List ℕ → Option OpenTask
 
+-- as the store keeps it: with the bytes of the signature
+abbrev pub view_of : OpenTask → OpenView
+view_of one = open_view one.signed one.tree
+
+-- what a store keeps of the publications that it has open is of these
+abbrev pub SameOpen : OpenTasks → OpenViews → Type 0
+SameOpen opened views = (folder : List ℕ) → option_map view_of (opened folder) ≡ opened_at views folder
+
 -- nothing is open
 abbrev pub nothing_open : OpenTasks
 nothing_open folder = None
@@ -58,12 +64,13 @@ FliesAs plan opened t one = (slice_get plan.tasks t ≡ Some one.signed.task) ×
 abbrev pub Flies : Plan → OpenTasks → ℕ → Type 0
 Flies plan opened t = (one : OpenTask) × FliesAs plan opened t one
 
--- Over a book a publication is one of a task of the plan: its signature is that by the rows, the tree is its clean output, the names of the tasks
--- that it needs have rows, and its line can be read again.
+-- Over a book a publication is one of a task of the plan: its signature is that by the rows, the tree is its clean output, and what the clean build
+-- says, the names of the tasks that it needs have rows, and its line can be read again.
 pub record IsFlight (o : Opening) (plan : Plan) (book : Book) (t : ℕ) (one : OpenTask) : Type 0 where
   pub at : slice_get plan.tasks t ≡ Some one.signed.task
   pub signed : slice_get (signatures (rows_of book) plan.tasks) t ≡ Some one.signed
   pub clean : Has o.gives plan.tasks t (Ok one.tree)
+  pub says : clean_says o.gives plan.tasks t ≡ said (Ok one.tree)
   pub is_tree : IsTree one.tree
   pub needs : NeedsHaveRows (rows_of book) (signatures (rows_of book) plan.tasks) one.signed.task
   pub readable : IsReadable (line_for (rows_of book) one.signed one.tree)
@@ -118,14 +125,6 @@ pub record IsValidWith (o : Opening) (plan : Plan) (tale : List Logged) (opened 
 abbrev pub KeepOtherObjects : Opening → Plan → List Logged → OpenTasks → Store → Type 0
 KeepOtherObjects o plan tale opened image = (t : ℕ) (task : PlanTask) → slice_get plan.tasks t ≡ Some task → (HasEnded plan tale t → ⊥) → (Flies plan opened t → ⊥) → HasObjects (book_after o.gives plan o.book tale) o.story.held image task
 
--- where a publication of this folder and name puts an old stamp aside, and stages its stamp and its record
-abbrev pub IsStagingOf : List ℕ → Hash → List ℕ → Type 0
-IsStagingOf folder name q = (q ≡ inside (codes "tmp/old") folder) ⊎ ((q ≡ inside (codes "tmp/stamp") folder) ⊎ (q ≡ staged_record_path name))
-
--- under `tmp/` nothing is held but by publications that are open
-abbrev pub HasLitterOf : OpenTasks → Store → Type 0
-HasLitterOf opened held = (q : List ℕ) → IsBelow (codes "tmp") q → ((folder : List ℕ) (one : OpenTask) → opened folder ≡ Some one → IsStagingOf folder (name_of one.signed.sig) q → ⊥) → held q ≡ None
-
 -- each image since an early moment was left before the run began, or by the run
 abbrev pub AreLeft : Opening → Plan → List (Option Avail) → List Logged → Story → Type 0
 AreLeft o plan begun tale story = (from : ℕ) (image : Store) → from ≤ moment o.story → IsImageSince story from image → IsImageSince o.story from image ⊎ IsLeft o plan begun tale image
@@ -145,17 +144,3 @@ pub record IsUnderWay (o : Opening) (plan : Plan) (tale : List Logged) (opened :
   pub readable : AllByRecursion IsReadable (book_after o.gives plan o.book tale)
   pub reuse : MayReuse o.gives o.reading o.story.held (book_after o.gives plan o.book tale) plan.tasks
   pub flights : AreFlights o plan tale opened
-
--- What had been answered of a task that was begun and hasn't ended: its output was there as an object when the run began; or it was missing then,
--- and the task runs, so that its publication may be open.
-abbrev pub WasAnswered : Opening → Seen → ℕ → Avail → Type 0
-WasAnswered o s t there = WasThere o s t there × ((there ≡ Object) ⊎ ((there ≡ Missing) × ((seat : ℕ) × RunsAfter s.plan s.tale t seat)))
-
--- Where a task is told of that was begun: it was placed; or it runs; or a fault is kept, and the tale breaks the task off, or it is the one that was
--- being restored; or it is one of these.
-abbrev pub IsToldOf : Opening → Seen → ℕ → (ℕ → Type 0) → ℕ → Type 0
-IsToldOf o s halted but t =
-    IsPlaced s.tale t
-    ⊎ (((seat : ℕ) × RunsAfter s.plan s.tale t seat)
-    ⊎ ((IsSome s.fault × (HasBroken s.tale t ⊎ ((t ≡ halted) × WasThere o s t Object)))
-    ⊎ but t))

@@ -1,5 +1,5 @@
 -- What the state of a run keeps.
-use Rattle.std.specs.Prelude.{◌≡◌, ◌≢◌, ◌⊎◌, ◌≤◌, ◌+◌, ◌++◌, ℕ, Bool, false, List, length, Option, Some, None, IfSome, IsSome, []}
+use Rattle.std.specs.Prelude.{◌≡◌, ◌≢◌, ◌⊎◌, ◌≤◌, ◌+◌, ◌++◌, ℕ, Bool, true, false, List, length, Option, Some, None, IfSome, IsSome, []}
 use Rattle.std.specs.Bool.{OnTrue, OnFalse}
 use Rattle.std.specs.List.{AllByRecursion, slice_get}
 use Rattle.tree_model.specs.declared.hash.Hash.{Hash}
@@ -18,7 +18,6 @@ use Rattle.run_core.specs.History.{IsOrderly}
 use Rattle.tale_model.specs.Need.{IsIn, IsNeed}
 use Rattle.plan_model.specs.Sound.{IsSound}
 use Rattle.store_model.specs.declared.signature.EquivRow.{EquivRow}
-use Rattle.store_model.specs.Opened.{HasNoLitter}
 use Rattle.store_model.specs.Readable.{IsReadable}
 use Rattle.store_model.specs.Origins.{Book, Line, rows_of}
 use Rattle.store_model.specs.Lines.{HasLine}
@@ -26,7 +25,7 @@ use Rattle.meta_model.specs.declared.plan.PlanTask.{PlanTask}
 use Rattle.store_model.specs.Premises.{HasNoCollision}
 use Rattle.store_model.specs.Reuse.{MayReuse}
 use Rattle.store_model.specs.Rows.{row_at, IsClear}
-use Rattle.store_model.specs.Valid.{IsValid}
+use Rattle.store_model.specs.Valid.{IsValidBook}
 use Rattle.meta_model.specs.declared.event.Avail.TheVariants.{Missing, Object}
 use Rattle.store_model.specs.Available.{IsAvailable}
 use Rattle.store_model.specs.Signatures.{Signed, signatures}
@@ -47,8 +46,10 @@ use Rattle.run_model.specs.Books.{book_after, rows_after}
 use Rattle.run_model.specs.Courses.{IsLegalTale}
 use Rattle.run_queue.specs.Courses.{IsReal}
 use Rattle.run_queue.specs.Seen.{IsBegun, Known, RunView, Seen}
+use Rattle.run_model.specs.InFlight.{RunsAfter}
 use Rattle.run_model.specs.Stands.{AllStand, HasBroken, HasEnded, IsPlaced, IsSettledIn, WereThere}
-use Rattle.run_queue.specs.Stands.{KeepObjects, IsLeft, StandSince}
+use Rattle.run_queue.specs.Flights.{AreFlights, Flies, IsValidWith, KeepOtherObjects, OpenTasks, SameOpen}
+use Rattle.run_queue.specs.Stands.{IsLeft, StandSince}
 
 -- ---- in every state
 
@@ -83,8 +84,10 @@ pub record IsState {D W : Type 0} (count : ℕ) (s : RunView D W) : Type 0 where
   pub orderly : EachAfter (IsOrderly s.plan.tasks) s.tale
   -- what is known of the plan's tasks is up to date
   pub current : IfSome s.known (IsUpToDate s.plan s.store.rows)
-  -- while no fault is kept neither the disk has failed nor the sink, and no task broke off by a fault; and a kept one has its cause
+  -- while no fault is kept neither the disk has failed nor the sink, no call of the store that changes the disk met a fault, and no task broke off
+  -- by one; and a kept one has its cause
   pub unharmed : s.fault ≡ None → count ≡ 0
+  pub clean : s.fault ≡ None → s.store.faultless ≡ true
   pub heard : s.fault ≡ None → s.sink_failed ≡ false
   pub unbroken : s.fault ≡ None → fault_broke s.tale ≡ false
   pub cause : IfSome s.fault (IsCause count s.plan s.store.rows s.sink_failed)
@@ -124,9 +127,19 @@ PrintsOn written old new =
 abbrev pub KeepsFront : {D W : Type 0} → (W → List ℕ) → RunView D W → RunView D W → Type 0
 KeepsFront written old new = (front : List ℕ) → IsFront front (written old.sink) → IsFront front (written new.sink)
 
--- The publishing or restoring of the task may have met a fault: the tale breaks the task off by one, or its output was there as an object.
-abbrev pub MayBeHalted : Opening → Seen → ℕ → Type 0
-MayBeHalted o s t = HasBroken s.tale t ⊎ WasThere o s t Object
+-- What had been answered of a task that was begun and hasn't ended: its output was there as an object when the run began; or it was missing then,
+-- and the task runs, so that its publication may be open.
+abbrev pub WasAnswered : Opening → Seen → ℕ → Avail → Type 0
+WasAnswered o s t there = WasThere o s t there × ((there ≡ Object) ⊎ ((there ≡ Missing) × ((seat : ℕ) × RunsAfter s.plan s.tale t seat)))
+
+-- Where a task is told of that was begun: it was placed; or it runs; or a fault is kept, and the tale breaks the task off, or it is the one that was
+-- being restored; or it is one of these.
+abbrev pub IsToldOf : Opening → Seen → ℕ → (ℕ → Type 0) → ℕ → Type 0
+IsToldOf o s halted but t =
+    IsPlaced s.tale t
+    ⊎ (((seat : ℕ) × RunsAfter s.plan s.tale t seat)
+    ⊎ ((IsSome s.fault × (HasBroken s.tale t ⊎ ((t ≡ halted) × WasThere o s t Object)))
+    ⊎ but t))
 
 -- What a run keeps besides over an opening whose premises hold. Tasks that `but` tells of may have been begun without being told of yet.
 pub record IsRunBut (o : Opening) (s : Seen) (but : ℕ → Type 0) : Type 0 where
@@ -139,13 +152,19 @@ pub record IsRunBut (o : Opening) (s : Seen) (but : ℕ → Type 0) : Type 0 whe
   pub own : (line : Line) → HasLine lines line → (t : ℕ) (task : PlanTask) → slice_get s.plan.tasks t ≡ Some task → line.sig.pn ≡ task.id.pn → line.sig.task ≡ task.id.task → IsBegun s t
   -- and all lines can be read again
   pub readable : AllByRecursion IsReadable (o.book ++ lines)
-  -- while no fault is kept, what is held, and what a crash leaves now, is valid with that book
-  pub valid : s.fault ≡ None → IsValid o.gives o.reading s.story.held (o.book ++ lines)
-  pub durable : s.fault ≡ None → EachNow s.story (λ image. IsValid o.gives o.reading image (o.book ++ lines))
-  -- and nothing is held under `tmp/`
-  pub swept : s.fault ≡ None → HasNoLitter s.story.held
-  -- and the objects of tasks that haven't ended are as they were when the run began
-  pub objects : s.fault ≡ None → EachNow s.story (KeepObjects o s.plan s.tale)
+  -- the publications that are open, with the signatures of their tasks
+  pub opened : OpenTasks
+  -- while no fault is kept that is a valid book, and these are the store's, each of a task in hand, which is begun; so one is open of each task that
+  -- is begun and runs
+  pub book : s.fault ≡ None → IsValidBook o.gives o.reading (o.book ++ lines)
+  pub open_are : s.fault ≡ None → SameOpen opened s.opened
+  pub flights : s.fault ≡ None → AreFlights o s.plan s.tale opened
+  pub touched : s.fault ≡ None → (t : ℕ) → Flies s.plan opened t → IsBegun s t
+  pub flying : s.fault ≡ None → (t seat : ℕ) → RunsAfter s.plan s.tale t seat → IsBegun s t → Flies s.plan opened t
+  -- what a crash leaves now is valid with the book and some lines in flight, and has the objects of tasks that haven't ended, and of which nothing is
+  -- open, as they were when the run began
+  pub durable : s.fault ≡ None → EachNow s.story (IsValidWith o s.plan s.tale opened)
+  pub objects : s.fault ≡ None → EachNow s.story (KeepOtherObjects o s.plan s.tale opened)
   -- the run began, and each event came, at a moment that is not to come
   pub later : moment o.story ≤ moment s.story
   pub marked : (k : ℕ) (entry : Logged) → slice_get s.tale k ≡ Some entry → entry.moment ≤ moment s.story
@@ -158,14 +177,15 @@ pub record IsRunBut (o : Opening) (s : Seen) (but : ℕ → Type 0) : Type 0 whe
   pub real : (k : ℕ) (entry : Logged) → slice_get s.tale k ≡ Some entry → IsReal o.gives s.plan.tasks entry.event
   -- the name of each settled task has a row
   pub stored : (t : ℕ) (sg : Signed) → IsSettledIn s.plan s.tale t → slice_get (signatures s.rows s.plan.tasks) t ≡ Some sg → row_at s.rows (name_of sg.sig) ≢ None
-  -- what is known of needed tasks that haven't ended was so when the run began; so was, while no fault is kept, what was answered of
-  -- those that were begun and haven't ended, and it was an object; and the output of a settled task that didn't end was there then
+  -- a task that runs was missing when the run began; what is known of needed tasks that haven't ended was so then; so was, while no fault is kept,
+  -- what was answered of those that were begun and haven't ended; and the output of a settled task that didn't end was there then
+  pub missing : (t seat : ℕ) → RunsAfter s.plan s.tale t seat → WasThere o s t Missing
   pub there : IfSome s.known (λ k. (t : ℕ) (a : Avail) → IsIn k.need t → (HasEnded s.plan s.tale t → ⊥) → slice_get k.avail t ≡ Some a → WasThere o s t a)
-  pub answered : s.fault ≡ None → (t : ℕ) (a : Avail) → slice_get s.begun t ≡ Some (Some a) → (HasEnded s.plan s.tale t → ⊥) → WasThere o s t a × (a ≡ Object)
+  pub answered : s.fault ≡ None → (t : ℕ) (a : Avail) → slice_get s.begun t ≡ Some (Some a) → (HasEnded s.plan s.tale t → ⊥) → WasAnswered o s t a
   pub met : (t : ℕ) → IsSettledIn s.plan s.tale t → (HasEnded s.plan s.tale t → ⊥) → (a : Avail) × WasThere o s t a × (a ≢ Missing)
-  -- each task that was begun ended or was restored in the tale; but for one at most, where a fault is kept: that one's publishing or restoring met it
+  -- each task that was begun is told of; of a restoring that met a fault it is kept which task it was
   pub halted : ℕ
-  pub told : (t : ℕ) → IsBegun s t → IsPlaced s.tale t ⊎ ((IsSome s.fault × (t ≡ halted) × MayBeHalted o s t) ⊎ but t)
+  pub told : (t : ℕ) → IsBegun s t → IsToldOf o s halted but t
   -- whatever a crash left was left before the run began, or it is valid with what had ended and lines of tasks that ran, has no stamp that lies,
   -- and has the tasks that weren't begun as they were
   pub images : (t : ℕ) (image : Store) → t ≤ moment o.story → IsImageSince s.story t image → IsImageSince o.story t image ⊎ IsLeft o s.plan s.begun s.tale image

@@ -48,6 +48,7 @@ at_begin o plan options written = record {
   options = options;
   rows = rows_of o.book;
   kept = [];
+  opened = [];
   sink_failed = false;
   fault = None;
   tale = [];

@@ -8,19 +8,18 @@ use Rattle.meta_model.specs.CleanBuild.{Built, Entries, Gives, clean_build}
 use Rattle.store_model.specs.declared.signature.EquivRow.{EquivRow}
 use Rattle.store_model.specs.Signatures.{Signed, signatures}
 use Rattle.store_model.specs.Available.{task_folder}
-use Rattle.build_store.specs.Publication.{HasNoObject, IsPublished, IsRestored, KeepsOthers, Publishes, Restores, publication, rows_with}
-use Rattle.store_model.specs.Publication.{Publication}
+use Rattle.store_model.specs.Readable.{IsReadable}
+use Rattle.store_model.specs.Spelling.{name_of}
+use Rattle.build_store.specs.Openings.{NoneNamed}
+use Rattle.build_store.specs.Publication.{HasNoObject, IsRestored, KeepsOthers, Restores, line_for}
+use Rattle.build_store.specs.View.{OpenViews, opened_at}
 use Rattle.run_model.specs.Courses.{clean_says, said}
 
--- What it does to the disk, whatever is answered.
-pub record Puts (tells : Type 0) (old new : Story) (p : Publication) : Type 0 where
-  pub images : tells → Passes old new (Publishes p)
-  pub others : tells → Passes old new (KeepsOthers p.folder p.object old.held)
-
--- Where it is answered that the output was published: the rows, and what a crash leaves.
-pub record HasPut (tells : Type 0) (new : Story) (rows later : List EquivRow) (s : Signed) (tree : Entries) : Type 0 where
-  pub rows_are : later ≡ rows_with rows s tree
-  pub published : tells → EachNow new (IsPublished (publication rows s tree))
+-- A publication of the task may be opened: none of it is open, no open one has the name of its record, and its line can be read again.
+pub record MayOpen (rows : List EquivRow) (opened : OpenViews) (s : Signed) (tree : Entries) : Type 0 where
+  pub closed : opened_at opened (task_folder s.task) ≡ None
+  pub apart : NoneNamed opened (name_of s.sig)
+  pub readable : IsReadable (line_for rows s tree)
 
 -- What restoring a task does to the disk, whatever is answered.
 pub record PutsObject (tells : Type 0) (old new : Story) (rows : List EquivRow) (s : Signed) : Type 0 where

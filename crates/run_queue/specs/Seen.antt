@@ -12,7 +12,7 @@ use Rattle.setscene_plan.specs.declared.replan.Replan.{Replan}
 use Rattle.setscene_plan.specs.Replans.{avail_in, names_in, need_in}
 use Rattle.setscene_plan.specs.View.{Says}
 use Rattle.build_store.specs.declared.kept.KeptSig.{KeptSig}
-use Rattle.build_store.specs.View.{View}
+use Rattle.build_store.specs.View.{OpenViews, View}
 use Rattle.run_queue.specs.declared.fault.RunFault.{RunFault}
 
 -- What is known of a plan's tasks: the name of each, whether it is needed, and of each needed one how its output is there.
@@ -48,6 +48,7 @@ pub record Seen : Type 0 where
   pub options : Options
   pub rows : List EquivRow
   pub kept : List KeptSig
+  pub opened : OpenViews
   pub sink_failed : Bool
   pub fault : Option RunFault
   pub tale : List Logged
@@ -62,6 +63,7 @@ seen story written s = record {
   options = s.options;
   rows = s.store.rows;
   kept = s.store.kept;
+  opened = s.store.opened;
   sink_failed = s.sink_failed;
   fault = s.fault;
   tale = s.tale;

@@ -14,10 +14,9 @@ use Rattle.store_model.specs.Lines.{HasLine}
 use Rattle.store_model.specs.Readable.{IsReadable}
 use Rattle.store_model.specs.Paths.{slashes}
 use Rattle.run_model.specs.Opening.{Opening}
-use Rattle.run_model.specs.Books.{book_after}
 use Rattle.run_model.specs.InFlight.{IsValidAfter, book_with}
 use Rattle.run_model.specs.Own.{IsAside, IsObjectOfNone}
-use Rattle.run_model.specs.Stands.{IsHonest, HasStarted, HasEnded, AllStand}
+use Rattle.run_model.specs.Stands.{IsHonest, HasStarted, AllStand}
 use Rattle.run_queue.specs.Seen.{IsBegunIn, Seen}
 
 -- a task's stamp, all that is at or under its work folder, and the objects of the lines that were recorded of it, are as when the run
@@ -58,10 +57,6 @@ pub record IsLeft (o : Opening) (plan : Plan) (begun : List (Option Avail)) (tal
 -- the objects of the lines of a book that are of the task are as when the run began
 abbrev pub HasObjects : Book → Store → Store → PlanTask → Type 0
 HasObjects book held image of = (line : Line) → HasLine book line → line.sig.pn ≡ of.id.pn → line.sig.task ≡ of.id.task → (q : List ℕ) → IsAtOrBelow (object_folder line.unihash) q → image q ≡ held q
-
--- So they are of each task that hasn't ended in a tale, be it that its restoring was begun.
-abbrev pub KeepObjects : Opening → Plan → List Logged → Store → Type 0
-KeepObjects o plan tale image = (t : ℕ) (task : PlanTask) → slice_get plan.tasks t ≡ Some task → (HasEnded plan tale t → ⊥) → HasObjects (book_after o.gives plan o.book tale) o.story.held image task
 
 -- Since the moment of each entry each task that was settled up to it stands, whatever a crash leaves.
 abbrev pub StandSince : Opening → Seen → Type 0

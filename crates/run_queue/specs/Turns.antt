@@ -1,14 +1,16 @@
 -- What one turn does to a run's tale.
-use Rattle.std.specs.Prelude.{◌≡◌, ◌⊎◌, ◌+◌, ◌*◌, ◌-◌, ◌^◌, min, ℕ, false, List, [], ◌∷◌, ◌++◌, length, set, Option, Some, None, IfSome, IsSome, Result, Ok, Err, map}
+use Rattle.std.specs.Prelude.{◌≡◌, ◌≢◌, ◌⊎◌, ◌+◌, ◌*◌, ◌-◌, ◌^◌, min, ℕ, false, List, [], ◌∷◌, ◌++◌, length, set, Option, Some, None, IfSome, IsSome, Result, Ok, Err, map}
 use Rattle.std.specs.List.{slice_get}
 use Rattle.tree_model.specs.declared.text.Mem.{Mem}
 use Rattle.outside_traits.specs.Story.{Story, moment}
 use Rattle.meta_model.specs.declared.event.Avail.{Avail}
 use Rattle.meta_model.specs.declared.event.Avail.TheVariants.{Missing, Object}
+use Rattle.meta_model.specs.declared.event.Cut.{Cut}
 use Rattle.meta_model.specs.declared.event.Cut.TheVariants as cut
 use Rattle.meta_model.specs.declared.event.Event.{Event}
 use Rattle.meta_model.specs.declared.event.Event.TheVariants as events
 use Rattle.meta_model.specs.declared.event.Logged.{Logged}
+use Rattle.meta_model.specs.declared.event.Why.{Why}
 use Rattle.meta_model.specs.declared.event.Why.TheVariants as why
 use Rattle.meta_model.specs.declared.plan.PlanTask.{PlanTask}
 use Rattle.meta_model.specs.CleanBuild.{Gives, is_beyond_layout}
@@ -25,17 +27,20 @@ use Rattle.run_model.specs.Outcome.{IsAtEnd}
 use Rattle.run_core.specs.declared.next.Next.{Next}
 use Rattle.run_core.specs.Choice.{CannotGoOn, MayAnswer}
 use Rattle.run_core.specs.Fates.{SomeRuns}
-use Rattle.build_store.specs.View.{SameBooks}
+use Rattle.store_model.specs.Available.{task_folder}
+use Rattle.build_store.specs.View.{SameBooks, opened_at}
 use Rattle.task_worker.specs.declared.given.Given.{Given}
 use Rattle.task_worker.specs.declared.given.Given.TheVariants as given
 use Rattle.task_worker.specs.declared.given.Job.{Job}
 use Rattle.task_worker.specs.Jobs.{job_output, outcome_of}
 use Rattle.task_worker.specs.OneTask.{placing_of}
+use Rattle.run_queue.specs.declared.closing.Ending.{Ending}
+use Rattle.run_queue.specs.declared.closing.Ending.TheVariants as ending
 use Rattle.run_queue.specs.declared.restoring.Restoring.{Restoring}
 use Rattle.run_queue.specs.declared.restoring.Restoring.TheVariants as restoring
 use Rattle.run_queue.specs.declared.state.Claim.{Claim}
 use Rattle.run_queue.specs.declared.state.Claim.TheVariants as claim
-use Rattle.run_queue.specs.Seen.{Known, RunView, Seen}
+use Rattle.run_queue.specs.Seen.{IsBegunIn, Known, RunView, Seen}
 
 -- one event more, marked by a seat
 pub record Marks (seat : ℕ) (event : Event) (old new : List Logged) : Type 0 where
@@ -137,15 +142,61 @@ closed_as t (given.Tree tree manifest) = events.Ended t
 closed_as t (given.Fails status) = events.Failed t (why.Status status)
 closed_as t given.TooLarge = events.Failed t why.TooLarge
 
--- What becomes of a job that was done: it is closed as it was given, or it broke: with Memory exactly where the answer is want of memory,
--- with Fault only where a fault is kept, and always where one was kept before. A fault that is met once the output was published, as the store
--- is asked anew or the line is written, is kept, and the job is closed all the same. Want of memory in a publication is kept as a fault too:
--- what that left on the disk has no row, and nothing is published behind it.
-abbrev pub Ends : {D W : Type 0} → ℕ → ℕ → Given → RunView D W → RunView D W → Result (Unit {0}) Mem → Type 0
-Ends seat t g old new (Err e) = Marks seat (events.Broke t cut.Memory) old.tale new.tale × IsSome new.fault
-Ends seat t g old new (Ok u) =
-    (Marks seat (closed_as t g) old.tale new.tale × (old.fault ≡ None))
+-- the event that closes a job, of which this is handed over, or of which the store has the tree
+abbrev pub closed_by : ℕ → Option Given → Event
+closed_by t (Some g) = closed_as t g
+closed_by t None = events.Ended t
+
+-- more is left: nothing is marked, and no fault is kept
+pub record GoesOn {D W : Type 0} (old new : RunView D W) : Type 0 where
+  pub tale : new.tale ≡ old.tale
+  pub sound : old.fault ≡ None
+  pub fault : new.fault ≡ None
+
+-- What becomes of a job that is done in a turn, by its answer: more is left; or it is closed as it was given, or it broke: with Memory exactly where
+-- the answer is want of memory, with Fault only where a fault is kept, and always where one was kept before. A fault that is met once the output was
+-- published, as the store is asked anew or the line is written, is kept, and the job is closed all the same. Want of memory in a publication is kept
+-- as a fault too: what that left on the disk has no row, and nothing is published behind it.
+abbrev pub EndsTurn : {D W : Type 0} → ℕ → ℕ → Option Given → RunView D W → RunView D W → Result Ending Mem → Type 0
+EndsTurn seat t g old new (Err e) = Marks seat (events.Broke t cut.Memory) old.tale new.tale × IsSome new.fault
+EndsTurn seat t g old new (Ok ending.More) = GoesOn old new
+EndsTurn seat t g old new (Ok ending.Wait) = GoesOn old new
+EndsTurn seat t g old new (Ok ending.Closed) =
+    (Marks seat (closed_by t g) old.tale new.tale × (old.fault ≡ None))
     ⊎ (Marks seat (events.Broke t cut.Fault) old.tale new.tale × IsSome new.fault)
+
+-- One try of a turn with nothing handed over: no publication of the task was open, and nothing changed; or what a turn does.
+abbrev pub EndsTry : {D W : Type 0} → ℕ → ℕ → RunView D W → RunView D W → Result (Option Ending) Mem → Type 0
+EndsTry seat t old new (Ok None) = new ≡ old
+EndsTry seat t old new (Ok (Some e)) = EndsTurn seat t None old new (Ok e)
+EndsTry seat t old new (Err e) = EndsTurn seat t None old new (Err e)
+
+-- that the task failed by this cause closes the job
+pub record IsFailure (t : ℕ) (cause : Why) (g : Given) : Type 0 where
+  pub outcome : outcome_of g ≡ Err cause
+  pub closed : closed_as t g ≡ events.Failed t cause
+
+-- A running task failed, by this cause; or it broke off for want of memory, which is kept as a fault.
+abbrev pub FailsTurn : {D W : Type 0} → ℕ → ℕ → Why → RunView D W → RunView D W → Result Ending Mem → Type 0
+FailsTurn seat t cause old new (Err e) = Marks seat (events.Broke t cut.Memory) old.tale new.tale × IsSome new.fault
+FailsTurn seat t cause old new (Ok ending.More) = ⊥
+FailsTurn seat t cause old new (Ok ending.Wait) = ⊥
+FailsTurn seat t cause old new (Ok ending.Closed) = Marks seat (events.Failed t cause) old.tale new.tale
+
+-- what is handed over stays, or it was a tree, and the store has it
+abbrev pub HandsOn : ℕ → Option Given → Option Given → Type 0
+HandsOn t old new = (new ≡ old) ⊎ ((new ≡ None) × (closed_by t old ≡ events.Ended t))
+
+-- Something may have been put for the task: a publication of it is open, or, where a fault is kept, its publishing or restoring was begun.
+abbrev pub MayHavePut : {D W : Type 0} → RunView D W → ℕ → Type 0
+MayHavePut s t = ((own : PlanTask) → slice_get s.plan.tasks t ≡ Some own → IsSome (opened_at s.store.opened (task_folder own))) ⊎ (IsSome s.fault × IsBegunIn s.begun t)
+
+-- The task broke off so; or, where something may have been put for it, and a fault is kept, by another cut than its bench's.
+pub record BreaksOff {D W : Type 0} (seat t : ℕ) (asked : Cut) (old new : RunView D W) : Type 0 where
+  pub broke : Cut
+  pub marks : Marks seat (events.Broke t broke) old.tale new.tale
+  pub as_asked : (broke ≡ asked) ⊎ ((broke ≢ cut.Bench) × IsSome new.fault)
+  pub only_then : (broke ≡ asked) ⊎ MayHavePut old t
 
 -- the job's task runs under this seat
 abbrev pub RunsUnder : {D W : Type 0} → RunView D W → ℕ → ℕ → Type 0
@@ -224,3 +275,21 @@ pub record Looks {D W : Type 0} (old new : RunView D W) : Type 0 where
   pub sink_failed : new.sink_failed ≡ old.sink_failed
   pub tale : new.tale ≡ old.tale
   pub begun : new.begun ≡ old.begun
+
+-- nothing but the fault may have changed
+pub record SameButFault {D W : Type 0} (old new : RunView D W) : Type 0 where
+  pub plan : new.plan ≡ old.plan
+  pub options : new.options ≡ old.options
+  pub store : new.store ≡ old.store
+  pub sink : new.sink ≡ old.sink
+  pub sink_failed : new.sink_failed ≡ old.sink_failed
+  pub tale : new.tale ≡ old.tale
+  pub begun : new.begun ≡ old.begun
+  pub known : new.known ≡ old.known
+
+-- By which cut a running task breaks off that is to break off by this one: it is that, and no publication of the task is open, or where a fault is kept
+-- it isn't begun; or something may have been put for it, a fault is kept, and it is another cut than its bench's.
+abbrev pub BreaksBy : {D W : Type 0} → ℕ → Cut → Cut → RunView D W → RunView D W → Type 0
+BreaksBy t asked broke old new =
+    ((broke ≡ asked) × (((old.fault ≡ None) × ((own : PlanTask) → slice_get old.plan.tasks t ≡ Some own → opened_at old.store.opened (task_folder own) ≡ None)) ⊎ (slice_get old.begun t ≡ Some None)))
+    ⊎ ((broke ≢ cut.Bench) × IsSome new.fault × MayHavePut old t)

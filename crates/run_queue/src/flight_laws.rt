@@ -1,6 +1,6 @@
 // What is proved of a run in which publications are open, each law the contract of a function that does nothing.
-ghost use Rattle.run_queue.specs.FlightLaws.{BeginsUnderWay, ChoiceIsValid, EndsWithNothing, FlightStays, LandingGoesOn, LandingGrows, LandingIsSwept, LandingKeepsFlights, LandingStands, LandingStandsTo, LeftIsPromised};
-ghost use Rattle.run_queue.specs.FlightLaws.{MarksKeepFlights, MissingStays, OneMoreOrLess, OpeningKeepsFlights, OpeningKeepsOthers, OtherBytes, RestoringKeepsValid, RestoringLeaves, RunHasNothingOpen, StartedStaysMissing, ToldAtEnd, ToldGoesOn, TurnKeepsStanding, TurnKeepsValid, TurnLeaves, WithIsRead};
+ghost use Rattle.run_queue.specs.FlightLaws.{BeginsUnderWay, ChoiceIsValid, EndsWithNothing, FlightStays, LandingGoesOn, LandingGrows, LandingKeepsFlights, LandingStands, LandingStandsTo, LeftIsPromised};
+ghost use Rattle.run_queue.specs.FlightLaws.{MarksKeepFlights, MissingStays, OneMoreOrLess, OpeningKeepsFlights, OpeningKeepsOthers, OtherBytes, RestoringKeepsValid, RestoringLeaves, StartedStaysMissing, ToldAtEnd, ToldGoesOn, TurnKeepsStanding, TurnKeepsValid, TurnLeaves, WithIsRead};
 ghost use Rattle.run_queue.specs.Joined.{LineStaysValid, LinesJoin};
 
 /// A line that is valid behind a book stays so behind lines of other tasks, and such lines join in any choice. So do those in flight: what
@@ -14,11 +14,9 @@ pub fn choice_laws()
     ensures same { FlightStays }
 {}
 
-/// A run begins with nothing open, and ends so; one in which each publication is one turn has nothing open between them. A publication is opened
-/// beside others, and an event is marked that records nothing.
+/// A run begins with nothing open, and ends so. A publication is opened beside others, and an event is marked that records nothing.
 pub fn opening_laws()
     ensures begins { BeginsUnderWay }
-    ensures plain { RunHasNothingOpen }
     ensures ends { EndsWithNothing }
     ensures opening { OpeningKeepsFlights }
     ensures beside { OpeningKeepsOthers }
@@ -38,7 +36,6 @@ pub fn landing_laws()
     ensures grows { LandingGrows }
     ensures others { LandingKeepsFlights }
     ensures stands { LandingStands }
-    ensures swept { LandingIsSwept }
     ensures since { LandingStandsTo }
     ensures on { LandingGoesOn }
 {}

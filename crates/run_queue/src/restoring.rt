@@ -3,10 +3,9 @@ ghost use Rattle.std.specs.Prelude.{◌≡◌, ◌<◌, ◌≤◌, IfErr, IfOk, 
 ghost use Rattle.std.specs.List.{slice_get};
 ghost use Rattle.meta_model.specs.declared.event.Avail.TheVariants as avails;
 ghost use Rattle.plan_model.specs.Sound.{IsSound};
-ghost use Rattle.store_model.specs.Opened.{HasNoLitter};
 ghost use Rattle.store_model.specs.Signatures.{Signed};
 ghost use Rattle.setscene_plan.specs.Replans.{IsCurrent};
-ghost use Rattle.build_store.specs.View.{SameBooks};
+ghost use Rattle.build_store.specs.View.{SameRows};
 ghost use Rattle.tale_model.specs.Fates.{IsFree};
 ghost use Rattle.run_core.specs.declared.next.Next.TheVariants as next;
 ghost use Rattle.run_model.specs.Opening.{Opening};
@@ -37,7 +36,8 @@ pub(crate) enum Restoring {
     Fault,
 }
 
-/// Restores a task of the plan, which has its signature by what is known.
+/// Restores a task of the plan, which has its signature by what is known. Where a publication of it is open it is want of memory; over an opening that can't
+/// come.
 fn restore_in<D: Disk>(
     alloc: Global,
     store: &mut Store<D>,
@@ -52,19 +52,22 @@ fn restore_in<D: Disk>(
     requires unharmed { D.faults store.old.disk ≡ 0 }
     ensures restored { IfOk result (λ found. (s : Signed) → IsSignedAt store.old.rows plan.now.tasks task s
         → HasPutObject D.tells (D.story store.old.disk) (D.story store.new.disk) store.old.rows s found) }
-    ensures swept { D.tells → OnOk result (HasNoLitter (D.story store.old.disk).held
-        → HasNoLitter (D.story store.new.disk).held) }
+    ensures faultless { OnOk result (store.new.faultless ≡ store.old.faultless) }
     ensures cause { IfErr result (IsStoreCause (D.faults store.new.disk) plan.now store.new.rows) }
     ensures steady { IfErr result IsSteadyAnswer }
     ensures unharmed { OnOk result (D.faults store.new.disk ≡ 0) }
 
     // Whatever it answers.
-    ensures books { SameBooks store.old store.new }
+    ensures books { SameRows store.old store.new }
     ensures puts { (s : Signed) → IsSignedAt store.old.rows plan.now.tasks task s
         → PutsObject D.tells (D.story store.old.disk) (D.story store.new.disk) store.old.rows s }
 {
     let sig = signature(alloc, plan, replan, task)?;
-    store.restore(alloc, &plan.tasks.as_slice()[task as usize], &sig)
+    let task = &plan.tasks.as_slice()[task as usize];
+    if store.is_open(task) {
+        return Err(StoreFault::Memory);
+    }
+    store.restore(alloc, task, &sig)
 }
 
 impl<D: Disk, W: Sink> RunState<D, W> {

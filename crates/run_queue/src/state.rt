@@ -8,16 +8,18 @@ ghost use Rattle.plan_model.specs.Sound.{IsSound};
 ghost use Rattle.run_model.specs.Opening.{Opening};
 ghost use Rattle.run_queue.specs.Opening.{MayRun};
 ghost use Rattle.run_queue.specs.Seen.{seen};
+ghost use Rattle.store_model.specs.Opened.{HasNoLitter};
 ghost use Rattle.store_model.specs.Readable.{HoldsRecords};
+ghost use Rattle.build_store.specs.View.{NothingOpen};
 ghost use Rattle.run_model.specs.Causes.{is_fault_break};
 ghost use Rattle.run_queue.specs.Keeps.{Begun, IsFront, IsOpening, IsRun, IsState, IsSteady, KeepsCount, KeepsFront, Prints, PrintsOn};
 ghost use Rattle.run_model.specs.Report.{event_line};
-ghost use Rattle.run_queue.specs.Turns.{Marks, MarksAt, Notes, RunsUnder, SameButSink, SameRun, fates_of};
+ghost use Rattle.run_queue.specs.Turns.{BreaksBy, BreaksOff, Marks, MarksAt, Notes, RunsUnder, SameButFault, SameButSink, SameRun, fates_of};
 ghost use Rattle.meta_model.specs.declared.event.Event.TheVariants as events;
 
-use crate::fault::RunFault;
+use crate::fault::{RunFault, keep};
 use bb_report::write_event;
-use build_store::Store;
+use build_store::{Store, StoreFault};
 use meta_model::{Avail, Cut, Event, Logged, Options, Plan};
 use outside_traits::{Disk, Sink};
 use run_core::Board;
@@ -161,6 +163,8 @@ impl<D: Disk, W: Sink> RunState<D, W> {
         requires sound { IsSound plan }
         requires unharmed { D.faults store.disk ≡ 0 }
         requires kept { store.kept ≡ [] }
+        requires nothing { NothingOpen store.opened }
+        requires faultless { store.faultless ≡ true }
         ensures begun { IfOk result (λ s. Begun plan options store sink s) }
         ensures run { D.tells → IfOk result (λ s. (o : Opening) → IsOpening o (D.story store.disk) store.rows
             → MayRun o plan → IsRun o (seen D.story W.written s)) }
@@ -192,11 +196,33 @@ impl<D: Disk, W: Sink> RunState<D, W> {
         }
     }
 
+    /// By which cut a running task breaks off, where it is to break off by this one. Where a publication of it is open want of memory is kept as a fault first, and
+    /// what a run that met a fault has begun breaks off by that. In a run of workers neither comes: a job that couldn't be done gave nothing to publish.
+    fn cut_of(&mut self, task: u32, cut: Cut) -> Cut
+        requires task { task < length self.old.plan.tasks }
+        ensures same { SameButFault self.old self.new }
+        ensures fault { IsSome self.old.fault → self.new.fault ≡ self.old.fault }
+        ensures steady { IsSteady self.old.fault → IsSteady self.new.fault }
+        ensures cut { BreaksBy task cut result self.old self.new }
+    {
+        if self.fault.is_some() {
+            return match self.begun[task as usize] {
+                Some(_) => Cut::Fault,
+                None => cut,
+            };
+        }
+        if self.has_open(task) {
+            keep(&mut self.fault, StoreFault::Memory);
+            return Cut::Memory;
+        }
+        cut
+    }
+
     /// The job of the seat of a number couldn't be done. One turn: it marks that the task broke, by a fault only where one is kept.
     pub fn broke(&mut self, alloc: Global, number: u32, job: Job, cut: Cut)
         requires runs { RunsUnder self.old job.task number }
         requires fault { cut ≡ Cut.Fault → IsSome self.old.fault }
-        ensures marks { Marks number (events.Broke job.task cut) self.old.tale self.new.tale }
+        ensures marks { BreaksOff number job.task cut self.old self.new }
         ensures same { SameRun self.old self.new }
         ensures store { self.new.store ≡ self.old.store }
         ensures fault { IsSome self.old.fault → self.new.fault ≡ self.old.fault }
@@ -211,6 +237,7 @@ impl<D: Disk, W: Sink> RunState<D, W> {
     {
         let task = job.task;
         let _alloc = alloc;
+        let cut = self.cut_of(task, cut);
         self.note(number, Event::Broke { task, cut });
     }
 
@@ -308,11 +335,14 @@ impl<D: Disk, W: Sink> RunState<D, W> {
         let _plan = &self.plan;
     }
 
-    /// What is left of a run. The disk holds the records of all rows, whatever a crash leaves. No memory.
+    /// What is left of a run. The disk holds the records of all rows, whatever a crash leaves; and nothing under `tmp/`, where nothing is open and no fault is
+    /// kept. No memory.
     pub fn into_parts(self) -> RunParts<D, W>
         ensures plan { result.plan ≡ self.plan }
         ensures disk { result.disk ≡ self.store.disk }
         ensures records { D.tells → HoldsRecords (D.story result.disk) self.store.rows }
+        ensures swept { D.tells → self.fault ≡ None → NothingOpen self.store.opened
+            → HasNoLitter (D.story result.disk).held }
         ensures sink { result.sink ≡ self.sink }
         ensures tale { result.tale.items ≡ self.tale }
         ensures fault { result.fault ≡ self.fault }

@@ -2,6 +2,7 @@
 use Rattle.std.proofs.Common.{◌≡◌, ◌∙◌, sym, ap, subst, refl, arith, ℕ, zero, suc, Bool, true, false, List, [], ◌∷◌, ◌++◌, length, append_assoc, append-nil, Some, None, Ok, Err, inl, inr}
 use Rattle.std.specs.Prelude.{IsSome, MatchBool, Option, Result, ◌||◌}
 use Rattle.std.proofs.lemmas.Bool.{false≢true}
+use Rattle.std.proofs.lemmas.List.Sums.{fold_push}
 use Rattle.outside_traits.specs.Fault.{Rose}
 use Rattle.outside_traits.specs.Story.{Story}
 use Rattle.tree_model.specs.declared.text.Mem.{Mem}
@@ -13,24 +14,31 @@ use Rattle.tale_model.specs.Fates.{HoldsFailure, fates_told}
 use Rattle.run_model.specs.Outcome.{IsAtEnd}
 use Rattle.run_queue.specs.Keeps.{IsState}
 use Rattle.run_queue.specs.Seen.{RunView, Seen}
+use Rattle.meta_model.specs.declared.event.Cut.{Cut}
 use Rattle.meta_model.specs.declared.event.Cut.TheVariants as cut
 use Rattle.meta_model.specs.declared.event.Event.TheVariants as events
 use Rattle.run_model.specs.Report.{is_started}
-use Rattle.run_model.specs.Seats.{is_break}
+use Rattle.run_model.specs.Seats.{is_bench_break, is_break}
 use Rattle.task_worker.specs.declared.given.Given.{Given}
 use Rattle.task_worker.specs.declared.given.Given.TheVariants as given
 use Rattle.turn_lock.specs.declared.rule.View.{View}
-use Rattle.run_queue.specs.Turns.{Claims, closed_as}
-use Rattle.run_workers.specs.Worked.{Closes}
+use Rattle.run_queue.specs.Turns.{Claims, closed_by}
+use Rattle.run_model.specs.Runs.{broken_by, broken_off}
+use Rattle.run_workers.specs.Runs.{by_bench}
+use Rattle.run_workers.specs.Worked.{BrokeOff, Closes}
+use Rattle.run_queue.specs.declared.closing.Ending.{Ending}
+use Rattle.run_queue.specs.declared.closing.Ending.TheVariants as ending
 use Rattle.run_queue.specs.declared.fault.RunFault.{RunFault}
 use Rattle.run_queue.specs.declared.state.Claim.{Claim}
 use Rattle.run_queue.specs.declared.state.Claim.TheVariants as claim
 use Rattle.turn_lock.specs.Views.{Begins}
 use Rattle.run_workers.specs.Ended.{AllEnded, ClaimSays, Ended, HaltsBy, HaltsIn, IsStopped, SaysWhy, WasFaulty, by_memory}
-use Rattle.run_workers.specs.Seats.{EndAdds, HeardOn, Turned, ended_as}
+use Rattle.run_workers.specs.Seats.{BreakAdds, EndAdds, Entry, HeardOn, IsSameSeat, Turned, closing_as}
 use Rattle.run_workers.specs.Since.{Kept, SharedView}
 use Rattle.run_workers.specs.Told.{logged_in, told}
 use Rattle.run_workers.specs.declared.shared.Claimed.{Claimed}
+use Rattle.run_workers.specs.declared.shared.Closing.{Closing}
+use Rattle.run_workers.specs.declared.shared.Closing.TheVariants as closing
 use Rattle.run_workers.specs.declared.shared.Told.{Told}
 use Rattle.run_workers.specs.declared.worker.Halt.{Halt}
 use Rattle.run_workers.specs.declared.worker.Halt.TheVariants as halts
@@ -73,11 +81,13 @@ unheard_faulty was now events printed later whole still h faulty rests unheard =
   | inr here ↦ here
 ]
 
--- a job that came to an end where a fault is kept
-pub ended_stops : (r : Result (Unit {0}) Mem) (faulty : Bool) (kept : Option RunFault) → MatchBool faulty (IsSome kept) (kept ≡ None) → ended_as r faulty ≡ Ok false → IsSome kept
-ended_stops (Ok u) true kept m is = m
-ended_stops (Ok u) false kept m is = absurd (let n : ◌≡◌ {A = Result Bool Mem} (Ok true) (Ok false) = is in cc)
-ended_stops (Err e) faulty kept m is = absurd (let n : ◌≡◌ {A = Result Bool Mem} (Err e) (Ok false) = is in cc)
+-- a job that was closed where a fault is kept
+pub ended_stops : (r : Result Ending Mem) (faulty : Bool) (kept : Option RunFault) → MatchBool faulty (IsSome kept) (kept ≡ None) → closing_as r faulty ≡ Ok closing.Stopped → IsSome kept
+ended_stops (Ok ending.More) faulty kept m is = absurd (let n : ◌≡◌ {A = Result Closing Mem} (Ok closing.More) (Ok closing.Stopped) = is in cc)
+ended_stops (Ok ending.Wait) faulty kept m is = absurd (let n : ◌≡◌ {A = Result Closing Mem} (Ok closing.Wait) (Ok closing.Stopped) = is in cc)
+ended_stops (Ok ending.Closed) true kept m is = m
+ended_stops (Ok ending.Closed) false kept m is = absurd (let n : ◌≡◌ {A = Result Closing Mem} (Ok closing.Closed) (Ok closing.Stopped) = is in cc)
+ended_stops (Err e) faulty kept m is = absurd (let n : ◌≡◌ {A = Result Closing Mem} (Err e) (Ok closing.Stopped) = is in cc)
 
 -- a shared state that keeps a fault
 module _ {D W : Type 0} (dt wt alike : Type 0) (story : D → Story) (written : W → List ℕ) (disk_faults : D → ℕ) (faults : W → ℕ) (first : Seen) (count : ℕ) (gives : Gives) where
@@ -153,31 +163,73 @@ want_second false b e = e
 pub turned_seen : {N : Type 0} (v w : View N Told) (added : List Told) → Turned v w added → Begins w.seen v.seen
 turned_seen v w added t = (t.begins.0 ++ added, t.seen ∙ ap (λ l. l ++ added) t.begins.1 ∙ append_assoc v.seen t.begins.0 added)
 
-closed_quiet : (t : ℕ) (g : Given) → is_started (closed_as t g) ≡ false
-closed_quiet t (given.Tree tree manifest) = refl
-closed_quiet t (given.Fails status) = refl
-closed_quiet t given.TooLarge = refl
+-- where it added nothing its own record is as it was
+pub turned_none : {N : Type 0} (v w : View N Told) (added : List Told) → added ≡ [] → Turned v w added → w.own ≡ v.own
+turned_none v w added none t = t.mine ∙ ap (λ l. v.own ++ l) none ∙ append-nil v.own
 
-closed_calm : (t : ℕ) (g : Given) → is_break (closed_as t g) ≡ false
-closed_calm t (given.Tree tree manifest) = refl
-closed_calm t (given.Fails status) = refl
-closed_calm t given.TooLarge = refl
+-- and it is the same seat
+pub turned_same : {N : Type 0} (u v w : View N Told) (added : List Told) → IsSameSeat u v → Turned v w added → IsSameSeat u w
+turned_same u v w added s t = record { name = t.name ∙ s.name; number = t.number ∙ s.number; spare = t.spare ∙ s.spare; others = t.others ∙ s.others }
 
--- a job that was closed where a fault is kept
-pub closes_stopped : (n t : ℕ) (g : Given) (old new added : List Told) → EndAdds n t g (Ok false) added → new ≡ old ++ added → Closes n (Some halts.Stopped) old new
-closes_stopped n t g old new added (printed, inl e) is = record {
-  event = closed_as t g;
+closed_quiet : (t : ℕ) (g : Option Given) → is_started (closed_by t g) ≡ false
+closed_quiet t None = refl
+closed_quiet t (Some (given.Tree tree manifest)) = refl
+closed_quiet t (Some (given.Fails status)) = refl
+closed_quiet t (Some given.TooLarge) = refl
+
+closed_calm : (t : ℕ) (g : Option Given) → is_break (closed_by t g) ≡ false
+closed_calm t None = refl
+closed_calm t (Some (given.Tree tree manifest)) = refl
+closed_calm t (Some (given.Fails status)) = refl
+closed_calm t (Some given.TooLarge) = refl
+
+-- a job that was closed, whatever comes then
+pub closes_as : (n t : ℕ) (g : Option Given) (printed : Bool) (halt : Option Halt) (old new added : List Told) → Entry n printed (closed_by t g) added → new ≡ old ++ added → Closes n halt old new
+closes_as n t g printed halt old new added e is = record {
+  event = closed_by t g;
   moment = e.moment;
   printed = printed;
   is = is ∙ ap (λ l. old ++ l) e.is;
   quiet = closed_quiet t g;
   breaks = λ b. absurd (false≢true (sym (closed_calm t g) ∙ b));
 }
-closes_stopped n t g old new added (printed, inr e) is = record {
-  event = events.Broke t cut.Fault;
+
+-- one that broke, in a worker that halts; by its bench only where that is why it halts
+closes_broken : (n t : ℕ) (c : Cut) (printed : Bool) (halt : Halt) (old new added : List Told) → (is_bench_break (events.Broke t c) ≡ true → by_bench (Some halt) ≡ true) → Entry n printed (events.Broke t c) added → new ≡ old ++ added → Closes n (Some halt) old new
+closes_broken n t c printed halt old new added bench e is = record {
+  event = events.Broke t c;
   moment = e.moment;
   printed = printed;
   is = is ∙ ap (λ l. old ++ l) e.is;
   quiet = refl;
-  breaks = λ b. (refl, λ bench. absurd (false≢true bench));
+  breaks = λ b. (refl, bench);
 }
+
+bench_cut : (t : ℕ) (c : Cut) → is_bench_break (events.Broke t c) ≡ true → c ≡ cut.Bench
+bench_cut t cut.Memory is = absurd (false≢true is)
+bench_cut t cut.Bench is = refl
+bench_cut t cut.Fault is = absurd (false≢true is)
+
+-- one that was broken off
+pub closes_broke : (n t : ℕ) (asked : Cut) (halt : Halt) (old new added : List Told) → (asked ≡ cut.Bench → by_bench (Some halt) ≡ true) → BreakAdds n t asked added → new ≡ old ++ added → Closes n (Some halt) old new
+closes_broke n t asked halt old new added goes a is = closes_broken n t a.broke a.printed halt old new added (λ bench. elim a.as_asked [
+  | inl same ↦ goes (sym same ∙ bench_cut t a.broke bench)
+  | inr other ↦ absurd (other (bench_cut t a.broke bench))
+]) a.entry is
+
+-- its seat's record says so then
+pub broke_off : (n t : ℕ) (asked : Cut) (halt : Halt) (old new added : List Told) → BreakAdds n t asked added → new ≡ old ++ added → BrokeOff t (Some halt) (logged_in new)
+broke_off n t asked halt old new added a is =
+    let e : Logged = record { event = events.Broke t a.broke; seat = n; moment = a.entry.moment } in
+    (refl, ap (λ (l : List Told). broken_off (logged_in l)) (is ∙ ap (λ l. old ++ l) a.entry.is) ∙ ap broken_off (logged_split old (record { logged = e; printed = a.printed } ∷ [])) ∙ fold_push (λ before entry. broken_by entry.event) None (logged_in old) e)
+
+-- by what a turn of it added
+pub closes_closed : (n t : ℕ) (g : Option Given) (old new added : List Told) → EndAdds n t g (Ok closing.Closed) added → new ≡ old ++ added → Closes n None old new
+closes_closed n t g old new added (printed, e) is = closes_as n t g printed None old new added e is
+
+pub closes_stopped : (n t : ℕ) (g : Option Given) (old new added : List Told) → EndAdds n t g (Ok closing.Stopped) added → new ≡ old ++ added → Closes n (Some halts.Stopped) old new
+closes_stopped n t g old new added (printed, inl e) is = closes_as n t g printed (Some halts.Stopped) old new added e is
+closes_stopped n t g old new added (printed, inr e) is = closes_broken n t cut.Fault printed halts.Stopped old new added (λ b. absurd (false≢true b)) e is
+
+pub closes_wanting : (n t : ℕ) (g : Option Given) (e : Mem) (old new added : List Told) → EndAdds n t g (Err e) added → new ≡ old ++ added → Closes n (Some halts.Memory) old new
+closes_wanting n t g e old new added (printed, m) is = closes_broken n t cut.Memory printed halts.Memory old new added (λ b. absurd (false≢true b)) m is

@@ -1,6 +1,6 @@
--- What a claim marks and hands out, and a job that is the clean build's is so for each state of the run.
+-- What a claim marks and hands out, what a turn of a job that is done does, and a job that is the clean build's is so for each state of the run.
 use Rattle.std.proofs.Common.{◌≡◌, ◌∙◌, sym, subst, ap, refl, ℕ, Bool, true, false, List, [], ◌∷◌, ◌++◌, map, append-nil, arith, All, inl, inr}
-use Rattle.std.specs.Prelude.{Result, Ok, Err, Some, None, IsSome, is_some, MatchBool}
+use Rattle.std.specs.Prelude.{◌⊎◌, Result, Ok, Err, Option, Some, None, IfSome, IsSome, is_some, MatchBool}
 use Rattle.std.proofs.lemmas.Bool.{false≢true}
 use Rattle.std.specs.List.{slice_get}
 use Rattle.std.proofs.lemmas.List.Elements.{All-cons}
@@ -15,13 +15,15 @@ use Rattle.task_worker.specs.declared.given.Given.{Given}
 use Rattle.task_worker.specs.declared.given.Job.{Job}
 use Rattle.run_model.specs.Layouts.{layout_over}
 use Rattle.run_model.specs.CleanOutputs.{AreClean}
+use Rattle.run_queue.specs.declared.closing.Ending.{Ending}
+use Rattle.run_queue.specs.declared.closing.Ending.TheVariants as ending
 use Rattle.run_queue.specs.declared.state.Claim.{Claim}
 use Rattle.run_queue.specs.declared.state.Claim.TheVariants as claim
 use Rattle.run_model.specs.Opening.{Opening}
 use Rattle.run_queue.specs.Seen.{RunView, Seen}
-use Rattle.run_queue.specs.Turns.{Claims, ClaimsClean, Ends, IsCleanJob, Marks, closed_as}
+use Rattle.run_queue.specs.Turns.{Claims, ClaimsClean, EndsTurn, HandsOn, IsCleanJob, Marks, closed_by}
 use Rattle.run_workers.specs.declared.shared.Told.{Told}
-use Rattle.run_workers.specs.Seats.{AddsBy, EndAdds, ended_as, IsCleanClaim}
+use Rattle.run_workers.specs.Seats.{AddsBy, EndAdds, IsCleanClaim, closing_as}
 use Rattle.run_workers.specs.Told.{tell}
 
 pub clean_job : (o : Opening) (a b : Seen) (job : Job) → b.plan ≡ a.plan → IsCleanJob o a job → IsCleanJob o b job
@@ -85,20 +87,37 @@ module _ {D W : Type 0} (n : ℕ) (old new : RunView D W) where
   adds_by still claim.Finished h = refl
   adds_by still claim.Stopped h = refl
 
--- ---- a job that came to an end
+-- ---- a job that is done
 
-module _ {D W : Type 0} (n t : ℕ) (g : Given) (old new : RunView D W) where
-  abbrev pub marked_ended : (r : Result (Unit {0}) Mem) → Ends n t g old new r → Marked n old.tale new.tale
-  marked_ended (Ok u) (inl m) = marked_one n (closed_as t g) old.tale new.tale m.0
-  marked_ended (Ok u) (inr m) = marked_one n (events.Broke t cut.Fault) old.tale new.tale m.0
+module _ {D W : Type 0} (n t : ℕ) (g : Option Given) (old new : RunView D W) where
+  abbrev pub marked_ended : (r : Result Ending Mem) → EndsTurn n t g old new r → Marked n old.tale new.tale
+  marked_ended (Ok ending.More) h = marked_nothing n old.tale new.tale h.tale
+  marked_ended (Ok ending.Wait) h = marked_nothing n old.tale new.tale h.tale
+  marked_ended (Ok ending.Closed) (inl m) = marked_one n (closed_by t g) old.tale new.tale m.0
+  marked_ended (Ok ending.Closed) (inr m) = marked_one n (events.Broke t cut.Fault) old.tale new.tale m.0
   marked_ended (Err e) m = marked_one n (events.Broke t cut.Memory) old.tale new.tale m.0
 
   no_fault : IsSome new.fault → new.fault ≡ None → ⊥
   no_fault some none = false≢true (sym (ap is_some none) ∙ some)
 
-  pub ended_adds : (still faulty : Bool) (r : Result (Unit {0}) Mem) → MatchBool faulty (IsSome new.fault) (new.fault ≡ None) → (h : Ends n t g old new r) → EndAdds n t g (ended_as r faulty) (map (tell still) (marked_ended r h).added)
-  ended_adds still true (Ok u) f (inl m) = (still, inl (record { moment = m.0.moment; is = refl }))
-  ended_adds still true (Ok u) f (inr m) = (still, inr (record { moment = m.0.moment; is = refl }))
-  ended_adds still false (Ok u) f (inl m) = (still, record { moment = m.0.moment; is = refl })
-  ended_adds still false (Ok u) f (inr m) = absurd (no_fault m.1 f)
+  pub ended_adds : (still faulty : Bool) (r : Result Ending Mem) → MatchBool faulty (IsSome new.fault) (new.fault ≡ None) → (h : EndsTurn n t g old new r) → EndAdds n t g (closing_as r faulty) (map (tell still) (marked_ended r h).added)
+  ended_adds still faulty (Ok ending.More) f h = refl
+  ended_adds still faulty (Ok ending.Wait) f h = refl
+  ended_adds still true (Ok ending.Closed) f (inl m) = (still, inl (record { moment = m.0.moment; is = refl }))
+  ended_adds still true (Ok ending.Closed) f (inr m) = (still, inr (record { moment = m.0.moment; is = refl }))
+  ended_adds still false (Ok ending.Closed) f (inl m) = (still, record { moment = m.0.moment; is = refl })
+  ended_adds still false (Ok ending.Closed) f (inr m) = absurd (no_fault m.1 f)
   ended_adds still faulty (Err e) f m = (still, record { moment = m.0.moment; is = refl })
+
+-- what is handed over is what was at first, or nothing any more
+abbrev pub IsHanded : Option Given → Option Given → Type 0
+IsHanded first now = (now ≡ first) ⊎ (now ≡ None)
+
+pub hands_on : (t : ℕ) (first old new : Option Given) → IsHanded first old → HandsOn t old new → IsHanded first new
+hands_on t first old new is (inl same) = subst (IsHanded first) (sym same) is
+hands_on t first old new is (inr none) = inr none.0
+
+-- so it has what that has
+pub handed_has : (P : Given → Type 0) (first now : Option Given) → IsHanded first now → IfSome first P → IfSome now P
+handed_has P first now (inl same) has = subst (λ (x : Option Given). IfSome x P) (sym same) has
+handed_has P first now (inr none) has = subst (λ (x : Option Given). IfSome x P) (sym none) tt

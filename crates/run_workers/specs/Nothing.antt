@@ -12,6 +12,7 @@ nothing_seen = record {
   options = record { keep_going = false; setscene = false };
   rows = [];
   kept = [];
+  opened = [];
   sink_failed = false;
   fault = None;
   tale = [];

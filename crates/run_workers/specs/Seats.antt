@@ -1,5 +1,5 @@
 -- What a seat knows of a run, by its own record, and how a turn changes it.
-use Rattle.std.specs.Prelude.{◌≡◌, ◌⊎◌, ℕ, IsSome, List, [], ◌∷◌, ◌++◌, Bool, true, false, not, Option, Some, None, Result, Ok, Err, All}
+use Rattle.std.specs.Prelude.{◌≡◌, ◌≢◌, ◌⊎◌, ℕ, IsSome, List, [], ◌∷◌, ◌++◌, Bool, true, false, Option, Some, None, Result, Ok, Err, All}
 use Rattle.std.specs.List.{list_all}
 use Rattle.meta_model.specs.declared.event.Cut.{Cut}
 use Rattle.meta_model.specs.declared.event.Cut.TheVariants as cut
@@ -9,17 +9,21 @@ use Rattle.meta_model.specs.declared.event.Why.TheVariants as why
 use Rattle.meta_model.specs.declared.plan.Plan.{Plan}
 use Rattle.tree_model.specs.declared.text.Mem.{Mem}
 use Rattle.run_core.specs.History.{last_of}
+use Rattle.run_queue.specs.declared.closing.Ending.{Ending}
+use Rattle.run_queue.specs.declared.closing.Ending.TheVariants as ending
 use Rattle.run_queue.specs.declared.fault.RunFault.{RunFault}
 use Rattle.run_queue.specs.declared.state.Claim.{Claim}
 use Rattle.run_queue.specs.declared.state.Claim.TheVariants as claim
 use Rattle.run_model.specs.Opening.{Opening}
 use Rattle.run_queue.specs.Seen.{Seen}
-use Rattle.run_queue.specs.Turns.{IsCleanJob, closed_as}
+use Rattle.run_queue.specs.Turns.{IsCleanJob, closed_by}
 use Rattle.task_worker.specs.declared.given.Given.{Given}
 use Rattle.turn_lock.specs.declared.rule.Record.{Record}
 use Rattle.turn_lock.specs.declared.rule.View.{View}
 use Rattle.turn_lock.specs.Views.{Begins}
 use Rattle.run_workers.specs.declared.shared.Claimed.{Claimed}
+use Rattle.run_workers.specs.declared.shared.Closing.{Closing}
+use Rattle.run_workers.specs.declared.shared.Closing.TheVariants as closing
 use Rattle.run_workers.specs.declared.shared.Told.{Told}
 use Rattle.run_model.specs.Runs.{IsScriptOf}
 use Rattle.run_workers.specs.Since.{SharedView}
@@ -86,20 +90,28 @@ abbrev pub ClaimAdds : ℕ → Result Claimed Mem → List Told → Type 0
 ClaimAdds n (Ok claimed) added = AddsBy n claimed.printed claimed.claim added
 ClaimAdds n (Err e) added = added ≡ []
 
--- What closing a job adds. Where the answer is that no fault is kept it was closed as it was given.
-abbrev pub EndAdds : ℕ → ℕ → Given → Result Bool Mem → List Told → Type 0
-EndAdds n t g (Ok true) added = (printed : Bool) × Entry n printed (closed_as t g) added
-EndAdds n t g (Ok false) added = (printed : Bool) × (Entry n printed (closed_as t g) added ⊎ Entry n printed (events.Broke t cut.Fault) added)
+-- What a turn of a job that is done adds: nothing, where more is left. Where the answer is that no fault is kept it was closed as it was given.
+abbrev pub EndAdds : ℕ → ℕ → Option Given → Result Closing Mem → List Told → Type 0
+EndAdds n t g (Ok closing.More) added = added ≡ []
+EndAdds n t g (Ok closing.Wait) added = added ≡ []
+EndAdds n t g (Ok closing.Closed) added = (printed : Bool) × Entry n printed (closed_by t g) added
+EndAdds n t g (Ok closing.Stopped) added = (printed : Bool) × (Entry n printed (closed_by t g) added ⊎ Entry n printed (events.Broke t cut.Fault) added)
 EndAdds n t g (Err e) added = (printed : Bool) × Entry n printed (events.Broke t cut.Memory) added
 
--- how the end of a job is answered, where a fault is kept or not
-abbrev pub ended_as : Result (Unit {0}) Mem → Bool → Result Bool Mem
-ended_as (Ok u) faulty = Ok (not faulty)
-ended_as (Err e) faulty = Err e
+-- how a turn of a job that is done is answered, where a fault is kept or not
+abbrev pub closing_as : Result Ending Mem → Bool → Result Closing Mem
+closing_as (Ok ending.More) faulty = Ok closing.More
+closing_as (Ok ending.Wait) faulty = Ok closing.Wait
+closing_as (Ok ending.Closed) true = Ok closing.Stopped
+closing_as (Ok ending.Closed) false = Ok closing.Closed
+closing_as (Err e) faulty = Err e
 
--- what breaking a job off adds
-abbrev pub BreakAdds : ℕ → ℕ → Cut → List Told → Type 0
-BreakAdds n t c added = (printed : Bool) × Entry n printed (events.Broke t c) added
+-- What breaking a job off adds: that it broke off so, or by another cut than its bench's.
+pub record BreakAdds (n t : ℕ) (asked : Cut) (added : List Told) : Type 0 where
+  pub printed : Bool
+  pub broke : Cut
+  pub entry : Entry n printed (events.Broke t broke) added
+  pub as_asked : (broke ≡ asked) ⊎ (broke ≢ cut.Bench)
 
 -- the job that a claim hands out has the script of its task
 abbrev pub IsScripted : Plan → Claim → Type 0

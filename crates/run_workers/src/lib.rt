@@ -1,8 +1,9 @@
 //! Several workers on the run of a plan, each with a bench of its own: they take turns with one state (`run_queue`) behind a lock (`turn_lock`).
 //!
 //! `run_workers` takes a state that has begun and some benches, and gives both back once nothing more may be done by them, with no task that
-//! runs. A turn covers no script: a seat claims a job in one turn, does it outside, and says in another one how it came to an end. Who finds
-//! nothing to do while others work sleeps on the bell until another one got a job, or went.
+//! runs. A turn covers no script: a seat claims a job in one turn, and does it outside. One that is done comes to its end in several turns, between
+//! which the worker waits for the disk outside of the lock, and others take theirs; the last one marks how it ended. Who finds nothing to do
+//! while others work sleeps on the bell until another one got a job, or went.
 //!
 //! Contracts see what the state was as it began by a type parameter (`Began`), so that what lies under the lock keeps, in every turn, that
 //! whatever held of that state holds on (`specs/Since`), for every opening. What a seat knows of the run is its own record of the tale,
@@ -24,6 +25,6 @@ mod workers;
 
 pub use began::Began;
 pub use queue::{RunQueue, RunSeat};
-pub use shared::{Claimed, Shared, Told};
+pub use shared::{Claimed, Closing, Shared, Told};
 pub use worker::Halt;
 pub use workers::run_workers;

@@ -1,10 +1,10 @@
 // The run that its workers share.
-ghost use Rattle.std.specs.Prelude.{◌≡◌, ◌<◌, ◌≤◌, [], List, IfErr, IfOk, Ok, false};
+ghost use Rattle.std.specs.Prelude.{◌≡◌, ◌<◌, ◌≤◌, [], List, IfErr, IfOk, IfSome, Ok};
 ghost use Rattle.tale_model.specs.Fates.{NoneRuns};
 ghost use Rattle.run_model.specs.Opening.{Opening};
 ghost use Rattle.run_queue.specs.Keeps.{IsRun};
 ghost use Rattle.run_queue.specs.Seen.{seen};
-ghost use Rattle.run_queue.specs.Turns.{IsCleanJob, IsGivenBy, fates_of};
+ghost use Rattle.run_queue.specs.Turns.{HandsOn, IsCleanJob, IsGivenBy, fates_of};
 ghost use Rattle.task_worker.specs.Jobs.{IsGiven};
 ghost use Rattle.turn_lock.specs.Seats.{view_of, seats_of, HasAllNumbers, IsFree, IsSeatOf};
 ghost use Rattle.turn_lock.specs.Views.{first_view, records_of};
@@ -15,7 +15,7 @@ ghost use Rattle.run_workers.specs.Told.{logged_in};
 ghost use Rattle.run_workers.specs.declared.shared.Told.{Told as Entry};
 
 use crate::began::Began;
-use crate::shared::{Claimed, Shared};
+use crate::shared::{Claimed, Closing, Shared};
 use meta_model::Cut;
 use outside_traits::{Disk, Sink};
 use run_core::seat_laws;
@@ -83,39 +83,42 @@ pub(crate) fn claim<K: Began, D: Disk, W: Sink, R: Wait>(
     claim
 }
 
-/// One turn: the seat's job is done, and gave this. Whether no fault is kept then.
-pub(crate) fn ended<K: Began, D: Disk, W: Sink, R: Wait>(
+/// One turn: the seat's job is done, and gave this; nothing, where the state has it from a turn before. A turn behind which more is left marks
+/// nothing. `synced` says whether the system has synced since a turn that came to `Wait`.
+pub(crate) fn ended_turn<K: Began, D: Disk, W: Sink, R: Wait>(
     rt: &R,
     alloc: Global,
     queue: &RunQueue<K, D, W>,
     seat: &mut RunSeat<K, D, W>,
-    job: Job,
-    given: Given,
-) -> Result<bool, Mem>
+    job: &Job,
+    given: &mut Option<Given>,
+    synced: bool,
+) -> Result<Closing, Mem>
     requires reach { 3600 ≤ D.reach }
     requires queue { IsSeatOf queue.now seat.old }
     requires free { IsFree seat.old }
-    requires holds { Holds job.task (view_of seat.old).number (view_of seat.old).own }
-    requires given { IsGiven given }
+    requires holds { Holds job.now.task (view_of seat.old).number (view_of seat.old).own }
+    requires given { IfSome given.old IsGiven }
     requires clean { D.tells → K.alike → (o : Opening) → o.gives ≡ K.gives → IsRun o K.first
-        → IsGivenBy o.gives job given × IsCleanJob o K.first job }
+        → IfSome given.old (IsGivenBy o.gives job.now) × IsCleanJob o K.first job.now }
     ensures queue { IsSeatOf queue.now seat.new }
     ensures free { IsFree seat.new }
-    ensures ends { (added : List Entry) × EndAdds (view_of seat.old).number job.task given result added
+    ensures ends { (added : List Entry) × EndAdds (view_of seat.old).number job.now.task given.old result added
         × Turned (view_of seat.old) (view_of seat.new) added }
-    ensures stops { result ≡ Ok false
+    ensures handed { HandsOn job.now.task given.old given.new }
+    ensures stops { result ≡ Ok Closing.Stopped
         → WasFaulty D.faults W.faults K.first K.faults (logged_in (view_of seat.new).seen) }
 {
     let mut story = queue.begin(rt, seat);
     story.kept();
     seat_laws();
-    let ended = story.ended(alloc, seat.number(), job, given);
+    let ended = story.ended_turn(alloc, seat.number(), job, given, synced);
     story.kept();
     queue.end(seat, story);
     ended
 }
 
-/// One turn: the seat's job couldn't be done. It broke by a fault only where an entry of the seat hadn't been printed.
+/// One turn: the seat's job couldn't be done. It is to break by a fault only where an entry of the seat hadn't been printed.
 pub(crate) fn broke<K: Began, D: Disk, W: Sink, R: Wait>(
     rt: &R,
     alloc: Global,

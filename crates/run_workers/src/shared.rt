@@ -1,5 +1,5 @@
 // The state that seats hand on.
-ghost use Rattle.std.specs.Prelude.{◌≡◌, ◌≤◌, [], IsSome, List, None, Ok, false, length, true};
+ghost use Rattle.std.specs.Prelude.{◌≡◌, ◌≤◌, [], IfSome, IsSome, List, None, Ok, false, length, true};
 ghost use Rattle.meta_model.specs.declared.event.Event.TheVariants as events;
 ghost use Rattle.tale_model.specs.Fates.{IsFree};
 ghost use Rattle.tale_model.specs.History.{EachAfter};
@@ -7,9 +7,9 @@ ghost use Rattle.run_core.specs.History.{IsOrderly};
 ghost use Rattle.run_model.specs.Opening.{Opening};
 ghost use Rattle.run_queue.specs.Keeps.{IsRun, IsState};
 ghost use Rattle.run_queue.specs.Seen.{seen};
-ghost use Rattle.run_queue.specs.Turns.{IsCleanJob, IsGivenBy, RunsUnder, fates_of};
+ghost use Rattle.run_queue.specs.Turns.{HandsOn, IsCleanJob, IsGivenBy, RunsUnder, fates_of};
 ghost use Rattle.task_worker.specs.Jobs.{IsGiven};
-ghost use Rattle.run_workers.specs.Seats.{Adds, BreakAdds, ClaimAdds, EndAdds, HandsClean, HandsScript, HeardOn, ended_as, tale_of};
+ghost use Rattle.run_workers.specs.Seats.{Adds, BreakAdds, ClaimAdds, EndAdds, HandsClean, HandsScript, HeardOn, closing_as, tale_of};
 ghost use Rattle.run_workers.specs.Since.{Kept};
 ghost use Rattle.run_workers.specs.Ended.{ClaimSays};
 ghost use Rattle.run_workers.specs.declared.shared.Told.{Told as Entry};
@@ -17,7 +17,7 @@ ghost use Rattle.run_workers.specs.declared.shared.Told.{Told as Entry};
 use crate::began::Began;
 use meta_model::{Cut, Logged};
 use outside_traits::{Disk, Sink};
-use run_queue::{Claim, RunState};
+use run_queue::{Claim, Ending, RunState};
 use std::alloc::Global;
 use std::marker::{Model, PhantomData};
 use task_worker::{Given, Job};
@@ -39,6 +39,19 @@ pub struct Claimed {
     pub claim: Claim,
     /// Whether all that the run marked so far had been printed behind this turn. Where a job comes without, its script is not to run.
     pub printed: bool,
+}
+
+/// What a turn of a job that is done came to, as the queue answers it.
+#[derive(Clone, Copy, Debug, PartialEq, Eq)]
+pub enum Closing {
+    /// More is left: another turn is wanted.
+    More,
+    /// More is left: another turn is wanted, once the system has synced what the disk stands on, begun behind this turn (`Bench::wait_synced`).
+    Wait,
+    /// The job is closed, and no fault is kept.
+    Closed,
+    /// The job is closed, and a fault is kept.
+    Stopped,
 }
 
 /// The state of a run, as seats hand it on.
@@ -87,12 +100,20 @@ fn heard_on<D: Disk, W: Sink>(state: &RunState<D, W>, printed: u64, whole: bool)
     (state.told() as u64, true)
 }
 
-/// Where memory wasn't wanting, whether no fault is kept.
-fn goes_on(ended: Result<(), Mem>, faulty: bool) -> Result<bool, Mem>
-    ensures { result ≡ ended_as ended faulty }
+/// What a turn came to, by whether a fault is kept behind it.
+fn answered(ended: Result<Ending, Mem>, faulty: bool) -> Result<Closing, Mem>
+    ensures { result ≡ closing_as ended faulty }
 {
     match ended {
-        Ok(()) => Ok(!faulty),
+        Ok(Ending::More) => Ok(Closing::More),
+        Ok(Ending::Wait) => Ok(Closing::Wait),
+        Ok(Ending::Closed) => {
+            if faulty {
+                Ok(Closing::Stopped)
+            } else {
+                Ok(Closing::Closed)
+            }
+        }
         Err(Mem) => Err(Mem),
     }
 }
@@ -146,29 +167,32 @@ impl<K: Began, D: Disk, W: Sink> Shared<K, D, W> {
         })
     }
 
-    /// A job on the state comes to an end. Whether no fault is kept then.
-    pub(crate) fn ended(
+    /// One turn of a job on the state that is done, and gave this; nothing, where the state has it from a turn before. `synced` says whether the
+    /// system has synced since a turn that came to `Wait`.
+    pub(crate) fn ended_turn(
         &mut self,
         alloc: Global,
         number: u32,
-        job: Job,
-        given: Given,
-    ) -> Result<bool, Mem>
+        job: &Job,
+        given: &mut Option<Given>,
+        synced: bool,
+    ) -> Result<Closing, Mem>
         requires reach { 3600 ≤ D.reach }
-        requires runs { RunsUnder self.old.state job.task number }
-        requires given { IsGiven given }
+        requires runs { RunsUnder self.old.state job.now.task number }
+        requires given { IfSome given.old IsGiven }
         requires clean { D.tells → K.alike → (o : Opening) → o.gives ≡ K.gives → IsRun o K.first
-            → IsGivenBy o.gives job given × IsCleanJob o K.first job }
+            → IfSome given.old (IsGivenBy o.gives job.now) × IsCleanJob o K.first job.now }
         ensures adds { (added : List Entry) × Adds number (tale_of self.old) (tale_of self.new) added
-            × EndAdds number job.task given result added }
-        ensures stops { result ≡ Ok false → IsSome self.new.state.fault }
+            × EndAdds number job.now.task given.old result added }
+        ensures handed { HandsOn job.now.task given.old given.new }
+        ensures stops { result ≡ Ok Closing.Stopped → IsSome self.new.state.fault }
     {
-        let ended = self.state.ended(alloc, number, job, given);
+        let ended = self.state.ended_turn(alloc, number, job, given, synced);
         self.state.kept();
         let (printed, whole) = heard_on(&self.state, self.printed, self.whole);
         self.printed = printed;
         self.whole = whole;
-        goes_on(ended, self.state.has_fault())
+        answered(ended, self.state.has_fault())
     }
 
     /// A job on the state broke, by a fault only where one is kept.

@@ -1,9 +1,10 @@
 // One worker of a run.
-ghost use Rattle.std.specs.Prelude.{◌≡◌, ◌≤◌, [], List, None, Some, false, true};
+ghost use Rattle.std.specs.Prelude.{◌≡◌, ◌≤◌, [], IfSome, List, None, Some, false, true};
 ghost use Rattle.outside_traits.specs.Fault.{Counts, Rose};
 ghost use Rattle.run_model.specs.Opening.{Opening};
 ghost use Rattle.run_queue.specs.Keeps.{IsRun};
-ghost use Rattle.run_queue.specs.Turns.{IsCleanJob};
+ghost use Rattle.run_queue.specs.Turns.{IsCleanJob, IsGivenBy};
+ghost use Rattle.task_worker.specs.Jobs.{IsGiven};
 ghost use Rattle.turn_lock.specs.Seats.{view_of, IsFree, IsSeatOf};
 ghost use Rattle.run_workers.specs.Runs.{by_bench};
 ghost use Rattle.run_workers.specs.Seats.{HasUnprinted, Holds, HoldsNone, IsSameSeat};
@@ -13,14 +14,14 @@ ghost use Rattle.run_workers.specs.Worked.{BrokeOff, Closes, IsWorked, RanOnce, 
 
 use crate::began::Began;
 use crate::bell::Bell;
-use crate::queue::{RunQueue, RunSeat, broke, claim, ended};
-use crate::shared::Claimed;
+use crate::queue::{RunQueue, RunSeat, broke, claim, ended_turn};
+use crate::shared::{Claimed, Closing};
 use meta_model::Cut;
 use outside_traits::{Bench, Disk, Sink};
 use run_queue::Claim;
 use std::alloc::Global;
 use std::sync::Wait;
-use task_worker::{Job, WorkFault, do_job};
+use task_worker::{Given, Job, WorkFault, do_job};
 use tree_model::Mem;
 
 /// Why a worker, or a run, does no more.
@@ -34,6 +35,48 @@ pub enum Halt {
     Memory,
     /// The bench failed.
     Bench,
+}
+
+/// Takes turns until a job that is done, and gave this, is closed. Between them, and outside of the lock, the worker waits for the disk where a
+/// turn asks for that; others take turns meanwhile.
+fn close_done<K: Began, D: Disk, B: Bench, W: Sink, R: Wait>(
+    rt: &R,
+    alloc: Global,
+    queue: &RunQueue<K, D, W>,
+    seat: &mut RunSeat<K, D, W>,
+    bench: &mut B,
+    job: &Job,
+    given: &mut Option<Given>,
+) -> Option<Halt>
+    requires reach { 3600 ≤ D.reach }
+    requires queue { IsSeatOf queue.now seat.old }
+    requires free { IsFree seat.old }
+    requires holds { Holds job.now.task (view_of seat.old).number (view_of seat.old).own }
+    requires given { IfSome given.old IsGiven }
+    requires clean { D.tells → K.alike → (o : Opening) → o.gives ≡ K.gives → IsRun o K.first
+        → IfSome given.old (IsGivenBy o.gives job.now) × IsCleanJob o K.first job.now }
+    ensures queue { IsSeatOf queue.now seat.new }
+    ensures free { IsFree seat.new }
+    ensures same { IsSameSeat (view_of seat.old) (view_of seat.new) }
+    ensures closes { Closes (view_of seat.old).number result (view_of seat.old).own (view_of seat.new).own }
+    ensures ends { HaltsIn K.first (WasFaulty D.faults W.faults K.first K.faults) result
+        (logged_in (view_of seat.new).seen) }
+    ensures place { B.tells → B.place bench.new ≡ B.place bench.old }
+    ensures gives { B.gives bench.new ≡ B.gives bench.old }
+    ensures faults { B.faults bench.new ≡ B.faults bench.old }
+    ensures bench { by_bench result ≡ false }
+{
+    let mut synced = false;
+    for _ in rt.forever() {
+        match ended_turn(rt, alloc, queue, seat, job, given, synced) {
+            Ok(Closing::More) => synced = false,
+            Ok(Closing::Wait) => synced = bench.wait_synced(),
+            Ok(Closing::Closed) => return None,
+            Ok(Closing::Stopped) => return Some(Halt::Stopped),
+            Err(Mem) => return Some(Halt::Memory),
+        }
+    }
+    unreachable!()
 }
 
 /// Does a job that was claimed, and says how it came to an end. Where its start hadn't been printed, since a fault is kept, its script
@@ -73,11 +116,10 @@ fn do_claimed<K: Began, D: Disk, B: Bench, W: Sink, R: Wait>(
         return Some(Halt::Stopped);
     }
     match do_job(alloc, bench, &job) {
-        Ok(given) => match ended(rt, alloc, queue, seat, job, given) {
-            Ok(true) => None,
-            Ok(false) => Some(Halt::Stopped),
-            Err(Mem) => Some(Halt::Memory),
-        },
+        Ok(given) => {
+            let mut given = Some(given);
+            close_done(rt, alloc, queue, seat, bench, &job, &mut given)
+        }
         Err(WorkFault::Bench) => {
             broke(rt, alloc, queue, seat, job, Cut::Bench);
             Some(Halt::Bench)

@@ -3,6 +3,7 @@ ghost use Rattle.std.specs.Prelude.{[], Ok, None, true};
 
 use crate::kept::Kept;
 use crate::output::look_over;
+use crate::pace::is_soon;
 use crate::place::{Place, SCRIPT, WORK};
 use crate::sandboxes::Sandboxes;
 use crate::supervisor::{Supervisor, Way};
@@ -48,8 +49,9 @@ const LAID_AT: u64 = 946_684_800;
 pub struct ShBench<'a, R: Processes> {
     site: Site<'a, R>,
 
-    /// The syncs of the run.
+    /// The syncs of the run, and whether a file is durable so soon by itself that nobody need wait for one, once that was tried.
     syncs: &'a Syncs,
+    is_soon: Option<bool>,
 
     /// What is kept of the task for which it was cleared last.
     kept: Option<Kept>,
@@ -161,11 +163,24 @@ impl<
         ShBench {
             site,
             syncs,
+            is_soon: None,
             kept: None,
             script: None,
             faults: 0,
             first: FirstFault::none(),
         }
+    }
+
+    /// Whether a file is durable so soon by itself that waiting for a sync of all takes longer. It is tried once.
+    fn is_soon(&mut self) -> bool
+        ensures { self.new.faults ≡ self.old.faults }
+    {
+        if let Some(is_soon) = self.is_soon {
+            return is_soon;
+        }
+        let is_soon = is_soon(&self.site.rt, self.site.number).unwrap_or(false);
+        self.is_soon = Some(is_soon);
+        is_soon
     }
 
     /// Clears the place of a task's work, and forgets what an earlier run kept of it.
@@ -433,7 +448,7 @@ impl<
     }
 
     fn wait_synced(&mut self) -> bool {
-        self.syncs.wait(&self.site.rt)
+        !self.is_soon() && self.syncs.wait(&self.site.rt)
     }
 
     fn take(&mut self, _alloc: Global, max: Size) -> Result<Taken, BenchFault> {

@@ -9,6 +9,7 @@
 mod bench;
 mod kept;
 mod output;
+mod pace;
 mod place;
 mod sandboxes;
 mod shell;

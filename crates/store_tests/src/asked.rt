@@ -5,7 +5,7 @@ ghost use Rattle.outside_traits.specs.Story.{IsFresh};
 ghost use Rattle.store_tests.specs.Samples.{IsSample};
 
 use crate::samples::Sample;
-use build_store::{Ahead, Known, Store, StoreFault, open_store};
+use build_store::{Ahead, Known, Step, Store, StoreFault, open_store};
 use meta_model::Avail;
 use outside_mem::MemDisk;
 use outside_traits::Disk;
@@ -48,7 +48,38 @@ pub fn opened_beside(
     }
 }
 
-/// Publishes the sample.
+/// Opens the sample's publication, unless one of its task is open.
+pub fn begin<D: Disk>(
+    alloc: Global,
+    store: &mut Store<D>,
+    sample: &Sample,
+) -> Result<bool, StoreFault>
+    requires reach { 3600 ≤ D.reach }
+    requires sample { IsSample sample.now.task sample.now.sig sample.now.tree }
+{
+    if store.is_open(&sample.task) {
+        return Ok(false);
+    }
+    let manifest = manifest_of(alloc, &sample.tree)?;
+    let tree = sample.tree.copy()?;
+    store.publish_open(alloc, &sample.task, &sample.sig, tree, &manifest)
+}
+
+/// Takes the steps of the sample's publication, as many as it can want.
+fn finish<D: Disk>(alloc: Global, store: &mut Store<D>, sample: &Sample) -> Result<Hash, StoreFault>
+    requires reach { 3600 ≤ D.reach }
+    requires sample { IsSample sample.now.task sample.now.sig sample.now.tree }
+{
+    for _ in 0..1000 {
+        match store.publish_step(alloc, &sample.task, &sample.sig, true)? {
+            Step::Done(unihash) => return Ok(unihash),
+            Step::NotOpen | Step::More | Step::Wait => {}
+        }
+    }
+    Err(StoreFault::Memory)
+}
+
+/// Publishes the sample: opens its publication, and takes all of its steps.
 pub fn publish<D: Disk>(
     alloc: Global,
     store: &mut Store<D>,
@@ -57,8 +88,10 @@ pub fn publish<D: Disk>(
     requires reach { 3600 ≤ D.reach }
     requires sample { IsSample sample.now.task sample.now.sig sample.now.tree }
 {
-    let manifest = manifest_of(alloc, &sample.tree)?;
-    store.publish(alloc, &sample.task, &sample.sig, &sample.tree, &manifest)
+    if !begin(alloc, store, sample)? {
+        return Err(StoreFault::Memory);
+    }
+    finish(alloc, store, sample)
 }
 
 /// Opens a disk and publishes the sample there, and gives the disk behind it.
@@ -93,6 +126,11 @@ fn has_output(alloc: Global, store: &mut Store<MemDisk>, sample: &Sample) -> boo
         (Ok(manifest), Ok(Some(tree))) => matches(&tree, &manifest),
         _ => false,
     }
+}
+
+/// Whether the sample is there by its work folder only where that holds its tree.
+pub fn is_honest(alloc: Global, store: &mut Store<MemDisk>, sample: &Sample) -> bool {
+    there(alloc, store, sample) != Some(Avail::Work) || has_output(alloc, store, sample)
 }
 
 /// Whether the sample is there by its work folder, which holds its tree.

@@ -1,6 +1,6 @@
-use Rattle.std.proofs.Common.{◌≡◌, refl, subst, ap, ℕ, zero, suc, List, [], ◌∷◌, Some, None, Ok, inl, inr}
+use Rattle.std.proofs.Common.{◌≡◌, ◌∙◌, sym, refl, subst, ap, ℕ, zero, suc, List, [], ◌∷◌, ◌++◌, Some, None, Ok, inl, inr}
 use Rattle.std.specs.Prelude.{Option, codes}
-use Rattle.std.specs.List.{slice_get}
+use Rattle.std.specs.List.{AllByRecursion, slice_get}
 use Rattle.std.proofs.Math.Seq.{take-nil}
 use Rattle.std.proofs.lemmas.Option.{none-some, same_Some}
 use Rattle.tree_model.specs.declared.entry.Entry.{Entry}
@@ -16,13 +16,13 @@ use Rattle.tree_model.specs.Folder.{picked}
 use Rattle.tree_model.specs.Overlay.{overlaid}
 use Rattle.store_model.specs.Available.{stamp_path}
 use Rattle.store_model.specs.Hello.{first_line, hello_reading, hello_signed, hello_task, hello_tree}
+use Rattle.store_model.specs.Origins.{Book}
 use Rattle.store_model.specs.Spelling.{name_of}
 use Rattle.store_model.specs.Valid.{IsValid, IsValidLine, record_entry}
 use Rattle.store_model.proofs.Hello.{hello_is_recorded}
 use Rattle.run_model.specs.Books.{line_of_ended}
 use Rattle.run_model.specs.Headline.{nothing}
-use Rattle.run_model.specs.InFlight.{IsValidAfter, book_with}
-use Rattle.run_queue.proofs.Flying.{valid_with}
+use Rattle.run_model.specs.InFlight.{AreInFlight, IsValidAfter, RunsAfter, book_with}
 use Rattle.run_queue.proofs.Growing.{ended_line}
 use Rattle.run_queue.proofs.Touched.{none_runs}
 use Rattle.build_resume.specs.Worked.{empty_opening, hello_plan, hello_started, recorded_alone}
@@ -46,10 +46,26 @@ hello_recorded = (ended_line shell hello_plan [] 0 hello_signed hello_built hell
 first_alone : IsValidLine shell hello_reading [] first_line
 first_alone = hello_is_recorded.after.lines [] first_line (record { rest = []; is = refl })
 
+-- the task runs, and is in flight alone
+place_alone : (k u : ℕ) → slice_get (0 ∷ []) k ≡ Some u → (k ≡ 0) × (0 ≡ u)
+place_alone zero u here = (refl, same_Some 0 u here)
+place_alone (suc k) u here = absurd (none-some u here)
+
+flies_alone : AreInFlight hello_plan hello_started (0 ∷ [])
+flies_alone = record {
+  runs = λ k u here. (1, subst (λ (n : ℕ). RunsAfter hello_plan hello_started n 1) (place_alone k u here).1 refl);
+  apart = λ j k u v other one two a b. (place_alone j u one).0 ∙ sym (place_alone k v two).0;
+}
+
 pub returns-clause-recorded : goal.returns-clause-recorded
 returns-clause-recorded c = record {
   count = 1;
-  after = valid_with empty_opening hello_plan hello_started recorded_alone 0 1 (first_line ∷ []) refl hello_recorded hello_is_recorded.after (first_alone, tt);
+  after = record {
+    in_flight = 0 ∷ [];
+    flies = flies_alone;
+    valid = subst (λ (l : Book). IsValid shell hello_reading recorded_alone (l ++ [])) (sym hello_recorded) hello_is_recorded.after;
+    alone = subst (λ (l : Book). AllByRecursion (IsValidLine shell hello_reading []) (l ++ [])) (sym hello_recorded) (first_alone, tt);
+  };
   honest = λ t task at. inr (inl (no_stamp t task at));
 }
 

@@ -10,6 +10,7 @@ use Rattle.store_opening.specs.Paths.{IsLaidOut, staged_record_path}
 use Rattle.build_store.proofs.Written.{record_clean, record_short}
 use Rattle.build_store.proofs.EndingRuns.{finishes_by_same, record_may_move, record_moves, record_next}
 use Rattle.build_store.proofs.Free.{free_record}
+use Rattle.build_store.proofs.Sweeps.{moved_only, on_ok_of}
 use Rattle.build_store.proofs.ending.rename_staged_record.Goals as goal
 
 pub returns-in_err-end_sync-clause-finishes : goal.returns-in_err-end_sync-clause-finishes
@@ -60,3 +61,10 @@ returns-clause-finishes g c told = λ p own new is.
     let to_is : c.as_str-2.result.now ≡ record_path c.args.name.now = c.as_str-2.ensures ∙ c.in_ok-to.ensures in
     record_moves p c.args.name.now c.as_str.result.now c.as_str-2.result.now (g.D.Disk.story c.args.disk.now) (g.D.Disk.story c.end_sync.new.self) (g.D.Disk.story c.rename.new.self) (g.D.Disk.story c.take_ticket.new.disk) c.args.ticket
     (g.met.D.Disk.sound c.args.disk.now told) own from_is to_is (c.in_ok-end_sync.ensures.told told) (c.in_ok-rename.ensures.told told) (c.take_ticket.ensures.same told) new is
+
+pub returns-clause-moves : goal.returns-clause-moves
+returns-clause-moves g c told =
+    let from_is : c.as_str.result.now ≡ staged_record_path c.args.name.now = c.as_str.ensures ∙ c.in_ok-from.ensures in
+    let to_is : c.as_str-2.result.now ≡ record_path c.args.name.now = c.as_str-2.ensures ∙ c.in_ok-to.ensures in
+    on_ok_of c.take_ticket.result (moved_only (staged_record_path c.args.name.now) (record_path c.args.name.now) c.as_str.result.now c.as_str-2.result.now (g.D.Disk.story c.args.disk.now) (g.D.Disk.story c.end_sync.new.self) (g.D.Disk.story c.rename.new.self) (g.D.Disk.story c.take_ticket.new.disk) c.args.ticket
+    (g.met.D.Disk.sound c.args.disk.now told) (g.met.D.Disk.sound c.end_sync.new.self told) from_is to_is (c.in_ok-end_sync.ensures.told told) (c.in_ok-rename.ensures.told told) (c.take_ticket.ensures.same told))

@@ -1,9 +1,11 @@
-use Rattle.std.proofs.Common.{sym, refl, inl, inr}
+use Rattle.std.proofs.Common.{sym, subst, refl, inl, inr, Some, None}
 use Rattle.outside_traits.proofs.Calls.{ends_passes}
-use Rattle.build_store.specs.declared.pieces.Reached.TheVariants.{Working, Staged, Kept, Stored}
-use Rattle.build_store.specs.OpenOnes.{put_by}
+use Rattle.build_store.specs.declared.pieces.Reached.{Reached}
+use Rattle.build_store.specs.declared.pieces.Reached.TheVariants.{Working, Staged, Kept, Stored, Stamped}
+use Rattle.build_store.specs.OpenOnes.{Sweeps, put_by}
 use Rattle.build_store.proofs.EndingRuns.{new_of}
-use Rattle.build_store.proofs.GoingRuns.{finishes_publish, half_file, on_reached, publishing_same, suits_reached, unstamped_at}
+use Rattle.build_store.proofs.GoingRuns.{ending_keeps, finishes_publish, half_file, looking_keeps, on_reached, publishing_same, suits_reached, unstamped_at}
+use Rattle.build_store.proofs.Sweeps.{ending_sweeps, record_sweeps, stamp_sweeps_kept, stamp_sweeps_stored}
 use Rattle.build_store.proofs.going.go_on.Goals as goal
 
 pub work_on-requires-clause-on : goal.work_on-requires-clause-on
@@ -96,3 +98,79 @@ returns-in_err-end_sync-in-Stamped-clause-publishing g c told = λ f on.
 pub returns-in_ok-end_sync-in-Stamped-clause-publishing : goal.returns-in_ok-end_sync-in-Stamped-clause-publishing
 returns-in_ok-end_sync-in-Stamped-clause-publishing g c told = λ f on.
     publishing_same (put_by c.args.one.now f) (ends_passes (g.met.D.Disk.sound c.args.disk.now told) (c.end_sync.ensures.told told))
+
+pub returns-in_ok-work_on-in-Working-clause-swept : goal.returns-in_ok-work_on-in-Working-clause-swept
+returns-in_ok-work_on-in-Working-clause-swept g c told =
+    subst (λ (r : Reached). Sweeps c.args.one.now r (Some c.in_ok-work_on-in-Working.field-0) (g.D.Disk.story c.args.disk.now).held (g.D.Disk.story c.work_on.new.disk).held) (sym c.in-Working.is) (c.in_ok-work_on-in-Working.ensures.swept told)
+
+pub returns-in_ok-next-in-Staged-clause-swept : goal.returns-in_ok-next-in-Staged-clause-swept
+returns-in_ok-next-in-Staged-clause-swept g c told =
+    subst (λ (r : Reached). Sweeps c.args.one.now r (Some (Stored c.in_ok-next-in-Staged.next)) (g.D.Disk.story c.args.disk.now).held (g.D.Disk.story c.rename_staged_record.new.disk).held) (sym c.in-Staged.is)
+    (record_sweeps c.args.one.now c.in-Staged.ticket c.in_ok-next-in-Staged.next (g.D.Disk.story c.args.disk.now).held (g.D.Disk.story c.rename_staged_record.new.disk).held (c.in_ok-next-in-Staged.ensures.moves told) (c.in_ok-next-in-Staged.ensures.swept told))
+
+pub returns-in_ok-next-in-Kept-clause-swept : goal.returns-in_ok-next-in-Kept-clause-swept
+returns-in_ok-next-in-Kept-clause-swept g c told =
+    subst (λ (r : Reached). Sweeps c.args.one.now r (Some (Stamped c.in_ok-next-in-Kept.next)) (g.D.Disk.story c.args.disk.now).held (g.D.Disk.story c.rename_staged_stamp.new.disk).held) (sym c.in-Kept.is)
+    (stamp_sweeps_kept c.args.one.now c.in-Kept.ticket c.in_ok-next-in-Kept.next (g.D.Disk.story c.args.disk.now).held (g.D.Disk.story c.rename_staged_stamp.new.disk).held (rw c.as_str.ensures at (c.in_ok-next-in-Kept.ensures.moves told)) (rw c.as_str.ensures at (c.in_ok-next-in-Kept.ensures.swept told)))
+
+pub returns-in_ok-next-in-Stored-clause-swept : goal.returns-in_ok-next-in-Stored-clause-swept
+returns-in_ok-next-in-Stored-clause-swept g c told =
+    subst (λ (r : Reached). Sweeps c.args.one.now r (Some (Stamped c.in_ok-next-in-Stored.next)) (g.D.Disk.story c.args.disk.now).held (g.D.Disk.story c.rename_staged_stamp-in-Stored.new.disk).held) (sym c.in-Stored.is)
+    (stamp_sweeps_stored c.args.one.now c.in-Stored.ticket c.in_ok-next-in-Stored.next (g.D.Disk.story c.args.disk.now).held (g.D.Disk.story c.rename_staged_stamp-in-Stored.new.disk).held (rw c.as_str-in-Stored.ensures at (c.in_ok-next-in-Stored.ensures.moves told)) (rw c.as_str-in-Stored.ensures at (c.in_ok-next-in-Stored.ensures.swept told)))
+
+pub returns-in_ok-end_sync-in-Stamped-clause-swept : goal.returns-in_ok-end_sync-in-Stamped-clause-swept
+returns-in_ok-end_sync-in-Stamped-clause-swept g c told =
+    subst (λ (r : Reached). Sweeps c.args.one.now r None (g.D.Disk.story c.args.disk.now).held (g.D.Disk.story c.end_sync.new.self).held) (sym c.in-Stamped.is)
+    (ending_sweeps c.args.one.now c.in-Stamped.ticket (g.D.Disk.story c.args.disk.now).held (g.D.Disk.story c.end_sync.new.self).held (ends_passes (g.met.D.Disk.sound c.args.disk.now told) (c.end_sync.ensures.told told)).held)
+
+pub returns-in_err-work_on-in-Working-clause-keeps : goal.returns-in_err-work_on-in-Working-clause-keeps
+returns-in_err-work_on-in-Working-clause-keeps g c told = λ f on.
+    c.work_on.ensures.keeps told f
+
+pub returns-in_err-next-in-Staged-clause-keeps : goal.returns-in_err-next-in-Staged-clause-keeps
+returns-in_err-next-in-Staged-clause-keeps g c told = λ f on.
+    let o = c.args.one.now in
+    let at = on_reached o o.reached (Staged c.in-Staged.ticket) (put_by o f) (g.D.Disk.story c.args.disk.now) c.in-Staged.is on in
+    ending_keeps (put_by o f) (c.rename_staged_record.ensures.finishes told (put_by o f) refl (new_of o.new (suits_reached o o.reached (Staged c.in-Staged.ticket) c.in-Staged.is c.requires.suits)) at)
+
+pub returns-in_err-next-in-Kept-clause-keeps : goal.returns-in_err-next-in-Kept-clause-keeps
+returns-in_err-next-in-Kept-clause-keeps g c told = λ f on.
+    let o = c.args.one.now in
+    let at = on_reached o o.reached (Kept c.in-Kept.ticket) (put_by o f) (g.D.Disk.story c.args.disk.now) c.in-Kept.is on in
+    ending_keeps (put_by o f) (c.rename_staged_stamp.ensures.finishes told (put_by o f) (sym c.as_str.ensures) (inl at))
+
+pub returns-in_err-next-in-Stored-clause-keeps : goal.returns-in_err-next-in-Stored-clause-keeps
+returns-in_err-next-in-Stored-clause-keeps g c told = λ f on.
+    let o = c.args.one.now in
+    let at = on_reached o o.reached (Stored c.in-Stored.ticket) (put_by o f) (g.D.Disk.story c.args.disk.now) c.in-Stored.is on in
+    ending_keeps (put_by o f) (c.rename_staged_stamp-in-Stored.ensures.finishes told (put_by o f) (sym c.as_str-in-Stored.ensures) (inr at))
+
+pub returns-in_err-end_sync-in-Stamped-clause-keeps : goal.returns-in_err-end_sync-in-Stamped-clause-keeps
+returns-in_err-end_sync-in-Stamped-clause-keeps g c told = λ f on.
+    looking_keeps (put_by c.args.one.now f) (ends_passes (g.met.D.Disk.sound c.args.disk.now told) (c.end_sync.ensures.told told))
+
+pub returns-in_ok-work_on-in-Working-clause-keeps : goal.returns-in_ok-work_on-in-Working-clause-keeps
+returns-in_ok-work_on-in-Working-clause-keeps g c told = λ f on.
+    c.work_on.ensures.keeps told f
+
+pub returns-in_ok-next-in-Staged-clause-keeps : goal.returns-in_ok-next-in-Staged-clause-keeps
+returns-in_ok-next-in-Staged-clause-keeps g c told = λ f on.
+    let o = c.args.one.now in
+    let at = on_reached o o.reached (Staged c.in-Staged.ticket) (put_by o f) (g.D.Disk.story c.args.disk.now) c.in-Staged.is on in
+    ending_keeps (put_by o f) (c.rename_staged_record.ensures.finishes told (put_by o f) refl (new_of o.new (suits_reached o o.reached (Staged c.in-Staged.ticket) c.in-Staged.is c.requires.suits)) at)
+
+pub returns-in_ok-next-in-Kept-clause-keeps : goal.returns-in_ok-next-in-Kept-clause-keeps
+returns-in_ok-next-in-Kept-clause-keeps g c told = λ f on.
+    let o = c.args.one.now in
+    let at = on_reached o o.reached (Kept c.in-Kept.ticket) (put_by o f) (g.D.Disk.story c.args.disk.now) c.in-Kept.is on in
+    ending_keeps (put_by o f) (c.rename_staged_stamp.ensures.finishes told (put_by o f) (sym c.as_str.ensures) (inl at))
+
+pub returns-in_ok-next-in-Stored-clause-keeps : goal.returns-in_ok-next-in-Stored-clause-keeps
+returns-in_ok-next-in-Stored-clause-keeps g c told = λ f on.
+    let o = c.args.one.now in
+    let at = on_reached o o.reached (Stored c.in-Stored.ticket) (put_by o f) (g.D.Disk.story c.args.disk.now) c.in-Stored.is on in
+    ending_keeps (put_by o f) (c.rename_staged_stamp-in-Stored.ensures.finishes told (put_by o f) (sym c.as_str-in-Stored.ensures) (inr at))
+
+pub returns-in_ok-end_sync-in-Stamped-clause-keeps : goal.returns-in_ok-end_sync-in-Stamped-clause-keeps
+returns-in_ok-end_sync-in-Stamped-clause-keeps g c told = λ f on.
+    looking_keeps (put_by c.args.one.now f) (ends_passes (g.met.D.Disk.sound c.args.disk.now told) (c.end_sync.ensures.told told))

@@ -4,7 +4,7 @@ use Rattle.stamp_store.specs.Stamp.{TakesAway}
 use Rattle.store_model.specs.Publication.{stamp_at}
 use Rattle.build_store.proofs.OpeningRuns.{any_of, aside_opens, room_gone, room_laid, room_opens, room_swept}
 use Rattle.build_store.proofs.Phasing.{laid_aside}
-use Rattle.build_store.proofs.Sweeping.{on_ok_of}
+use Rattle.build_store.proofs.Sweeps.{on_ok_of}
 use Rattle.build_store.proofs.opening.prepare.Goals as goal
 
 pub returns-in_err-put_aside-clause-opens : goal.returns-in_err-put_aside-clause-opens

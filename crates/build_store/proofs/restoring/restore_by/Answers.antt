@@ -1,13 +1,9 @@
-use Rattle.build_store.proofs.Restored.{row_name, object_is, back_run, back_published, back_same}
-use Rattle.std.proofs.Common.{None, sym, subst}
+use Rattle.build_store.proofs.Restored.{object_is, back_run, back_published, back_same}
+use Rattle.std.proofs.Common.{None, ◌∙◌, ap}
 use Rattle.store_model.specs.Available.{task_folder}
-use Rattle.store_model.specs.Opened.{HasNoLitter}
-use Rattle.build_store.proofs.Rounding.{leaves_behind, leaves_same}
+use Rattle.build_store.proofs.AroundRestoring.{around_behind, around_same}
 use Rattle.build_store.proofs.Righting.{copied_back, copied_same}
 use Rattle.build_store.proofs.restoring.restore_by.Goals as goal
-
-pub put_task-requires-clause-name : goal.put_task-requires-clause-name
-put_task-requires-clause-name g c = row_name c.args.row.now c.requires.row
 
 pub returns-in_err-put_task-in-Ok-Some-clause-images : goal.returns-in_err-put_task-in-Ok-Some-clause-images
 returns-in_err-put_task-in-Ok-Some-clause-images g c told f at =
@@ -29,20 +25,20 @@ returns-in-Ok-None-clause-images g c told f at = back_same c.args.task.now c.arg
 
 pub returns-in_err-put_task-in-Ok-Some-clause-round : goal.returns-in_err-put_task-in-Ok-Some-clause-round
 returns-in_err-put_task-in-Ok-Some-clause-round g c told =
-    leaves_behind (task_folder c.args.task.now) None (c.object_of.ensures.others told) (c.put_task.ensures.round told)
+    around_behind (task_folder c.args.task.now) (c.object_of.ensures.others told) (c.put_task.ensures.round told)
 
 pub returns-in_ok-put_task-in-Ok-Some-clause-round : goal.returns-in_ok-put_task-in-Ok-Some-clause-round
 returns-in_ok-put_task-in-Ok-Some-clause-round g c told =
-    leaves_behind (task_folder c.args.task.now) None (c.object_of.ensures.others told) (c.put_task.ensures.round told)
+    around_behind (task_folder c.args.task.now) (c.object_of.ensures.others told) (c.put_task.ensures.round told)
 
 pub returns-in-Ok-None-clause-round : goal.returns-in-Ok-None-clause-round
-returns-in-Ok-None-clause-round g c told = leaves_same (task_folder c.args.task.now) None (c.object_of.ensures.others told)
+returns-in-Ok-None-clause-round g c told = around_same (task_folder c.args.task.now) (c.object_of.ensures.others told)
 
 pub returns-in_ok-put_task-in-Ok-Some-clause-swept : goal.returns-in_ok-put_task-in-Ok-Some-clause-swept
-returns-in_ok-put_task-in-Ok-Some-clause-swept g c told none = c.in_ok-put_task-in-Ok-Some.ensures.swept told (subst HasNoLitter (sym (c.object_of.ensures.others told).held) none)
+returns-in_ok-put_task-in-Ok-Some-clause-swept g c told q below none = c.in_ok-put_task-in-Ok-Some.ensures.swept told q below (ap (λ h. h q) (c.object_of.ensures.others told).held ∙ none)
 
 pub returns-in-Ok-None-clause-swept : goal.returns-in-Ok-None-clause-swept
-returns-in-Ok-None-clause-swept g c told none = subst HasNoLitter (sym (c.object_of.ensures.others told).held) none
+returns-in-Ok-None-clause-swept g c told q below none = ap (λ h. h q) (c.object_of.ensures.others told).held ∙ none
 
 pub returns-in_err-put_task-in-Ok-Some-clause-right : goal.returns-in_err-put_task-in-Ok-Some-clause-right
 returns-in_err-put_task-in-Ok-Some-clause-right g c told =
@@ -56,3 +52,9 @@ returns-in_ok-put_task-in-Ok-Some-clause-right g c told =
 
 pub returns-in-Ok-None-clause-right : goal.returns-in-Ok-None-clause-right
 returns-in-Ok-None-clause-right g c told = copied_same (task_folder c.args.task.now) c.args.row.now.unihash (c.object_of.ensures.others told)
+
+pub returns-in-Err-Failed-clause-round : goal.returns-in-Err-Failed-clause-round
+returns-in-Err-Failed-clause-round g c told = around_same (task_folder c.args.task.now) (c.object_of.ensures.others told)
+
+pub returns-in-Err-Memory-clause-round : goal.returns-in-Err-Memory-clause-round
+returns-in-Err-Memory-clause-round g c told = around_same (task_folder c.args.task.now) (c.object_of.ensures.others told)

@@ -1,4 +1,4 @@
-use Rattle.std.proofs.Common.{◌≡◌, ◌∙◌, sym, ap, subst, inl, List, ℕ, Some, None}
+use Rattle.std.proofs.Common.{◌≡◌, ◌∙◌, sym, ap, subst, inl, false, [], List, ℕ, Some, None}
 use Rattle.std.specs.Prelude.{if◌then◌else◌}
 use Rattle.tree_model.specs.declared.hash.Hash.{Hash}
 use Rattle.outside_traits.specs.Passes.{EachNow}
@@ -12,6 +12,11 @@ use Rattle.build_store.specs.View.{signed_by}
 use Rattle.build_store.proofs.Drafted.{line_readable}
 use Rattle.build_store.proofs.Stays.{object_name}
 use Rattle.build_store.proofs.TaskRuns.{drafted_run, kept_still, opened_of, opened_on}
+use Rattle.tree_model.specs.declared.entry.Entry.TheVariants.{File}
+use Rattle.build_store.specs.declared.pieces.OpenPublication.{OpenPublication}
+use Rattle.build_store.specs.Drafts.{file_of}
+use Rattle.build_store.specs.Phases.{put_of}
+use Rattle.build_store.proofs.Sweeps.{opens_no_litter}
 use Rattle.build_store.proofs.tasks.open_task.Goals as goal
 
 pub open_publication-requires-clause-folder : goal.open_publication-requires-clause-folder
@@ -21,72 +26,86 @@ pub open_publication-requires-clause-parts : goal.open_publication-requires-clau
 open_publication-requires-clause-parts g c = subst (λ (l : List ℕ). slashes l ≡ 1) (sym c.in_ok-folder.ensures) (folder_slashes c.args.task.now c.requires.place)
 
 pub open_publication-requires-clause-name : goal.open_publication-requires-clause-name
-open_publication-requires-clause-name g c = subst IsName (sym (c.in_ok-draft.ensures.draft c.args.tree c.requires.listed).name) (name_is_name c.args.sig.now)
+open_publication-requires-clause-name g c = subst IsName (sym c.requires.draft.name) (name_is_name c.args.sig.now)
 
 pub open_publication-requires-clause-object : goal.open_publication-requires-clause-object
 open_publication-requires-clause-object g c unihash is =
     let s = signed_by c.args.task.now c.args.sig.now in
-    let d = c.in_ok-draft.ensures.draft c.args.tree c.requires.listed in
+    let d = c.requires.draft in
     let obj : c.object_of-object.result ≡ object_for c.args.index.now s c.args.tree = c.object_of-object.ensures ∙ ap (λ (u : Hash). if c.args.task.now.sstate then Some u else None) d.unihash in
     object_name c.args.index.now s c.args.tree c.requires.rows unihash (sym obj ∙ is)
 
 pub open_publication-requires-clause-settled : goal.open_publication-requires-clause-settled
 open_publication-requires-clause-settled g c told settled =
-    subst (λ (l : List ℕ). EachNow (g.D.Disk.story c.args.disk.now) (λ image. image (stamp_at l) ≡ (g.D.Disk.story c.args.disk.now).held (stamp_at l))) (sym c.in_ok-folder.ensures) (c.requires.settled told settled)
+    subst (λ (l : List ℕ). EachNow (g.D.Disk.story c.args.disk.now) (λ image. image (stamp_at l) ≡ (g.D.Disk.story c.args.disk.now).held (stamp_at l))) (sym c.in_ok-folder.ensures) (c.requires.settled told)
 
 pub returns-clause-of : goal.returns-clause-of
 returns-clause-of g c =
     let s = signed_by c.args.task.now c.args.sig.now in
-    let d = c.in_ok-draft.ensures.draft c.args.tree c.requires.listed in
+    let d = c.requires.draft in
     let obj : c.object_of-object.result ≡ object_for c.args.index.now s c.args.tree = c.object_of-object.ensures ∙ ap (λ (u : Hash). if c.args.task.now.sstate then Some u else None) d.unihash in
-    opened_of c.args.index.now s c.args.tree c.in_ok-folder.folder c.object_of-object.result c.in_ok-draft.draft c.in_ok-folder.ensures obj d c.in_ok-draft.ensures.bytes c.in_ok-open_publication.field-0 c.in_ok-open_publication.ensures.parts c.in_ok-open_publication.ensures.fit
+    opened_of c.args.index.now s c.args.tree c.in_ok-folder.folder c.object_of-object.result c.args.draft c.in_ok-folder.ensures obj d c.requires.bytes c.in_ok-open_publication.field-0 c.in_ok-open_publication.ensures.parts c.in_ok-open_publication.ensures.fit
 
 pub returns-clause-opened : goal.returns-clause-opened
 returns-clause-opened g c told =
     let s = signed_by c.args.task.now c.args.sig.now in
-    let d = c.in_ok-draft.ensures.draft c.args.tree c.requires.listed in
+    let d = c.requires.draft in
     let obj : c.object_of-object.result ≡ object_for c.args.index.now s c.args.tree = c.object_of-object.ensures ∙ ap (λ (u : Hash). if c.args.task.now.sstate then Some u else None) d.unihash in
-    let is = opened_of c.args.index.now s c.args.tree c.in_ok-folder.folder c.object_of-object.result c.in_ok-draft.draft c.in_ok-folder.ensures obj d c.in_ok-draft.ensures.bytes c.in_ok-open_publication.field-0 c.in_ok-open_publication.ensures.parts c.in_ok-open_publication.ensures.fit in
+    let is = opened_of c.args.index.now s c.args.tree c.in_ok-folder.folder c.object_of-object.result c.args.draft c.in_ok-folder.ensures obj d c.requires.bytes c.in_ok-open_publication.field-0 c.in_ok-open_publication.ensures.parts c.in_ok-open_publication.ensures.fit in
     opened_on c.args.index.now s c.args.tree c.in_ok-open_publication.field-0 is (g.D.Disk.story c.open_publication.new.disk) (c.in_ok-open_publication.ensures.opened told)
 
 pub returns-clause-publishing : goal.returns-clause-publishing
 returns-clause-publishing g c told =
     let s = signed_by c.args.task.now c.args.sig.now in
-    let d = c.in_ok-draft.ensures.draft c.args.tree c.requires.listed in
+    let d = c.requires.draft in
     let obj : c.object_of-object.result ≡ object_for c.args.index.now s c.args.tree = c.object_of-object.ensures ∙ ap (λ (u : Hash). if c.args.task.now.sstate then Some u else None) d.unihash in
-    drafted_run c.args.index.now s c.args.tree c.in_ok-folder.folder c.object_of-object.result c.in_ok-draft.draft c.in_ok-folder.ensures obj d (g.D.Disk.story c.args.disk.now) (g.D.Disk.story c.open_publication.new.disk) (c.open_publication.ensures.publishing told)
+    drafted_run c.args.index.now s c.args.tree c.in_ok-folder.folder c.object_of-object.result c.args.draft c.in_ok-folder.ensures obj d (g.D.Disk.story c.args.disk.now) (g.D.Disk.story c.open_publication.new.disk) (c.open_publication.ensures.publishing told)
 
 pub returns-in_err-open_publication-clause-publishing : goal.returns-in_err-open_publication-clause-publishing
 returns-in_err-open_publication-clause-publishing g c told =
     let s = signed_by c.args.task.now c.args.sig.now in
-    let d = c.in_ok-draft.ensures.draft c.args.tree c.requires.listed in
+    let d = c.requires.draft in
     let obj : c.object_of-object.result ≡ object_for c.args.index.now s c.args.tree = c.object_of-object.ensures ∙ ap (λ (u : Hash). if c.args.task.now.sstate then Some u else None) d.unihash in
-    drafted_run c.args.index.now s c.args.tree c.in_ok-folder.folder c.object_of-object.result c.in_ok-draft.draft c.in_ok-folder.ensures obj d (g.D.Disk.story c.args.disk.now) (g.D.Disk.story c.open_publication.new.disk) (c.open_publication.ensures.publishing told)
+    drafted_run c.args.index.now s c.args.tree c.in_ok-folder.folder c.object_of-object.result c.args.draft c.in_ok-folder.ensures obj d (g.D.Disk.story c.args.disk.now) (g.D.Disk.story c.open_publication.new.disk) (c.open_publication.ensures.publishing told)
 
 pub returns-clause-keeps : goal.returns-clause-keeps
 returns-clause-keeps g c told =
     let s = signed_by c.args.task.now c.args.sig.now in
-    let d = c.in_ok-draft.ensures.draft c.args.tree c.requires.listed in
+    let d = c.requires.draft in
     let obj : c.object_of-object.result ≡ object_for c.args.index.now s c.args.tree = c.object_of-object.ensures ∙ ap (λ (u : Hash). if c.args.task.now.sstate then Some u else None) d.unihash in
-    let run = drafted_run c.args.index.now s c.args.tree c.in_ok-folder.folder c.object_of-object.result c.in_ok-draft.draft c.in_ok-folder.ensures obj d (g.D.Disk.story c.args.disk.now) (g.D.Disk.story c.open_publication.new.disk) (c.open_publication.ensures.publishing told) in
+    let run = drafted_run c.args.index.now s c.args.tree c.in_ok-folder.folder c.object_of-object.result c.args.draft c.in_ok-folder.ensures obj d (g.D.Disk.story c.args.disk.now) (g.D.Disk.story c.open_publication.new.disk) (c.open_publication.ensures.publishing told) in
     kept_still c.args.index.now s c.args.tree c.requires.rows (g.D.Disk.story c.args.disk.now) (g.D.Disk.story c.open_publication.new.disk) (c.requires.keeps told) run (c.open_publication.ensures.laid_out told)
 
 pub returns-in_err-open_publication-clause-keeps : goal.returns-in_err-open_publication-clause-keeps
 returns-in_err-open_publication-clause-keeps g c told =
     let s = signed_by c.args.task.now c.args.sig.now in
-    let d = c.in_ok-draft.ensures.draft c.args.tree c.requires.listed in
+    let d = c.requires.draft in
     let obj : c.object_of-object.result ≡ object_for c.args.index.now s c.args.tree = c.object_of-object.ensures ∙ ap (λ (u : Hash). if c.args.task.now.sstate then Some u else None) d.unihash in
-    let run = drafted_run c.args.index.now s c.args.tree c.in_ok-folder.folder c.object_of-object.result c.in_ok-draft.draft c.in_ok-folder.ensures obj d (g.D.Disk.story c.args.disk.now) (g.D.Disk.story c.open_publication.new.disk) (c.open_publication.ensures.publishing told) in
+    let run = drafted_run c.args.index.now s c.args.tree c.in_ok-folder.folder c.object_of-object.result c.args.draft c.in_ok-folder.ensures obj d (g.D.Disk.story c.args.disk.now) (g.D.Disk.story c.open_publication.new.disk) (c.open_publication.ensures.publishing told) in
     kept_still c.args.index.now s c.args.tree c.requires.rows (g.D.Disk.story c.args.disk.now) (g.D.Disk.story c.open_publication.new.disk) (c.requires.keeps told) run (c.open_publication.ensures.laid_out told)
 
 pub returns-clause-readable : goal.returns-clause-readable
 returns-clause-readable g c =
     let s = signed_by c.args.task.now c.args.sig.now in
-    let d = c.in_ok-draft.ensures.draft c.args.tree c.requires.listed in
-    inl (line_readable c.args.index.now s c.args.tree c.in_ok-draft.draft.new c.requires.rows c.requires.spelled c.entries-entries.ensures.tree c.requires.short d.agrees d.spells d.new)
+    let d = c.requires.draft in
+    inl (line_readable c.args.index.now s c.args.tree c.args.draft.new c.requires.rows c.requires.spelled c.entries-entries.ensures.tree c.requires.short d.agrees d.spells d.new)
 
 pub returns-in_err-open_publication-clause-readable : goal.returns-in_err-open_publication-clause-readable
 returns-in_err-open_publication-clause-readable g c =
     let s = signed_by c.args.task.now c.args.sig.now in
-    let d = c.in_ok-draft.ensures.draft c.args.tree c.requires.listed in
-    inl (line_readable c.args.index.now s c.args.tree c.in_ok-draft.draft.new c.requires.rows c.requires.spelled c.entries-entries.ensures.tree c.requires.short d.agrees d.spells d.new)
+    let d = c.requires.draft in
+    inl (line_readable c.args.index.now s c.args.tree c.args.draft.new c.requires.rows c.requires.spelled c.entries-entries.ensures.tree c.requires.short d.agrees d.spells d.new)
+
+pub returns-clause-reached : goal.returns-clause-reached
+returns-clause-reached g c = ap (λ (o : OpenPublication). o.reached) c.in_ok-open_publication.ensures.parts.1
+
+pub returns-clause-swept : goal.returns-clause-swept
+returns-clause-swept g c told =
+    let p = put_of c.in_ok-folder.folder c.args.draft.name c.args.tree c.object_of-object.result (file_of c.args.draft.new) (File false []) in
+    opens_no_litter p (g.D.Disk.story c.args.disk.now).held (g.D.Disk.story c.args.disk.now).held (g.D.Disk.story c.open_publication.new.disk).held (c.open_publication.ensures.opens told (File false [])).held (c.in_ok-open_publication.ensures.swept told)
+
+pub returns-clause-line : goal.returns-clause-line
+returns-clause-line g c =
+    let s = signed_by c.args.task.now c.args.sig.now in
+    let d = c.requires.draft in
+    line_readable c.args.index.now s c.args.tree c.args.draft.new c.requires.rows c.requires.spelled c.entries-entries.ensures.tree c.requires.short d.agrees d.spells d.new

@@ -1,7 +1,7 @@
 use Rattle.build_store.specs.OpenOnes.{items_of, progress_of}
 use Rattle.build_store.specs.View.{signed_by}
 use Rattle.build_store.proofs.Drafted.{File}
-use Rattle.build_store.proofs.TaskRuns.{kept_still, own_done, own_file, own_on, own_run}
+use Rattle.build_store.proofs.TaskRuns.{kept_still, own_done, own_entries, own_file, own_on, own_run}
 use Rattle.build_store.proofs.tasks.step_task.Goals as goal
 
 pub go_on-requires-clause-on : goal.go_on-requires-clause-on
@@ -47,3 +47,17 @@ returns-in_err-go_on-clause-keeps g c told =
     let a = g.D.Disk.story c.args.disk.now in
     let run = own_run c.args.index.now s o.tree o c.requires.of a (g.D.Disk.story c.go_on.new.disk) (c.go_on.ensures.publishing told (File c.args.index.now s o.tree) (own_on c.args.index.now s o.tree o c.requires.of (progress_of o) a (c.requires.on told))) in
     kept_still c.args.index.now s o.tree c.requires.rows a (g.D.Disk.story c.go_on.new.disk) (c.requires.keeps told) run (c.go_on.ensures.laid_out told)
+
+pub returns-clause-entries : goal.returns-clause-entries
+returns-clause-entries g c told =
+    let s = signed_by c.args.task.now c.args.sig.now in
+    let o = c.args.one.now in
+    let a = g.D.Disk.story c.args.disk.now in
+    own_entries c.args.index.now s o.tree o c.requires.of a (g.D.Disk.story c.go_on.new.disk) (c.go_on.ensures.keeps told (File c.args.index.now s o.tree) (own_on c.args.index.now s o.tree o c.requires.of (progress_of o) a (c.requires.on told)))
+
+pub returns-in_err-go_on-clause-entries : goal.returns-in_err-go_on-clause-entries
+returns-in_err-go_on-clause-entries g c told =
+    let s = signed_by c.args.task.now c.args.sig.now in
+    let o = c.args.one.now in
+    let a = g.D.Disk.story c.args.disk.now in
+    own_entries c.args.index.now s o.tree o c.requires.of a (g.D.Disk.story c.go_on.new.disk) (c.go_on.ensures.keeps told (File c.args.index.now s o.tree) (own_on c.args.index.now s o.tree o c.requires.of (progress_of o) a (c.requires.on told)))

@@ -1,4 +1,3 @@
-use Rattle.run_queue.proofs.Boarding.{landing_is_swept}
 use Rattle.run_queue.proofs.Landing.{flights_longer, goes_on, objects_longer, row_there, rows_longer, stand_to_longer, stands_longer, valid_longer}
 use Rattle.run_queue.proofs.flight_laws.landing_laws.Goals as goal
 
@@ -14,7 +13,6 @@ returns c = record {
     λ stands. stands_longer o plan tale opened w t one fl later closes entry ends image published stands,
     λ were. objects_longer o plan tale opened w t one fl later closes entry ends image were,
   );
-  swept = landing_is_swept;
   since = stand_to_longer;
   on = goes_on;
 }

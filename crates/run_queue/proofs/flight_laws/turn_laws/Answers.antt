@@ -1,4 +1,4 @@
-use Rattle.run_queue.proofs.Leaving.{left_after, litter_now, objects_now, stand_now, stand_since}
+use Rattle.run_queue.proofs.Leaving.{left_after, objects_now, stand_now, stand_since}
 use Rattle.run_queue.proofs.Staging.{turn_valid}
 use Rattle.run_queue.proofs.flight_laws.turn_laws.Goals as goal
 
@@ -10,6 +10,5 @@ returns c = record {
     λ stands. stand_now o plan tale opened w t one fl a b sound pass stands,
     λ since. stand_since o plan tale opened w t one fl a b sound pass since marked,
     λ were. objects_now o plan tale opened w t one fl a b pass were,
-    λ were. litter_now o plan tale opened w t one fl a.held a.held b.held pass.held were,
   );
 }

@@ -4,7 +4,9 @@ use Rattle.tale_model.specs.declared.fate.Fate.TheVariants.{Running}
 use Rattle.tale_model.specs.Fates.{fate_at}
 use Rattle.run_core.specs.History.{last_of}
 use Rattle.run_queue.specs.Turns.{fates_of}
+use Rattle.turn_lock.specs.declared.rule.Stage.TheVariants.{Holding}
 use Rattle.turn_lock.specs.Seats.{view_of}
+use Rattle.turn_lock.specs.Views.{tale_out}
 use Rattle.run_workers.specs.Seats.{BreakAdds, tale_of}
 use Rattle.run_workers.proofs.Turning.{runs_by_own, own_of, turned}
 use Rattle.run_workers.proofs.Unprinted.{faulty_by}
@@ -20,6 +22,11 @@ broke-requires g c =
           (runs_by_own (fates_of s.state) s.state.tale s.printed v.own v.number law (own_of v (tale_of s) c.begin-story.ensures.records) c.args.job.task c.requires.holds);
       fault = λ cut. faulty_by g.D.Disk.tells g.W.Sink.tells g.K.Began.alike g.D.Disk.story g.W.Sink.written g.W.Sink.faults g.K.Began.first g.K.Began.faults g.K.Began.gives s.state s.printed s.whole v.number v.own c.kept.ensures.since (own_of v (tale_of s) c.begin-story.ensures.records) (c.requires.unprinted cut);
     }
+
+pub end-requires-clause-turn : goal.end-requires-clause-turn
+end-requires-clause-turn g c =
+    let turn = c.begin-story.ensures.turn in
+    (turn.0, ap (λ v. v.stage) turn.1 ∙ ap (Holding turn.0) (sym (ap tale_out turn.1)), turn.2)
 
 pub returns-clause-breaks : goal.returns-clause-breaks
 returns-clause-breaks g c =

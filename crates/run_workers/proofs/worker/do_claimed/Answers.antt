@@ -1,12 +1,9 @@
-use Rattle.std.proofs.Common.{rules, ◌≡◌, ◌∙◌, ap, subst, false, Some, Ok, inr}
-use Rattle.std.specs.Prelude.{Bool, Result}
-use Rattle.tree_model.specs.declared.text.Mem.{Mem}
+use Rattle.std.proofs.Common.{rules, ◌≡◌, ◌∙◌, ap, false, Some, inr}
 use Rattle.turn_lock.specs.Seats.{view_of}
 use Rattle.run_workers.specs.Ended.{WasFaulty}
-use Rattle.run_workers.specs.Seats.{EndAdds}
 use Rattle.run_workers.specs.Told.{logged_in}
 use Rattle.run_workers.specs.declared.worker.Halt.TheVariants as halts
-use Rattle.run_workers.proofs.Ending.{closes_stopped, halts_later, halts_now, turned_seen}
+use Rattle.run_workers.proofs.Ending.{halts_later, halts_now, turned_seen}
 use Rattle.run_workers.proofs.Telling.{logged_split}
 use Rattle.run_workers.proofs.worker.do_claimed.Goals as goal
 
@@ -21,11 +18,3 @@ returns-then-not-printed-clause-ends g c =
     let unheard : c.args.printed ≡ false = search rules in
     halts_later first faulty (Some halts.Stopped) (logged_in v.seen) (logged_in w.seen) (logged_in on.0) (ap logged_in on.1 ∙ logged_split v.seen on.0)
     (halts_now first faulty halts.Stopped (logged_in v.seen) (inr (c.requires.faulty unheard)))
-
-pub returns-in-Ok-false-clause-closes : goal.returns-in-Ok-false-clause-closes
-returns-in-Ok-false-clause-closes g c =
-    let v = view_of c.args.seat.now in
-    let w = view_of c.ended.new.seat in
-    let ends = c.ended.ensures.ends in
-    let is : c.ended.result ≡ Ok false = search rules in
-    closes_stopped v.number c.args.job.task c.in-Ok.given v.own w.own ends.0 (subst (λ (r : Result Bool Mem). EndAdds v.number c.args.job.task c.in-Ok.given r ends.0) is ends.1) ends.2.mine

@@ -1,4 +1,4 @@
-use Rattle.std.proofs.Common.{◌≡◌, ◌∙◌, ap, subst, sym, ℕ, None, Some}
+use Rattle.std.proofs.Common.{◌∙◌, ap, subst, sym, ℕ, None, Some}
 use Rattle.std.specs.Prelude.{Option}
 use Rattle.outside_traits.specs.Fault.{Counts}
 use Rattle.turn_lock.specs.Seats.{view_of}
@@ -7,7 +7,6 @@ use Rattle.run_workers.specs.Runs.{by_bench}
 use Rattle.run_workers.specs.Told.{logged_in}
 use Rattle.run_workers.specs.Worked.{Worked}
 use Rattle.run_workers.specs.declared.worker.Halt.{Halt}
-use Rattle.run_workers.specs.declared.worker.Halt.TheVariants as halts
 use Rattle.run_workers.proofs.Ending.{ended_one}
 use Rattle.run_workers.proofs.worker.work.Goals as goal
 

@@ -7,7 +7,7 @@ use Rattle.run_workers.specs.Seats.{IsSameSeat}
 use Rattle.run_workers.specs.Ended.{AllEnded, Ended, WasFaulty}
 use Rattle.run_workers.specs.Told.{logged_in}
 use Rattle.run_workers.specs.Worked.{AllWorked, IsJoined, IsWorked}
-use Rattle.run_workers.proofs.Ending.{all_seen, ended_push, none_ended, one_seen, want_first, want_second}
+use Rattle.run_workers.proofs.Ending.{all_seen, ended_push, one_seen, want_first, want_second}
 use Rattle.run_workers.proofs.Spreading.{all_long, all_push, one_more, taken_in}
 use Rattle.run_workers.proofs.workers.+fn-spread-join+arg2+spread.Goals as goal
 

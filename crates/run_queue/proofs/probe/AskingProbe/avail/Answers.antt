@@ -18,4 +18,4 @@ returns-in-Err-clause-stays g c =
     let w = c.available.new.self in
     let plan = c.args.self.now.plan.now in
     let why = clash_unknown plan v.rows (name_of c.args.sig.now) (signature_bytes c.args.sig.now) (g.D.Disk.faults v.disk) (g.D.Disk.faults w.disk) c.in-Err.fault (asked_name plan v.rows c.args.task c.args.sig.now c.requires.sig) c.in-Err.ensures.refused c.in-Err.ensures.cause in
-    (refl, refl, refl, refl, refl, asks_met plan g.D.Disk.tells g.D.Disk.story g.D.Disk.faults v w c.args.self.now.fault.now c.keep.new.kept c.in-Err.fault c.keep.result c.in-Err.ensures.same.rows c.in-Err.ensures.same.kept c.in-Err.ensures.images c.in-None.is why c.keep.ensures)
+    (refl, refl, refl, refl, refl, asks_met plan g.D.Disk.tells g.D.Disk.story g.D.Disk.faults v w c.args.self.now.fault.now c.keep.new.kept c.in-Err.fault c.keep.result c.in-Err.ensures.same c.in-Err.ensures.images c.in-None.is why c.keep.ensures)

@@ -8,4 +8,4 @@ returns-in-Err-clause-stays g c =
     let v = c.args.self.now.store.now in
     let count = g.D.Disk.faults v.disk in
     let why = clash_unknown c.args.self.now.plan.now v.rows c.args.name.now c.args.sig.now count count c.in-Err.fault c.requires c.in-Err.ensures.refused (counts_none count c.in-Err.fault c.in-Err.ensures.inside) in
-    (refl, refl, refl, refl, refl, asks_met c.args.self.now.plan.now g.D.Disk.tells g.D.Disk.story g.D.Disk.faults v v c.args.self.now.fault.now c.keep.new.kept c.in-Err.fault c.keep.result refl refl (λ t. same_story (g.D.Disk.story v.disk)) c.in-None.is why c.keep.ensures)
+    (refl, refl, refl, refl, refl, asks_met c.args.self.now.plan.now g.D.Disk.tells g.D.Disk.story g.D.Disk.faults v v c.args.self.now.fault.now c.keep.new.kept c.in-Err.fault c.keep.result (record { rows = refl; kept = refl; opened = refl; faultless = refl }) (λ t. same_story (g.D.Disk.story v.disk)) c.in-None.is why c.keep.ensures)

@@ -27,7 +27,7 @@ invariant_of-self g c =
       c.self.invariant.0,
       c.self.invariant.1,
       subst (λ (r : List EquivRow). IsCurrent no_meaning (record { plan = plan; rows = r }) c.in-Ok.replan) (sym rows) current,
-      state_known (g.D.Disk.faults old.disk) (g.D.Disk.faults new.disk) _ new (known_in c.in-Ok.replan) c.self.invariant.3 faultless c.in-Ok.ensures.fine
+      state_known (g.D.Disk.faults old.disk) (g.D.Disk.faults new.disk) _ new (known_in c.in-Ok.replan) c.self.invariant.3 faultless c.in-Ok.ensures.fine c.in-Ok.ensures.same.faultless
           (subst (λ (r : List EquivRow). IsUpToDate plan r (known_in c.in-Ok.replan)) (sym rows) (up_to_date no_meaning (record { plan = plan; rows = old.rows }) c.in-Ok.replan (sound_ordered plan c.self.invariant.3.sound) current)),
     )
 

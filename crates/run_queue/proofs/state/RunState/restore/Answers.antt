@@ -89,7 +89,6 @@ returns-in-Ok-clause-run g c tells o run =
     (g.met.D.Disk.sound i.store.disk tells) store (g.met.D.Disk.sound store.disk tells) c.in-Ok-true.ensures.books begun begins (set_here i.begun.items c.args.task (Some avails.Object) (omega (arith, lt, long))) puts
     c.note_waiting.new.self c.args.number free
     (λ x is u. subst (λ (f : Bool). HasPutObject g.D.Disk.tells (g.D.Disk.story i.store.disk) (g.D.Disk.story store.disk) i.store.rows x f) c.in-Ok-true.field-0-test (c.in-Ok-true.ensures.restored x is) tells)
-    (c.in-Ok-true.ensures.swept tells)
     n.notes (n.moment tells) n.fault
 
 pub returns-in-Ok-false-clause-restores : goal.returns-in-Ok-false-clause-restores

@@ -1,4 +1,5 @@
-use Rattle.std.proofs.Common.{◌≡◌, ◌∙◌, ◌++◌, sym, ap, subst, refl, ℕ, Some, None, inr}
+use Rattle.std.proofs.Common.{◌≡◌, ◌∙◌, ◌++◌, sym, ap, subst, refl, ℕ, Some, None, inl, inr}
+use Rattle.std.specs.Option.{option_map}
 use Rattle.std.specs.Prelude.{IfSome, Option, IsSome}
 use Rattle.std.specs.List.{slice_get}
 use Rattle.outside_traits.proofs.Images.{held-image}
@@ -12,11 +13,11 @@ use Rattle.task_worker.specs.declared.given.Job.{Job}
 use Rattle.task_worker.proofs.Building.{sound_is_runnable}
 use Rattle.run_queue.specs.Keeps.{IsRun, IsUpToDate, Prints}
 use Rattle.run_queue.specs.Outputs.{Finds}
-use Rattle.run_queue.specs.Seen.{RunView, Seen, seen}
+use Rattle.run_queue.specs.Seen.{RunView, Seen, known_in, seen}
 use Rattle.run_queue.specs.Turns.{Begins, IsCleanJob, Marks, MayDo, fates_of}
 use Rattle.run_queue.proofs.Agreement.{some_known}
 use Rattle.run_queue.proofs.Passed.{passed_view}
-use Rattle.run_queue.proofs.ReadyJobs.{below_settled, job_is_clean, large_says, may_large, may_start, ready_lt, settles_large, settles_started, started_order, task_at, told_missing, too_large_order, too_large_over}
+use Rattle.run_queue.proofs.ReadyJobs.{below_settled, job_is_clean, large_says, may_large, not_begun, may_start, ready_lt, settles_large, settles_started, started_order, task_at, told_missing, too_large_order, too_large_over}
 use Rattle.run_queue.proofs.There.{tells_none}
 use Rattle.run_queue.proofs.Unsettled.{noted_run, noted_text}
 use Rattle.run_queue.proofs.state.RunState.start.Goals as goal
@@ -43,22 +44,25 @@ note_waiting-requires-in-Ok-None-clause-order g c =
 pub returns-in_err-note_waiting-in-Ok-Some-clause-run : goal.returns-in_err-note_waiting-in-Ok-Some-clause-run
 returns-in_err-note_waiting-in-Ok-Some-clause-run g c tells o run =
     let V : Type 0 = RunView g.row.D.Denot g.row.W.Denot in
+    let old : V = record { plan = c.self.inside.plan; options = c.self.inside.options; store = c.self.inside.store; sink = c.self.inside.sink; sink_failed = c.self.inside.sink_failed; fault = c.self.inside.fault; tale = c.self.inside.tale.items; begun = c.self.inside.begun.items; known = option_map known_in c.self.inside.replan } in
     let run' = subst (λ (v : V). IsRun o (seen g.D.Disk.story g.W.Sink.written v)) (sym c.self.view_is) run in
     subst (λ (v : V). IsRun o (seen g.D.Disk.story g.W.Sink.written v)) (sym c.in_err-note_waiting-in-Ok-Some.ensures.wanting)
-    (passed_view g.D.Disk.story g.W.Sink.written o _ c.job_of.new.store c.self.inside.fault c.in-Ok-Some.ensures.books (c.in-Ok-Some.ensures.images tells) (λ e. e) run')
+    (passed_view g.D.Disk.story g.W.Sink.written o old c.job_of.new.store c.self.inside.fault c.in-Ok-Some.ensures.books (c.in-Ok-Some.ensures.images tells) (λ e. e) run')
 
 pub returns-in_err-note_waiting-in-Ok-None-clause-run : goal.returns-in_err-note_waiting-in-Ok-None-clause-run
 returns-in_err-note_waiting-in-Ok-None-clause-run g c tells o run =
     let V : Type 0 = RunView g.row.D.Denot g.row.W.Denot in
+    let old : V = record { plan = c.self.inside.plan; options = c.self.inside.options; store = c.self.inside.store; sink = c.self.inside.sink; sink_failed = c.self.inside.sink_failed; fault = c.self.inside.fault; tale = c.self.inside.tale.items; begun = c.self.inside.begun.items; known = option_map known_in c.self.inside.replan } in
     let run' = subst (λ (v : V). IsRun o (seen g.D.Disk.story g.W.Sink.written v)) (sym c.self.view_is) run in
     subst (λ (v : V). IsRun o (seen g.D.Disk.story g.W.Sink.written v)) (sym c.in_err-note_waiting-in-Ok-None.ensures.wanting)
-    (passed_view g.D.Disk.story g.W.Sink.written o _ c.job_of.new.store c.self.inside.fault c.in-Ok-None.ensures.books (c.in-Ok-None.ensures.images tells) (λ e. e) run')
+    (passed_view g.D.Disk.story g.W.Sink.written o old c.job_of.new.store c.self.inside.fault c.in-Ok-None.ensures.books (c.in-Ok-None.ensures.images tells) (λ e. e) run')
 
 pub returns-in-Err-Memory-clause-run : goal.returns-in-Err-Memory-clause-run
 returns-in-Err-Memory-clause-run g c tells o run =
     let V : Type 0 = RunView g.row.D.Denot g.row.W.Denot in
+    let old : V = record { plan = c.self.inside.plan; options = c.self.inside.options; store = c.self.inside.store; sink = c.self.inside.sink; sink_failed = c.self.inside.sink_failed; fault = c.self.inside.fault; tale = c.self.inside.tale.items; begun = c.self.inside.begun.items; known = option_map known_in c.self.inside.replan } in
     let run' = subst (λ (v : V). IsRun o (seen g.D.Disk.story g.W.Sink.written v)) (sym c.self.view_is) run in
-    passed_view g.D.Disk.story g.W.Sink.written o _ c.job_of.new.store c.self.inside.fault c.in-Err-Memory.ensures.books (c.in-Err-Memory.ensures.images tells) (λ e. e) run'
+    passed_view g.D.Disk.story g.W.Sink.written o old c.job_of.new.store c.self.inside.fault c.in-Err-Memory.ensures.books (c.in-Err-Memory.ensures.images tells) (λ e. e) run'
 
 pub returns-in_ok-note_waiting-in-Ok-Some-clause-claims : goal.returns-in_ok-note_waiting-in-Ok-Some-clause-claims
 returns-in_ok-note_waiting-in-Ok-Some-clause-claims g c =
@@ -79,6 +83,7 @@ returns-in_ok-note_waiting-in-Ok-Some-clause-claims g c =
 pub returns-in_ok-note_waiting-in-Ok-Some-clause-clean : goal.returns-in_ok-note_waiting-in-Ok-Some-clause-clean
 returns-in_ok-note_waiting-in-Ok-Some-clause-clean g c tells o run =
     let V : Type 0 = RunView g.row.D.Denot g.row.W.Denot in
+    let old : V = record { plan = c.self.inside.plan; options = c.self.inside.options; store = c.self.inside.store; sink = c.self.inside.sink; sink_failed = c.self.inside.sink_failed; fault = c.self.inside.fault; tale = c.self.inside.tale.items; begun = c.self.inside.begun.items; known = option_map known_in c.self.inside.replan } in
     let run' = subst (λ (v : V). IsRun o (seen g.D.Disk.story g.W.Sink.written v)) (sym c.self.view_is) run in
     let answer = subst (λ (v : V). MayDo v (next.Start c.args.task)) (sym c.self.view_is) c.requires.answer in
     let free = subst (λ (v : V). IsFree (fates_of v) c.args.number) (sym c.self.view_is) c.requires.free in
@@ -86,13 +91,14 @@ returns-in_ok-note_waiting-in-Ok-Some-clause-clean g c tells o run =
     let task = task_at c.self.inside.plan.tasks c.args.task (ready_lt c.self.inside.plan answer.known c.self.inside.tale.items c.args.task c.args.number now.need answer.may.0) in
     let script = subst (λ (f : Option Job). IfSome f (λ job. (job.task ≡ c.args.task) × ((t : PlanTask) → slice_get c.self.inside.plan.tasks c.args.task ≡ Some t → job.script ≡ t.script))) c.in-Ok-Some.field-0-is c.in-Ok-Some.ensures.script in
     let found = subst (λ (f : Option Job). Finds c.self.inside.plan.tasks task.0 (g.D.Disk.story c.self.inside.store.disk).held f) c.in-Ok-Some.field-0-is (c.in-Ok-Some.ensures.found tells task.0 task.1) in
-    let settled = below_settled o (seen g.D.Disk.story g.W.Sink.written _) answer.known c.args.task c.args.number task.0 task.1 run' c.self.invariant.3.orderly answer.is_known now free answer.may in
+    let settled = below_settled o (seen g.D.Disk.story g.W.Sink.written old) answer.known c.args.task c.args.number task.0 task.1 run' c.self.invariant.3.orderly answer.is_known now free answer.may in
     subst (λ (v : V). IsCleanJob o (seen g.D.Disk.story g.W.Sink.written v) c.in-Ok-Some.job) c.self.view_is
-    (job_is_clean o (seen g.D.Disk.story g.W.Sink.written _) c.self.invariant.3.sound c.args.task task.0 task.1 (run'.stands (g.D.Disk.story c.self.inside.store.disk).held (held-image (g.D.Disk.story c.self.inside.store.disk) (g.met.D.Disk.sound c.self.inside.store.disk tells))) settled c.in-Ok-Some.job script.0 found)
+    (job_is_clean o (seen g.D.Disk.story g.W.Sink.written old) c.self.invariant.3.sound c.args.task task.0 task.1 (run'.stands (g.D.Disk.story c.self.inside.store.disk).held (held-image (g.D.Disk.story c.self.inside.store.disk) (g.met.D.Disk.sound c.self.inside.store.disk tells))) settled c.in-Ok-Some.job script.0 found)
 
 pub returns-in_ok-note_waiting-in-Ok-Some-clause-run : goal.returns-in_ok-note_waiting-in-Ok-Some-clause-run
 returns-in_ok-note_waiting-in-Ok-Some-clause-run g c tells o run =
     let V : Type 0 = RunView g.row.D.Denot g.row.W.Denot in
+    let old : V = record { plan = c.self.inside.plan; options = c.self.inside.options; store = c.self.inside.store; sink = c.self.inside.sink; sink_failed = c.self.inside.sink_failed; fault = c.self.inside.fault; tale = c.self.inside.tale.items; begun = c.self.inside.begun.items; known = option_map known_in c.self.inside.replan } in
     let run' = subst (λ (v : V). IsRun o (seen g.D.Disk.story g.W.Sink.written v)) (sym c.self.view_is) run in
     let answer = subst (λ (v : V). MayDo v (next.Start c.args.task)) (sym c.self.view_is) c.requires.answer in
     let free = subst (λ (v : V). IsFree (fates_of v) c.args.number) (sym c.self.view_is) c.requires.free in
@@ -100,14 +106,15 @@ returns-in_ok-note_waiting-in-Ok-Some-clause-run g c tells o run =
     let task = task_at c.self.inside.plan.tasks c.args.task (ready_lt c.self.inside.plan answer.known c.self.inside.tale.items c.args.task c.args.number now.need answer.may.0) in
     let script = subst (λ (f : Option Job). IfSome f (λ job. (job.task ≡ c.args.task) × ((t : PlanTask) → slice_get c.self.inside.plan.tasks c.args.task ≡ Some t → job.script ≡ t.script))) c.in-Ok-Some.field-0-is c.in-Ok-Some.ensures.script in
     let found = subst (λ (f : Option Job). Finds c.self.inside.plan.tasks task.0 (g.D.Disk.story c.self.inside.store.disk).held f) c.in-Ok-Some.field-0-is (c.in-Ok-Some.ensures.found tells task.0 task.1) in
-    let s : Seen = seen g.D.Disk.story g.W.Sink.written _ in
+    let s : Seen = seen g.D.Disk.story g.W.Sink.written old in
     let settled = below_settled o s answer.known c.args.task c.args.number task.0 task.1 run' c.self.invariant.3.orderly answer.is_known now free answer.may in
     let clean = job_is_clean o s c.self.invariant.3.sound c.args.task task.0 task.1 (run'.stands (g.D.Disk.story c.self.inside.store.disk).held (held-image (g.D.Disk.story c.self.inside.store.disk) (g.met.D.Disk.sound c.self.inside.store.disk tells))) settled c.in-Ok-Some.job script.0 found in
-    let passed = passed_view g.D.Disk.story g.W.Sink.written o _ c.job_of.new.store c.self.inside.fault c.in-Ok-Some.ensures.books (c.in-Ok-Some.ensures.images tells) (λ e. e) run' in
+    let passed = passed_view g.D.Disk.story g.W.Sink.written o old c.job_of.new.store c.self.inside.fault c.in-Ok-Some.ensures.books (c.in-Ok-Some.ensures.images tells) (λ e. e) run' in
     let n = c.in_ok-note_waiting-in-Ok-Some.ensures in
-    noted_run g.D.Disk.story g.W.Sink.written o _ c.note_waiting.new.self c.args.number (events.Started c.args.task c.args.number) n.notes (n.moment tells) n.fault
+    noted_run g.D.Disk.story g.W.Sink.written o (record old { store = c.job_of.new.store; fault = c.self.inside.fault }) c.note_waiting.new.self c.args.number (events.Started c.args.task c.args.number) n.notes (n.moment tells) n.fault
     (settles_started o s answer.known c.args.task c.args.number task.0 task.1 run' c.self.invariant.3.orderly answer.is_known now free answer.may _)
     passed
+    (inl (not_begun o s answer.known c.args.task c.args.number task.0 task.1 run' c.self.invariant.3.orderly answer.is_known now free answer.may (ap (λ (v : V). v.fault) c.self.view_is ∙ c.requires.faultless)))
     (may_start o s answer.known c.args.task c.args.number task.0 task.1 run' c.self.invariant.3.orderly answer.is_known now free answer.may _ c.in-Ok-Some.job script.0 clean)
     tt
     (told_missing o s answer.known c.args.task c.args.number task.0 task.1 run' c.self.invariant.3.orderly answer.is_known now free answer.may)
@@ -115,21 +122,23 @@ returns-in_ok-note_waiting-in-Ok-Some-clause-run g c tells o run =
 pub returns-in_ok-note_waiting-in-Ok-None-clause-run : goal.returns-in_ok-note_waiting-in-Ok-None-clause-run
 returns-in_ok-note_waiting-in-Ok-None-clause-run g c tells o run =
     let V : Type 0 = RunView g.row.D.Denot g.row.W.Denot in
+    let old : V = record { plan = c.self.inside.plan; options = c.self.inside.options; store = c.self.inside.store; sink = c.self.inside.sink; sink_failed = c.self.inside.sink_failed; fault = c.self.inside.fault; tale = c.self.inside.tale.items; begun = c.self.inside.begun.items; known = option_map known_in c.self.inside.replan } in
     let run' = subst (λ (v : V). IsRun o (seen g.D.Disk.story g.W.Sink.written v)) (sym c.self.view_is) run in
     let answer = subst (λ (v : V). MayDo v (next.Start c.args.task)) (sym c.self.view_is) c.requires.answer in
     let free = subst (λ (v : V). IsFree (fates_of v) c.args.number) (sym c.self.view_is) c.requires.free in
     let now = some_known (IsUpToDate c.self.inside.plan c.self.inside.store.rows) _ answer.known answer.is_known c.self.invariant.3.current in
     let task = task_at c.self.inside.plan.tasks c.args.task (ready_lt c.self.inside.plan answer.known c.self.inside.tale.items c.args.task c.args.number now.need answer.may.0) in
     let found = subst (λ (f : Option Job). Finds c.self.inside.plan.tasks task.0 (g.D.Disk.story c.self.inside.store.disk).held f) c.in-Ok-None.field-0-is (c.in-Ok-None.ensures.found tells task.0 task.1) in
-    let s : Seen = seen g.D.Disk.story g.W.Sink.written _ in
+    let s : Seen = seen g.D.Disk.story g.W.Sink.written old in
     let settled = below_settled o s answer.known c.args.task c.args.number task.0 task.1 run' c.self.invariant.3.orderly answer.is_known now free answer.may in
     let large = too_large_over o s c.self.invariant.3.sound c.args.task task.0 task.1 (run'.stands (g.D.Disk.story c.self.inside.store.disk).held (held-image (g.D.Disk.story c.self.inside.store.disk) (g.met.D.Disk.sound c.self.inside.store.disk tells))) settled found in
     let says = large_says o s answer.known c.args.task c.args.number task.0 task.1 run' c.self.invariant.3.orderly answer.is_known now free answer.may large.0 large.1 large.2 large.3 in
-    let passed = passed_view g.D.Disk.story g.W.Sink.written o _ c.job_of.new.store c.self.inside.fault c.in-Ok-None.ensures.books (c.in-Ok-None.ensures.images tells) (λ e. e) run' in
+    let passed = passed_view g.D.Disk.story g.W.Sink.written o old c.job_of.new.store c.self.inside.fault c.in-Ok-None.ensures.books (c.in-Ok-None.ensures.images tells) (λ e. e) run' in
     let n = c.in_ok-note_waiting-in-Ok-None.ensures in
-    noted_run g.D.Disk.story g.W.Sink.written o _ c.note_waiting-in-Ok-None.new.self c.args.number (events.Failed c.args.task why.TooLarge) n.notes (n.moment tells) n.fault
+    noted_run g.D.Disk.story g.W.Sink.written o (record old { store = c.job_of.new.store; fault = c.self.inside.fault }) c.note_waiting-in-Ok-None.new.self c.args.number (events.Failed c.args.task why.TooLarge) n.notes (n.moment tells) n.fault
     (settles_large o s answer.known c.args.task c.args.number task.0 task.1 run' c.self.invariant.3.orderly answer.is_known now free answer.may _)
     passed
+    (inl (not_begun o s answer.known c.args.task c.args.number task.0 task.1 run' c.self.invariant.3.orderly answer.is_known now free answer.may (ap (λ (v : V). v.fault) c.self.view_is ∙ c.requires.faultless)))
     (may_large o s answer.known c.args.task c.args.number task.0 task.1 run' c.self.invariant.3.orderly answer.is_known now free answer.may _ says)
     (inr (says, refl))
     (tells_none o s.plan s.options s.tale (events.Failed c.args.task why.TooLarge) refl)
@@ -142,9 +151,10 @@ returns-in-Err-clause-claims g c =
 pub returns-in-Err-clause-run : goal.returns-in-Err-clause-run
 returns-in-Err-clause-run g c tells o run =
     let V : Type 0 = RunView g.row.D.Denot g.row.W.Denot in
+    let old : V = record { plan = c.self.inside.plan; options = c.self.inside.options; store = c.self.inside.store; sink = c.self.inside.sink; sink_failed = c.self.inside.sink_failed; fault = c.self.inside.fault; tale = c.self.inside.tale.items; begun = c.self.inside.begun.items; known = option_map known_in c.self.inside.replan } in
     let run' = subst (λ (v : V). IsRun o (seen g.D.Disk.story g.W.Sink.written v)) (sym c.self.view_is) run in
     let faultless : c.self.inside.fault ≡ None = ap (λ v. v.fault) c.self.view_is ∙ c.requires.faultless in
-    passed_view g.D.Disk.story g.W.Sink.written o _ c.job_of.new.store c.keep.new.kept c.in-Err.ensures.books (c.in-Err.ensures.images tells) (λ e. faultless) run'
+    passed_view g.D.Disk.story g.W.Sink.written o old c.job_of.new.store c.keep.new.kept c.in-Err.ensures.books (c.in-Err.ensures.images tells) (λ e. faultless) run'
 
 pub returns-in_ok-note_waiting-in-Ok-Some-clause-text : goal.returns-in_ok-note_waiting-in-Ok-Some-clause-text
 returns-in_ok-note_waiting-in-Ok-Some-clause-text g c tells base prints =

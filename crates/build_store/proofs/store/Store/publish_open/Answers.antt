@@ -1,0 +1,54 @@
+use Rattle.std.proofs.Common.{◌≢◌, refl, subst, inr, List}
+use Rattle.outside_traits.specs.Passes.{Same}
+use Rattle.outside_traits.proofs.Runs.{passes_none}
+use Rattle.store_model.specs.Available.{task_folder}
+use Rattle.store_model.specs.Spelling.{name_of}
+use Rattle.store_model.proofs.Ordered.{each_weaker}
+use Rattle.build_store.specs.declared.pieces.OpenPublication.{OpenPublication}
+use Rattle.build_store.specs.Openings.{OpensOne, open_view}
+use Rattle.build_store.specs.Publication.{publication}
+use Rattle.build_store.specs.View.{open_in, signed_by}
+use Rattle.build_store.proofs.Beside.{IsFreeOf, free_by}
+use Rattle.build_store.proofs.Opened.{none_named}
+use Rattle.build_store.proofs.Several.{view_others}
+use Rattle.build_store.proofs.GoingRuns.{publishing_same}
+use Rattle.build_store.proofs.store.Store.publish_open.Goals as goal
+
+pub returns-in_err-draft-clause-publishing : goal.returns-in_err-draft-clause-publishing
+returns-in_err-draft-clause-publishing g c told = rw (← c.self.view_is) (publishing_same (publication c.self.inside.index (signed_by c.args.task.now c.args.sig.now) c.args.tree) (passes_none (g.D.Disk.story c.self.inside.disk) Same (λ i. refl)))
+
+pub returns-in-None-clause-publishing : goal.returns-in-None-clause-publishing
+returns-in-None-clause-publishing g c told = rw (← c.self.view_is) (publishing_same (publication c.self.inside.index (signed_by c.args.task.now c.args.sig.now) c.args.tree) (passes_none (g.D.Disk.story c.self.inside.disk) Same (λ i. refl)))
+
+pub returns-in-Ok-clause-opens : goal.returns-in-Ok-clause-opens
+returns-in-Ok-clause-opens g c =
+    let s = signed_by c.args.task.now c.args.sig.now in
+    rw (← c.self.view_is) (record {
+      opened = subst (λ (l : List OpenPublication). OpensOne (task_folder c.args.task.now) (open_view s c.args.tree) (open_in l) (open_in c.open_beside-done.new.open_ones.items)) c.prepare.ensures.listed c.in-Ok.ensures.opens;
+      kept = rw c.in-Some.is at c.in_ok-draft.ensures.kept;
+      faultless = refl;
+      agrees = c.in-Ok.ensures.agrees;
+      readable = c.in-Ok.ensures.line;
+    })
+
+pub returns-in-Ok-clause-apart : goal.returns-in-Ok-clause-apart
+returns-in-Ok-clause-apart g c =
+    let s = signed_by c.args.task.now c.args.sig.now in
+    let rows = c.self.inside.index in
+    let xs = c.self.inside.open_ones.items in
+    let closed = rw (← c.self.view_is) at c.requires.closed in
+    let draft = rw c.in-Some.is at c.in_ok-draft.ensures.draft in
+    let apart = rw c.in-Some.is at c.in_ok-draft.ensures.apart in
+    let free = free_by rows s c.args.tree c.in-Some.draft.name (draft c.args.tree c.requires.listed).name xs (view_others (task_folder c.args.task.now) xs closed) (apart c.args.tree c.requires.listed) in
+    inr (rw (← c.self.view_is) (none_named (name_of c.args.sig.now) xs (each_weaker (IsFreeOf rows s c.args.tree) (λ (one : OpenPublication). one.name ≢ name_of c.args.sig.now) (λ one is. is.1) xs free)))
+
+pub returns-in-Err-clause-apart : goal.returns-in-Err-clause-apart
+returns-in-Err-clause-apart g c =
+    let s = signed_by c.args.task.now c.args.sig.now in
+    let rows = c.self.inside.index in
+    let xs = c.self.inside.open_ones.items in
+    let closed = rw (← c.self.view_is) at c.requires.closed in
+    let draft = rw c.in-Some.is at c.in_ok-draft.ensures.draft in
+    let apart = rw c.in-Some.is at c.in_ok-draft.ensures.apart in
+    let free = free_by rows s c.args.tree c.in-Some.draft.name (draft c.args.tree c.requires.listed).name xs (view_others (task_folder c.args.task.now) xs closed) (apart c.args.tree c.requires.listed) in
+    inr (rw (← c.self.view_is) (none_named (name_of c.args.sig.now) xs (each_weaker (IsFreeOf rows s c.args.tree) (λ (one : OpenPublication). one.name ≢ name_of c.args.sig.now) (λ one is. is.1) xs free)))
