@@ -33,6 +33,9 @@ const HERE: &str = ".";
 /// The file that is there while a run may have changed what it hasn't synced, from the current folder.
 const UNSYNCED: &str = "build/bench/unsynced";
 
+/// The folder of what is written before it counts.
+const TEMPORARY: &str = "build/tmp";
+
 /// How many changed files and folders are made durable one by one, whatever that takes.
 const FEW: usize = 8;
 
@@ -84,6 +87,9 @@ struct BuildFolder<'a, R> {
     /// The folders that are known to be durable, and their names with them.
     settled: BTreeSet<String>,
 
+    /// The folders for temporary files that became empty. They go as the disk is closed.
+    emptied: BTreeSet<String>,
+
     /// How many microseconds the last sync of files and folders by themselves took for each, if there was one.
     pace: Option<u64>,
 
@@ -120,6 +126,7 @@ impl<'a, R: AllocGlobal> FolderDisk<'a, R> {
     {
         let changed = BTreeMap::new(rt.alloc());
         let settled = BTreeSet::new(rt.alloc());
+        let emptied = BTreeSet::new(rt.alloc());
         let seen = SeenFolders::none(rt.alloc());
         let listed = Listed::none(rt.alloc());
         let whole = String::new(rt.alloc());
@@ -130,6 +137,7 @@ impl<'a, R: AllocGlobal> FolderDisk<'a, R> {
                 calls: 0,
                 lock: None,
                 is_marked: false,
+                emptied,
                 changed,
                 settled,
                 pace: None,
@@ -222,13 +230,23 @@ impl<'a, R: AllocGlobal> FolderDisk<'a, R> {
 impl<'a, R: Files> FolderDisk<'a, R> {
     ghost use Rattle.std.specs.Prelude.{◌≡◌};
 
-    /// Says to later processes that all is durable which this object changed, where it is.
+    /// Says to later processes that all is durable which this object changed, where it is, and removes the folders for temporary files that are empty.
     pub fn close(&mut self)
         ensures { self.new.faults ≡ self.old.faults }
     {
+        self.folder.remove_emptied();
         if self.folder.is_marked && self.folder.changed.is_empty() {
             // Where it stays, a later process syncs once more.
             let _ = fs::remove_file(&self.folder.rt, UNSYNCED);
+        }
+    }
+}
+
+impl<'a, R: Files> BuildFolder<'a, R> {
+    /// Removes the folders for temporary files that are empty.
+    fn remove_emptied(&self) {
+        for folder in &self.emptied {
+            remove_temporary(&self.rt, folder.as_str());
         }
     }
 }
@@ -594,6 +612,11 @@ impl<'a, R: Files + Clock + Locking + Syncing + AllocGlobal + Clone + Drop> Buil
     fn remove_empty_above(&mut self, path: &str) -> io::Result<()> {
         let mut folder = above(path);
         for _ in 0..u64::MAX {
+            if is_temporary(folder) {
+                let emptied = String::from_str(self.rt.alloc(), folder)?;
+                self.emptied.insert(emptied)?;
+                break;
+            }
             if folder == ROOT || !self.remove_if_empty(folder)? {
                 break;
             }
@@ -703,6 +726,26 @@ fn above(path: &str) -> &str {
     match path.rsplit_once('/') {
         Some((folder, _)) => folder,
         None => HERE,
+    }
+}
+
+/// Whether temporary files stand in a folder. Such a one isn't removed where it becomes empty, since one that was just made durable takes a disk a millisecond
+/// to remove, and the next publication wants it again.
+fn is_temporary(folder: &str) -> bool {
+    match folder.strip_prefix(TEMPORARY) {
+        Some(rest) => rest.is_empty() || rest.starts_with('/'),
+        None => false,
+    }
+}
+
+/// Removes a folder for temporary files, and those above it, as far as they are empty.
+fn remove_temporary<R: Files>(rt: &R, folder: &str) {
+    let mut folder = folder;
+    for _ in 0..u64::MAX {
+        if !is_temporary(folder) || !remove_folder(rt, folder).unwrap_or(false) {
+            break;
+        }
+        folder = above(folder);
     }
 }
 
