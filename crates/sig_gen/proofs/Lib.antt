@@ -12,3 +12,4 @@ pub mod Sorting
 pub mod Gathering
 pub mod LaidOrder
 pub mod Needing
+pub mod ShortLaws

@@ -29,12 +29,21 @@ mod needs;
 mod netstring;
 mod parts;
 mod record;
+mod second;
+mod second_writing;
 mod signing;
+mod worked;
 mod writing;
 
 pub use fault::SigFault;
 pub use laws::trees_are_in_order;
 pub use naming::{name_by, signature_in};
 pub use record::{decode, decode_stored};
+pub use second::{
+    ShortSig, ShortStored, decode_key, decode_second, decode_second_stored, decode_short_stored,
+    key_of, second_in, short_is_whole,
+};
+pub use second_writing::{encode_key, encode_second, encode_second_stored};
 pub use signing::{encode_sig_of, sig_of};
+pub use worked::example_of_the_second_format;
 pub use writing::{encode, encode_manifest, encode_stored};
