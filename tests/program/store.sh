@@ -18,15 +18,15 @@ fi
 holds "a record's name" test "$(tail -c +13 "$record" | head -c 92 | sha256sum)" = "$digest  -"
 holds "a digest of the manifest" grep -aq "$(sha256sum <build/work/hello/do_build/hello.txt | cut -c 1-64)" "$record"
 
-# Records, stamps and work folders are as they were when they were kept.
+# Records, the stamp and work folders are as they were when they were kept.
 cp -R build "$room/kept" || exit 1
 is_as_kept() {
-    for folder in rec stamp work; do
+    for folder in rec stamp/hello work; do
         diff -r "$room/kept/$folder" "build/$folder" >/dev/null || return 1
     done
 }
 
-# Files of random bytes go, where records and stamps should stand; so does what else a store has no place for.
+# Files of random bytes go, where records should stand; so does what else a store has no place for. Under `stamp/` they stay, and are no stamps.
 mkdir build/stamp/p || exit 1
 head -c 256000 /dev/urandom | split -b 256 -a 4 -x - "build/rec/$(printf '%060d' 0)" || exit 1
 head -c 65000 /dev/urandom | split -b 65 -a 4 -x - build/stamp/p/do_ || exit 1
@@ -34,12 +34,14 @@ holds "2,000 files of random bytes" test "$(find build/rec build/stamp -type f |
 runs "$bitbake" hello
 wants "a run over random files" 0 "$found_text"
 holds "random files are gone" is_as_kept
+holds "random files under stamp/ stay" test "$(find build/stamp/p -type f | wc -l)" -eq 1000
 mkdir -p build/rec/deep/er build/stamp/p build/tmp/rec && ln -s "$digest" build/rec/link && cp "$record" build/rec/deep/er/record || exit 1
 cp "$record" "build/rec/$(printf '%064d' 1)" && printf '%.63s\n' "$digest" >build/stamp/p/do_short || exit 1
 cp build/stamp/hello/do_build build/stamp/p.txt && cp "$record" build/tmp/rec/ && echo file >build/tmp/file || exit 1
 runs "$bitbake" hello
 wants "a run over odd files" 0 "$found_text"
 holds "odd files are gone" is_as_kept
+holds "odd files under stamp/ stay" test -f build/stamp/p.txt -a -f build/stamp/p/do_short
 holds "nothing stands in the folder of temporary files" test -z "$(find build/tmp -not -type d 2>/dev/null)"
 rm -rf build/tmp build/stamp && echo file >build/tmp && echo file >build/stamp || exit 1
 runs "$bitbake" hello

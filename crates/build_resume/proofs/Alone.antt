@@ -8,6 +8,7 @@ use Rattle.tree_model.specs.Path.{IsAtOrBelow}
 use Rattle.outside_traits.specs.Passes.{Passes}
 use Rattle.outside_traits.specs.Store.{Store}
 use Rattle.outside_traits.specs.Story.{IsFresh, IsImageSince, Story}
+use Rattle.outside_traits.proofs.Folders.{under_same}
 use Rattle.outside_traits.proofs.Images.{now-since}
 use Rattle.meta_model.specs.declared.event.Avail.TheVariants.{Object}
 use Rattle.meta_model.specs.declared.event.Logged.{Logged}
@@ -22,9 +23,11 @@ use Rattle.store_model.specs.Available.{IsAvailable, object_folder, stamp_path, 
 use Rattle.store_model.specs.Origins.{Book, Line, rows_of}
 use Rattle.store_model.specs.Signatures.{signatures}
 use Rattle.store_opening.specs.Opening.{Clears}
-use Rattle.store_model.specs.Opened.{IsElsewhere, IsOpened}
+use Rattle.store_model.specs.Opened.{IsElsewhere, IsLeft, IsOpened}
+use Rattle.store_model.specs.Paths.{slashes}
 use Rattle.store_model.specs.Lines.{HaveSameLines}
 use Rattle.store_opening.proofs.Areas.{differ, heads_differ}
+use Rattle.store_opening.proofs.Doomed.{no_slash}
 use Rattle.store_opening.proofs.StillThere.{opened_stays}
 use Rattle.run_model.specs.Books.{book_after}
 use Rattle.run_queue.specs.declared.fault.RunFault.{RunFault}
@@ -32,7 +35,7 @@ use Rattle.run_queue.specs.Keeps.{WasThere}
 use Rattle.run_model.specs.Opening.{Opening}
 use Rattle.run_model.specs.Own.{IsAside, IsObjectOfNone}
 use Rattle.run_queue.specs.Seen.{IsBegunIn}
-use Rattle.run_queue.specs.Stands.{IsAsBegun, IsPublishing}
+use Rattle.run_queue.specs.Stands.{IsAsBegun, IsClearOfStamps, IsPublishing}
 use Rattle.run_queue.proofs.Meanwhile.{told_at_end}
 use Rattle.run_queue.proofs.OwnNames.{signed_task_at}
 use Rattle.run_queue.proofs.Placing.{has_place}
@@ -156,6 +159,16 @@ module _ (o : Opening) (book : Book) (before : Store) (rows : List EquivRow) (op
     output = λ t b shared. let at = is.output t (published t b) shared in (at.0, opened.left q (inr (inr (inr at.1))) ∙ at.1);
   }
 
+  -- what opening leaves alone isn't in the way of stamps
+  clear_of_stamps : (q : List ℕ) → IsLeft before q → IsClearOfStamps o.story.held q
+  clear_of_stamps q (inl e) = record { top = λ same. absurd (e.stamps (inl same)); under = λ path is. absurd (e.stamps (inr (path, is))) }
+  clear_of_stamps q (inr (inl r)) = record { top = λ same. absurd (heads_differ (differ 115 114 refl) (sym same ∙ r.2)); under = λ path is. absurd (heads_differ (differ 115 114 refl) (sym is ∙ r.2)) }
+  clear_of_stamps q (inr (inr (inl t))) = record {
+    top = λ same. absurd (no_slash (codes "stamp") t.0 (sym same ∙ t.2));
+    under = λ path is. inl (ap slashes (under_same (codes "stamp") path t.0 (sym is ∙ t.2)) ∙ t.1.two);
+  }
+  clear_of_stamps q (inr (inr (inr none))) = record { top = λ same. opened.left q (inr (inr (inr none))) ∙ none; under = λ path is. inr (opened.left q (inr (inr (inr none))) ∙ none) }
+
   last_others : ((image : Store) → IsImageSince o.story 0 image → Clears before before image) → LeavesOthers o.gives book before k.last.plan k.last.options k.last.tale s k.last.story
   last_others early = record {
     again = o.book;
@@ -171,7 +184,7 @@ module _ (o : Opening) (book : Book) (before : Store) (rows : List EquivRow) (op
     ];
     paths = λ image since q left_alone aside. elim (k.run.images 0 image (omega arith) since) [
       | inl was ↦ (early image was).left q left_alone
-      | inr left ↦ left.paths q (begun_aside q aside) ∙ opened.left q left_alone
+      | inr left ↦ left.paths q (begun_aside q aside) (clear_of_stamps q left_alone) ∙ opened.left q left_alone
     ];
   }
 

@@ -3,7 +3,7 @@ use Rattle.std.proofs.Common.{◌≡◌, ◌∙◌, sym, subst, refl, ℕ, ◌+�
 use Rattle.std.specs.Prelude.{◌≢◌, ◌⊎◌, Contains}
 use Rattle.std.proofs.lemmas.List.Elements.{All-cons, All-nil}
 use Rattle.outside_traits.specs.Passes.{EachNow, Passes}
-use Rattle.outside_traits.specs.Store.{Store}
+use Rattle.outside_traits.specs.Store.{IsTreelike, Store}
 use Rattle.outside_traits.specs.Story.{IsFresh, IsImageSince, IsSound as IsStorySound, Story}
 use Rattle.meta_model.specs.declared.event.Logged.{Logged}
 use Rattle.meta_model.specs.declared.event.Status.{Status}
@@ -40,12 +40,13 @@ use Rattle.build_resume.proofs.Closed.{closed_started}
 use Rattle.build_resume.proofs.Told.{all_told}
 use Rattle.build_resume.proofs.Outcomes.{kept_all, kept_clean, kept_crash, kept_exact, kept_real, opened_crash, opened_may_run, opening_of}
 
--- A store was opened on a disk that was fresh: what is held is what opening leaves, and durable; and at each moment nothing went that it
+-- A store was opened on a disk that was fresh: what is held is what opening leaves, none of it above another, and durable; and at each moment nothing went that it
 -- leaves alone.
 pub record WasOpened (before after : Story) (rows : List EquivRow) : Type 0 where
   pub fresh : IsFresh before
   pub opened : IsOpened before.held after.held rows
   pub durable : EachNow after (λ image. image ≡ after.held)
+  pub treelike : IsTreelike after.held
   pub clears : Passes before after (Clears before.held)
 
 module _ (gives : Gives) (reading : Reading) (book : Book) (plan : Plan) (options : Options) (before after : Story) (rows : List EquivRow) (was : WasOpened before after rows) (entry : IsEntry gives reading book before.held plan) where
@@ -56,7 +57,7 @@ module _ (gives : Gives) (reading : Reading) (book : Book) (plan : Plan) (option
   opening = opening_of gives reading book before.held after.held rows after again
 
   pub may_run : MayRun opening plan
-  may_run = opened_may_run gives reading book plan before.held after rows again entry was.opened was.durable
+  may_run = opened_may_run gives reading book plan before.held after rows again entry was.opened was.durable was.treelike
 
   pub is_opening : IsOpening opening after rows
   is_opening = record { story_is = refl; rows_are = again.rows_are }

@@ -5,7 +5,7 @@ use Rattle.std.specs.List.{AllByRecursion, slice_get}
 use Rattle.std.proofs.lemmas.Bool.{false≢true}
 use Rattle.std.proofs.lemmas.Option.{slice_get_within}
 use Rattle.outside_traits.specs.Passes.{EachNow, Passes}
-use Rattle.outside_traits.specs.Store.{Store}
+use Rattle.outside_traits.specs.Store.{IsTreelike, Store}
 use Rattle.outside_traits.specs.Story.{IsFresh, IsImage, IsImageSince, LeftSince, Story}
 use Rattle.outside_traits.specs.declared.call.Call.{Call}
 use Rattle.meta_model.specs.declared.event.Event.{Event}
@@ -219,9 +219,9 @@ opened_crash gives reading book plan before after image fresh entry p since = re
 abbrev pub opening_of : (gives : Gives) (reading : Reading) (book : Book) (before after : Store) (rows : List EquivRow) → Story → IsBookAgain gives reading book after rows → Opening
 opening_of gives reading book before after rows story again = record { gives = gives; reading = reading; story = story; book = again.again }
 
-pub opened_may_run : (gives : Gives) (reading : Reading) (book : Book) (plan : Plan) (before : Store) (story : Story) (rows : List EquivRow) (again : IsBookAgain gives reading book story.held rows) → IsEntry gives reading book before plan → IsOpened before story.held rows → EachNow story (λ image. image ≡ story.held)
+pub opened_may_run : (gives : Gives) (reading : Reading) (book : Book) (plan : Plan) (before : Store) (story : Story) (rows : List EquivRow) (again : IsBookAgain gives reading book story.held rows) → IsEntry gives reading book before plan → IsOpened before story.held rows → EachNow story (λ image. image ≡ story.held) → IsTreelike story.held
     → MayRun (opening_of gives reading book before story.held rows story again) plan
-opened_may_run gives reading book plan before story rows again entry opened durable = record {
+opened_may_run gives reading book plan before story rows again entry opened durable treelike = record {
   sound = entry.sound;
   valid = again.valid;
   may = λ none.
@@ -231,6 +231,7 @@ opened_may_run gives reading book plan before story rows again entry opened dura
   durable = durable;
   way = (has_way before story.held rows opened).0;
   swept = (has_way before story.held rows opened).1;
+  treelike = treelike;
   readable = again.readable;
   spellings = entry.spellings;
 }

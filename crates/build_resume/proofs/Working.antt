@@ -147,23 +147,27 @@ last_or (z ∷ xs) x (suc k) y at = elim (last_or xs x k y at) [
   | inr last ↦ inr (ap suc last.0, last.1)
 ]
 
-pub workers_pushed : {A : Type 0} (P : ℕ → A → A → Type 0) (before now old new : List A) (x : A) → old ≡ before ++ x ∷ [] → new ≡ now ++ x ∷ [] → AtWorkers P before now → P (length before + 1) x x → AtWorkers P old new
-workers_pushed P before now old new x was is w same = record {
-  long = ap length is ∙ length-append now (x ∷ []) ∙ ap (λ n. n + 1) w.long ∙ sym (length-append before (x ∷ [])) ∙ sym (ap length was);
+-- one more bench behind the workers', as it was and is
+pub workers_grown : {A : Type 0} (P : ℕ → A → A → Type 0) (before now old new : List A) (x y : A) → old ≡ before ++ x ∷ [] → new ≡ now ++ y ∷ [] → AtWorkers P before now → P (length before + 1) x y → AtWorkers P old new
+workers_grown P before now old new x y was is w same = record {
+  long = ap length is ∙ length-append now (y ∷ []) ∙ ap (λ n. n + 1) w.long ∙ sym (length-append before (x ∷ [])) ∙ sym (ap length was);
   each = λ k a b at_a at_b. each k a b (ap (λ l. slice_get l k) (sym was) ∙ at_a) (ap (λ l. slice_get l k) (sym is) ∙ at_b);
 }
   where
-    each : (k : ℕ) (a b : _) → slice_get (before ++ x ∷ []) k ≡ Some a → slice_get (now ++ x ∷ []) k ≡ Some b → P (k + 1) a b
+    each : (k : ℕ) (a b : _) → slice_get (before ++ x ∷ []) k ≡ Some a → slice_get (now ++ y ∷ []) k ≡ Some b → P (k + 1) a b
     each k a b at_a at_b = elim (last_or before x k a at_a) [
-      | inl here ↦ elim (last_or now x k b at_b) [
+      | inl here ↦ elim (last_or now y k b at_b) [
         | inl there ↦ w.each k a b here there
         | inr last ↦ absurd (let within = slice_get_within before k a here in let l = last.0 in let long = w.long in omega (arith, within, l, long))
       ]
-      | inr last ↦ elim (last_or now x k b at_b) [
+      | inr last ↦ elim (last_or now y k b at_b) [
         | inl there ↦ absurd (let within = slice_get_within now k b there in let l = last.0 in let long = w.long in omega (arith, within, l, long))
-        | inr other ↦ subst (λ n. P (n + 1) a b) (sym last.0) (subst (λ y. P (length before + 1) a y) other.1 (subst (λ y. P (length before + 1) y x) last.1 same))
+        | inr other ↦ subst (λ n. P (n + 1) a b) (sym last.0) (subst (λ z. P (length before + 1) a z) other.1 (subst (λ z. P (length before + 1) z y) last.1 same))
       ]
     ]
+
+pub workers_pushed : {A : Type 0} (P : ℕ → A → A → Type 0) (before now old new : List A) (x : A) → old ≡ before ++ x ∷ [] → new ≡ now ++ x ∷ [] → AtWorkers P before now → P (length before + 1) x x → AtWorkers P old new
+workers_pushed P before now old new x was is w same = workers_grown P before now old new x x was is w same
 
 -- ---- what was printed
 

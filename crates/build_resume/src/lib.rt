@@ -35,4 +35,4 @@ mod running;
 mod workers;
 
 pub use laws::entry_laws;
-pub use running::{Outcome, build};
+pub use running::{Outcome, build, build_unready};

@@ -2,7 +2,9 @@
 ghost use Rattle.std.specs.Prelude.{◌≡◌, ◌≢◌, ◌<◌, ◌≤◌, ◌++◌, ◌∷◌, ◌⊎◌, ◌↔◌, ℕ, [], List, All, None, false, true, length, map, vec_len, vec_capacity};
 ghost use Rattle.outside_traits.specs.Bench.{Gives};
 ghost use Rattle.outside_traits.specs.Fault.{Counts, Rose};
-ghost use Rattle.outside_traits.specs.Story.{IsFresh, IsSound as IsLawful};
+ghost use Rattle.outside_traits.specs.Story.{IsFresh, IsSound as IsLawful, Story as Told};
+ghost use Rattle.meta_model.specs.declared.plan.Options.{Options as Asked};
+ghost use Rattle.build_store.specs.Faults.{is_disk_fault, of_disk};
 ghost use Rattle.meta_model.specs.declared.event.Status.TheVariants as ends;
 ghost use Rattle.plan_model.specs.Sound.{AreWanted, IsSound};
 ghost use Rattle.store_model.specs.Origins.{Book, Reading};
@@ -14,7 +16,7 @@ ghost use Rattle.run_queue.specs.Seen.{seen};
 ghost use Rattle.run_queue.specs.Turns.{fates_of};
 ghost use Rattle.meta_model.specs.declared.event.Logged.{Logged as Entry};
 ghost use Rattle.run_model.specs.Runs.{Runs};
-ghost use Rattle.run_model.specs.Benches.{AtSeats, BreaksByFault, SomeRose};
+ghost use Rattle.run_model.specs.Benches.{AtSeats, AtWorkers, BreaksByFault, SomeRose};
 ghost use Rattle.run_model.specs.Seated.{HaveBenches, IsSeated};
 ghost use Rattle.build_resume.specs.Benches.{SomeBreak};
 ghost use Rattle.run_model.specs.Build.{AllClean, MayEndSo, RanPrinted, RanStarted, TellsDifference, failed_in, is_unsteady};
@@ -30,9 +32,9 @@ use crate::ending::{
     want_unless,
 };
 use crate::workers::{take_last, with_workers};
-use build_store::{Ahead, OpenRefused, Store, open_store};
+use build_store::{Ahead, OpenRefused, Store, StoreFault, open_store};
 use meta_model::{Logged, Options, Plan, Status};
-use outside_traits::{Bench, Disk, Sink};
+use outside_traits::{Bench, Disk, DiskFault, Sink};
 use run_queue::{RunParts, RunState};
 use run_workers::Halt;
 use std::alloc::Global;
@@ -160,6 +162,8 @@ fn finish<D: Disk, B: Bench, W: Sink, R: Wait>(
     ensures lawful { D.tells → IsLawful (D.story result.disk) }
     ensures steady { D.tells → B.tells → (o : Opening) → o.gives ≡ B.gives last.old
         → IsRun o (seen D.story W.written state) → IsSteady state.fault → is_unsteady result.status ≡ false }
+    ensures alike { (B.gives last.new ≡ B.gives last.old) × (B.faults last.old ≤ B.faults last.new) }
+    ensures later { (before : ℕ) → Counts before (W.faults state.sink) state.sink_failed → before ≤ W.faults result.sink }
 {
     let halt = drive(rt, alloc, &mut state, last);
     state.kept();
@@ -208,6 +212,9 @@ where
     ensures lawful { D.tells → IsLawful (D.story result.disk) }
     ensures steady { D.tells → B.tells → (gives : Gives) → All (λ b. B.gives b ≡ gives) benches.items → (o : Opening)
         → o.gives ≡ gives → IsRun o (seen D.story W.written state) → is_unsteady result.status ≡ false }
+    ensures alike { AtWorkers (λ seat old new. (B.gives new ≡ B.gives old) × (B.faults old ≤ B.faults new)) benches.items
+        result.benches.items }
+    ensures later { W.faults state.sink ≤ W.faults result.sink }
 {
     let mut last = take_last(&mut benches);
     let (state, mut benches, _wanting) = with_workers(rt, alloc, state, benches);
@@ -257,6 +264,60 @@ fn unbegun<D: Disk, B: Bench, W: Sink>(
         sink,
         tale: Vec::new(alloc),
     }
+}
+
+/// A fault of the disk as one of a store.
+fn store_fault(fault: DiskFault) -> StoreFault
+    ensures { result ≡ of_disk fault }
+{
+    match fault {
+        DiskFault::Failed => StoreFault::Disk,
+        DiskFault::Memory => StoreFault::Memory,
+    }
+}
+
+/// Ends a run of a plan whose folder of the disk couldn't be made ready for a store, by this fault: as one whose store can't be opened.
+/// The text of the plan was written before.
+pub fn build_unready<D: Disk, B: Bench, W: Sink>(
+    alloc: Global,
+    plan: Plan,
+    fault: DiskFault,
+    disk: D,
+    benches: Vec<B>,
+    mut sink: W,
+) -> Outcome<D, B, W>
+    requires bench { 0 < length benches.items }
+    ensures plan { result.plan ≡ plan }
+    ensures disk { result.disk ≡ disk }
+    ensures same { result.benches.items ≡ benches.items }
+    ensures tale { result.tale.items ≡ [] }
+    ensures told { (options : Asked) → EndsAs plan options result.tale.items result.status }
+    ensures seated { IsSeated plan result.tale.items }
+    ensures benches { HaveBenches (length benches.items) result.tale.items }
+    ensures text { W.tells → WritesReport (Rose (W.faults sink) (W.faults result.sink)) (W.written sink)
+        (W.written result.sink) plan result.tale.items result.status }
+    ensures printed { W.tells → B.tells → RanPrinted plan result.tale.items
+        (map (λ b. (B.place b).runs) benches.items) (map (λ b. (B.place b).runs) result.benches.items)
+        (W.written sink) (W.written result.sink) }
+    ensures ends { (now : ℕ) → (is_disk_fault (of_disk fault) ≡ true → 0 < now)
+        → MayEndSo now (SomeRose (map B.faults benches.items) (map B.faults result.benches.items))
+        (Rose (W.faults sink) (W.faults result.sink)) result.status }
+    ensures none { (result.status ≢ ends.Ok) × (result.status ≢ ends.TaskFailed) }
+    ensures memory { is_disk_fault (of_disk fault) ≡ false → result.status ≡ ends.OutOfMemory }
+    ensures failed { result.status ≡ ends.DiskFault → is_disk_fault (of_disk fault) ≡ true }
+    ensures differs { (story : Told) → TellsDifference D.tells plan story result.status }
+    ensures broke { AtSeats (BreaksByFault result.tale.items) (map B.faults benches.items)
+        (map B.faults result.benches.items) }
+    ensures later { W.faults sink ≤ W.faults result.sink }
+{
+    let status = tell_end(
+        alloc,
+        &mut sink,
+        &plan,
+        &[],
+        status_of_store(store_fault(fault)),
+    );
+    unbegun(alloc, plan, status, disk, benches, sink)
 }
 
 /// Runs a plan: finds and restores what it can trust, runs what is missing on the benches, and publishes what that gives. It writes the line
@@ -331,6 +392,11 @@ where
     ensures differs { TellsDifference D.tells plan (D.story result.disk) result.status }
     ensures broke { AtSeats (BreaksByFault result.tale.items) (map B.faults benches.items)
         (map B.faults result.benches.items) }
+
+    // The benches are as many, and give what they gave. No count of faults falls.
+    ensures alike { AtWorkers (λ seat old new. (B.gives new ≡ B.gives old) × (B.faults old ≤ B.faults new)) benches.items
+        result.benches.items }
+    ensures later { W.faults sink ≤ W.faults result.sink }
 {
     match open_store(alloc, disk, ahead) {
         Ok(store) => match RunState::begin(alloc, plan, options, store, sink) {

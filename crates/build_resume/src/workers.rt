@@ -74,6 +74,8 @@ where
         benches.items result.1.items }
     ensures steady { D.tells → B.tells → (gives : Gives) → All (λ b. B.gives b ≡ gives) benches.items → (o : Opening)
         → o.gives ≡ gives → IsRun o (seen D.story W.written state) → IsSteady state.fault → IsSteady result.0.fault }
+    ensures alike { AtWorkers (λ seat old new. (B.gives new ≡ B.gives old) × (B.faults old ≤ B.faults new)) benches.items
+        result.1.items }
 {
     if benches.len() <= workers {
         if benches.is_empty() {
@@ -134,6 +136,8 @@ where
         benches.items result.1.items }
     ensures steady { D.tells → B.tells → (gives : Gives) → All (λ b. B.gives b ≡ gives) benches.items → (o : Opening)
         → o.gives ≡ gives → IsRun o (seen D.story W.written state) → IsSteady state.fault → IsSteady result.0.fault }
+    ensures alike { AtWorkers (λ seat old new. (B.gives new ≡ B.gives old) × (B.faults old ≤ B.faults new)) benches.items
+        result.1.items }
 {
     state.kept();
     let workers = state.plan().threads as usize;

@@ -22,7 +22,7 @@ pub not_round : (folder q : List ℕ) → IsApart folder q → IsAround folder q
 not_round folder q apart (inl at) = apart.not_folder at
 not_round folder q apart (inr up) = apart.not_above up
 
-below_itself : (q : List ℕ) → IsBelow q q → ⊥
+pub below_itself : (q : List ℕ) → IsBelow q q → ⊥
 below_itself q itself = let e = ap length itself.1 ∙ length-append q (47 ∷ itself.0) in omega arith
 
 both_ways : (p q : List ℕ) → IsBelow p q → IsBelow q p → ⊥

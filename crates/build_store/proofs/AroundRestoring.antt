@@ -15,10 +15,10 @@ use Rattle.stamp_store.specs.Stamp.{TakesAway, old_path, stamp_path, staged_path
 use Rattle.store_model.specs.Paths.{record_path}
 use Rattle.store_model.specs.Publication.{work_at}
 use Rattle.store_opening.proofs.Areas.{differ, heads_differ}
-use Rattle.build_store.specs.Calls.{KeepsAround, KeepsTemporary}
+use Rattle.build_store.specs.Calls.{FreesStamp, KeepsAround, KeepsTemporary}
 use Rattle.build_store.specs.Standing.{AddsNoLitter}
 use Rattle.build_store.proofs.Around.{apart_at}
-use Rattle.build_store.proofs.Rounding.{by_aside, by_staging, by_stamp, by_work, others_join, others_same}
+use Rattle.build_store.proofs.Rounding.{by_aside, by_freeing, by_staging, by_stamp, by_work, frees_there, others_join, others_same}
 
 module _ (folder : List ℕ) where
   no_stamp : (q : List ℕ) → IsBelow (codes "tmp") q → q ≢ stamp_path folder
@@ -52,6 +52,15 @@ module _ (folder : List ℕ) where
     own = record {
       temporary = λ q below old staged. move.others q (no_stamp q below) old;
       records = λ q below. move.others q (no_record_stamp q below) (no_record_old q below);
+    };
+  })
+
+  pub around_freeing : {a b : Story} → Passes a b (FreesStamp folder a.held) → Passes a b (KeepsAround folder a.held)
+  around_freeing {a} run = passes_so (KeepsAround folder a.held) run (λ i j frees. record {
+    others = by_freeing folder None a.held i j frees;
+    own = record {
+      temporary = λ q below old staged. frees_there folder a.held i j 116 q (differ 116 115 refl) (109 ∷ 112 ∷ 47 ∷ below.0, below.1) frees;
+      records = λ q below. frees_there folder a.held i j 114 q (differ 114 115 refl) (101 ∷ 99 ∷ 47 ∷ below.0, below.1) frees;
     };
   })
 
@@ -93,7 +102,7 @@ module _ (folder : List ℕ) where
 
   -- ---- under `tmp/`
 
-  module _ (x : Option Entry) (ha hb hc hd he : Store) (takes : TakesAway folder ha hb) (aside : ha (old_path folder) ≡ None → hb (old_path folder) ≡ None) (round : AgreesRound (work_at folder) hb hb hc)
+  module _ (x : Option Entry) (ha hb hf hc hd he : Store) (takes : TakesAway folder ha hb) (aside : ha (old_path folder) ≡ None → hb (old_path folder) ≡ None) (frees : FreesStamp folder hb hb hf) (round : AgreesRound (work_at folder) hf hf hc)
       (change : ChangesAt (staged_path folder) hc hd) (move : Moves (staged_path folder) (stamp_path folder) x hd he) (gone : he (staged_path folder) ≡ None) where
     after_aside : (q : List ℕ) → IsBelow (codes "tmp") q → ha q ≡ None → hb q ≡ None
     after_aside q below none = elim (path_cases q (old_path folder)) [
@@ -104,12 +113,12 @@ module _ (folder : List ℕ) where
     pub adds_no_litter : AddsNoLitter ha he
     adds_no_litter q below none = elim (path_cases q (staged_path folder)) [
       | inl same ↦ ap he same ∙ gone
-      | inr other ↦ move.others q other (no_stamp q below) ∙ change.others q other ∙ work_same hb hb hc 116 (109 ∷ 112 ∷ 47 ∷ below.0) q below.1 (differ 116 119 refl) round ∙ after_aside q below none
+      | inr other ↦ move.others q other (no_stamp q below) ∙ change.others q other ∙ work_same hf hf hc 116 (109 ∷ 112 ∷ 47 ∷ below.0) q below.1 (differ 116 119 refl) round ∙ frees_there folder hb hb hf 116 q (differ 116 115 refl) (109 ∷ 112 ∷ 47 ∷ below.0, below.1) frees ∙ after_aside q below none
     ]
 
   -- the record stays
-  pub record_stays : (name : Hash) (ha hb hc hd : Store) → TakesAway folder ha hb → AgreesRound (work_at folder) hb hb hc → ChangesAt (staged_path folder) hc hd → hd (record_path name) ≡ ha (record_path name)
-  record_stays name ha hb hc hd takes round change =
+  pub record_stays : (name : Hash) (ha hb hf hc hd : Store) → TakesAway folder ha hb → FreesStamp folder hb hb hf → AgreesRound (work_at folder) hf hf hc → ChangesAt (staged_path folder) hc hd → hd (record_path name) ≡ ha (record_path name)
+  record_stays name ha hb hf hc hd takes frees round change =
       let q = record_path name in
       let below : IsBelow (codes "rec") q = (hash_text name, refl) in
-      change.others q (no_record_staged q below) ∙ work_same hb hb hc 114 (101 ∷ 99 ∷ 47 ∷ hash_text name) q refl (differ 114 119 refl) round ∙ takes.others q (no_record_stamp q below) (no_record_old q below)
+      change.others q (no_record_staged q below) ∙ work_same hf hf hc 114 (101 ∷ 99 ∷ 47 ∷ hash_text name) q refl (differ 114 119 refl) round ∙ frees_there folder hb hb hf 114 q (differ 114 115 refl) (101 ∷ 99 ∷ 47 ∷ hash_text name, refl) frees ∙ takes.others q (no_record_stamp q below) (no_record_old q below)

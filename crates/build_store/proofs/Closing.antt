@@ -1,5 +1,5 @@
 -- Open publications while others land, and while something else is done that leaves them alone.
-use Rattle.std.proofs.Common.{◌≡◌, ◌≢◌, ◌∙◌, sym, ap, subst, refl, ℕ, Bool, true, false, List, [], ◌∷◌, ◌++◌, Some, None, if◌then◌else◌}
+use Rattle.std.proofs.Common.{◌≡◌, ◌≢◌, ◌∙◌, sym, ap, subst, refl, ℕ, Bool, true, false, inl, List, [], ◌∷◌, ◌++◌, Some, None, if◌then◌else◌, arith}
 use Rattle.std.specs.Prelude.{codes, is_none}
 use Rattle.std.specs.List.{AllByRecursion}
 use Rattle.std.specs.Str.{bytes_eq}
@@ -28,9 +28,10 @@ use Rattle.store_opening.proofs.Areas.{differ}
 use Rattle.build_store.specs.declared.pieces.OpenPublication.{OpenPublication}
 use Rattle.build_store.specs.Calls.{KeepsAround, KeepsTemporary}
 use Rattle.build_store.specs.Ending.{HasFolders, KeepsPut}
-use Rattle.build_store.specs.Halves.{IsOn, ending, working}
+use Rattle.build_store.specs.Halves.{IsOn, ending, taking, working}
 use Rattle.build_store.specs.Halves.{Progress}
 use Rattle.build_store.specs.Items.{IsLaidBut}
+use Rattle.build_store.specs.Noting.{AreNoted}
 use Rattle.build_store.specs.OpenOnes.{progress_of}
 use Rattle.build_store.specs.OpenTasks.{IsOpenOf}
 use Rattle.build_store.specs.Publication.{KeepsOthers, line_for, publication, rows_with}
@@ -43,7 +44,7 @@ use Rattle.build_store.proofs.OpenStaying.{folders_at}
 use Rattle.build_store.proofs.PhaseSteps.{phases_stay}
 use Rattle.build_store.proofs.PutStays.{areas}
 use Rattle.build_store.proofs.Quieting.{staged_differ}
-use Rattle.build_store.proofs.Staying.{halves_stay, publication_stays}
+use Rattle.build_store.proofs.Staying.{aside_stays, halves_stay, publication_stays}
 use Rattle.build_store.proofs.TaskStaying.{open_tasks_stay}
 
 -- ---- one lands
@@ -98,13 +99,14 @@ module _ (p : Publication) (folder : List ℕ) (held old new : Store) (apart : I
     staged_stamp = own.temporary (staged_path p.folder) (115 ∷ 116 ∷ 97 ∷ 109 ∷ 112 ∷ 47 ∷ p.folder, refl)
         (areas 4 115 111 (staged_path p.folder) (old_path folder) refl refl (differ 115 111 refl))
         (λ same. apart.not_folder (under_same (codes "tmp/stamp") p.folder folder same));
-    stamp = others.stamps p.folder apart.not_folder;
+    stamp = others.stamps p.folder (inl apart);
   }
 
 none_meet : (p : Publication) (one other : Hash) → None ≡ Some one → p.object ≡ Some other → IsApart (hash_text one) (hash_text other)
 none_meet p one other e is = absurd (cc)
 
 restored_on : (p : Publication) (folder : List ℕ) (progress : Progress) (a b : Story) → IsSound a → IsApart folder p.folder → Passes a b (KeepsAround folder a.held) → IsOn p progress a → IsOn p progress b
+restored_on p folder (taking k items) a b sound apart run on = aside_stays p k items folder None a b apart (none_meet p) (passes_so (KeepsOthers folder None a.held) run (λ i j w. w.others)) on
 restored_on p folder (working left) a b sound apart run on = halves_stay p left folder None a b apart (none_meet p) (passes_so (KeepsOthers folder None a.held) run (λ i j w. w.others)) on
 restored_on p folder (ending phase) a b sound apart run on =
     phases_stay p phase a b on (passes_so (KeepsPut p) run (λ i j w. restored_keeps_put p folder a.held i j apart (folders_at p phase a sound on) w.others w.own))
@@ -132,6 +134,11 @@ same_put p old new same = record {
 }
 
 same_on : (p : Publication) (progress : Progress) (a b : Story) → Passes a b Same → IsOn p progress a → IsOn p progress b
+same_on p (taking k items) a b run on = record {
+  past = omega (arith, on.past, run.later);
+  gone = λ i left. let w = run.above k i on.past left in ap (λ h. h (stamp_at p.folder)) w.2 ∙ on.gone w.0 w.1;
+  noted = subst (AreNoted p items) (sym run.held) on.noted;
+}
 same_on p (working left) a b run on = record {
   unstamped = each_now (λ i. i (stamp_at p.folder) ≡ None) (λ i. i (stamp_at p.folder) ≡ None) on.unstamped run (λ i j none same. ap (λ h. h (stamp_at p.folder)) same ∙ none);
   items = on.items;

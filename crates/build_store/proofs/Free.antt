@@ -7,7 +7,7 @@ use Rattle.tree_model.specs.Path.{IsBelow, inside}
 use Rattle.outside_traits.specs.Store.{IsFree, Store}
 use Rattle.outside_traits.proofs.Folders.{above_under}
 use Rattle.outside_traits.proofs.Held.{none_unless}
-use Rattle.stamp_store.specs.Stamp.{old_path, stamp_path, staged_path}
+use Rattle.stamp_store.specs.Stamp.{old_path, staged_path}
 use Rattle.store_opening.specs.Named.{IsName}
 use Rattle.store_opening.specs.Paths.{IsLaidOut, IsTemporary, staged_record_path}
 use Rattle.store_model.specs.Paths.{record_path, slashes}
@@ -39,13 +39,6 @@ free_record held name is laid = free_in held (codes "rec") (hash_text name) refl
     by : (r : List ℕ) → slashes r ≡ 0 → IsBelow r (hash_text name) ⊎ IsBelow (hash_text name) r → ⊥
     by r none (inl up) = let m = more_slashes r (hash_text name) up in let n = name_slashes name is in omega (arith, m, n)
     by r none (inr down) = let m = more_slashes (hash_text name) r down in omega (arith, m, none)
-
-pub free_stamp : (held : Store) (folder : List ℕ) → slashes folder ≡ 1 → IsLaidOut held → IsFree held (stamp_path folder)
-free_stamp held folder two laid = free_in held (codes "stamp") folder refl laid.at_stamps (λ r some which. by r (laid.stamps r some) which)
-  where
-    by : (r : List ℕ) → slashes r ≡ 1 → IsBelow r folder ⊎ IsBelow folder r → ⊥
-    by r one (inl up) = let m = more_slashes r folder up in omega (arith, m, one, two)
-    by r one (inr down) = let m = more_slashes folder r down in omega (arith, m, one, two)
 
 -- the first byte of what stands above a path
 first_above : (r path : List ℕ) (c : ℕ) → c ≢ 47 → IsBelow r (c ∷ path) → get_or r 0 0 ≡ c

@@ -9,6 +9,7 @@ use Rattle.outside_traits.proofs.Runs.{each_now, passes_so}
 use Rattle.store_model.specs.declared.signature.EquivRow.{EquivRow}
 use Rattle.store_model.specs.Available.{task_folder}
 use Rattle.store_model.specs.Opened.{HasNoLitter}
+use Rattle.store_model.specs.Paths.{slashes}
 use Rattle.store_model.specs.Publication.{stamp_at}
 use Rattle.store_model.specs.Readable.{IsHeld}
 use Rattle.store_model.specs.Signatures.{Signed}
@@ -38,7 +39,7 @@ none_stand rows = record { tasks = tt; beside = tt }
 pub none_tidy : (story : Story) → HasNoLitter story.held → EachNow story (λ image. image ≡ story.held) → IsTidy [] story
 none_tidy story clean durable = record {
   litter = λ q below. inl (clean q below);
-  settled = λ folder none image img. ap (λ (h : Store). h (stamp_at folder)) (durable image img);
+  settled = λ folder single none image img. ap (λ (h : Store). h (stamp_at folder)) (durable image img);
 }
 
 -- where nothing is open nothing is held under `tmp/`
@@ -49,11 +50,11 @@ clean_by xs story tidy none q below = by (subst (λ (l : List OpenPublication). 
     by was = elim (was.litter q below) [ inl none ↦ none | inr staged ↦ absurd staged ]
 
 -- behind a restoring
-pub restored_tidy : (rows : List EquivRow) (s : Signed) (held : Store) (xs : List OpenPublication) (a b : Story) (found : Bool) → IsSound b → IsTidy xs a → AddsNoLitter a.held b.held → Passes a b (KeepsAround (task_folder s.task) a.held) →
+pub restored_tidy : (rows : List EquivRow) (s : Signed) (held : Store) (xs : List OpenPublication) (a b : Story) (found : Bool) → slashes (task_folder s.task) ≡ 1 → IsSound b → IsTidy xs a → AddsNoLitter a.held b.held → Passes a b (KeepsAround (task_folder s.task) a.held) →
     MatchBool found (EachNow b (IsRestored held rows s)) (HasNoObject held rows s) → OnFalse found (Passes a b Same) → IsTidy xs b
-restored_tidy rows s held xs a b true sound was adds run restored looked =
-    tidy_restored xs a b was (task_folder s.task) (name_of s.sig) sound adds (passes_so (KeepsOthers (task_folder s.task) None a.held) run (λ i j w. w.others)) (λ image img. (restored image img).published.stamp)
-restored_tidy rows s held xs a b false sound was adds run restored looked = tidy_same xs a b was looked
+restored_tidy rows s held xs a b true two sound was adds run restored looked =
+    tidy_restored xs a b was (task_folder s.task) (name_of s.sig) two sound adds (passes_so (KeepsOthers (task_folder s.task) None a.held) run (λ i j w. w.others)) (λ image img. (restored image img).published.stamp)
+restored_tidy rows s held xs a b false two sound was adds run restored looked = tidy_same xs a b was looked
 
 pub nothing_of : (xs : List OpenPublication) → NothingOpen (open_in xs) → xs ≡ []
 nothing_of [] none = refl

@@ -1,7 +1,10 @@
 pub mod Apart
+pub mod AsideRuns
 pub mod Drafted
 pub mod Finished
 pub mod FoldersStay
+pub mod StampWays
+pub mod StampRuns
 pub mod Forgotten
 pub mod Found
 pub mod Free
@@ -40,6 +43,7 @@ pub mod Closing
 pub mod Tidy
 pub mod AroundRestoring
 pub mod Sweeps
+pub mod Meeting
 pub mod Opened
 pub mod Stepped
 pub mod Positions

@@ -14,7 +14,8 @@ use Rattle.store_model.specs.Available.{object_folder}
 use Rattle.store_model.specs.Publication.{Publication, work_at}
 use Rattle.store_opening.proofs.Areas.{differ, heads_differ}
 use Rattle.build_store.specs.Items.{IsDue, IsItemOf, IsLaidBut, IsRight, IsWithin, IsWriting, Item, RemovalsFirst, path_of, removal, writing}
-use Rattle.build_store.specs.Noting.{AreListed, IsListed, NotedIsHalf, items_for, items_with, removal_if, removals, writings}
+use Rattle.build_store.specs.Noting.{AreListed, IsListed, items_for, items_with, removal_if, removals, writings}
+use Rattle.build_store.specs.Pieces.{NotedIsHalf}
 
 -- ---- lists of items
 

@@ -6,17 +6,16 @@ use Rattle.std.proofs.lemmas.List.Elements.{Contains-get_or, filter_more}
 use Rattle.tree_model.specs.declared.hash.Hash.{Hash}
 use Rattle.tree_model.specs.Path.{BeginsWith, inside}
 use Rattle.tree_model.specs.Tree.{IsTree, entry_at}
-use Rattle.outside_traits.specs.Passes.{EachNow, Passes, Same}
+use Rattle.outside_traits.specs.Passes.{EachNow}
 use Rattle.outside_traits.specs.Store.{IsListing, IsOpen, Store}
 use Rattle.outside_traits.specs.Story.{Story}
-use Rattle.outside_traits.proofs.Runs.{each_now}
 use Rattle.meta_model.specs.CleanBuild.{Entries}
 use Rattle.store_model.specs.Available.{object_folder}
 use Rattle.store_model.specs.Publication.{Publication, stamp_at, work_at}
 use Rattle.build_store.specs.Halves.{IsHalf}
 use Rattle.build_store.specs.Items.{Item, removal}
-use Rattle.build_store.specs.Noting.{items_with, removals, writings}
-use Rattle.build_store.specs.OpenOnes.{AreFound, AreNoted, NotesIn, extras, items_by, shared_writings}
+use Rattle.build_store.specs.Noting.{AreFound, AreNoted, items_with, removals, writings}
+use Rattle.build_store.specs.OpenOnes.{NotesIn, extras, items_by, shared_writings}
 use Rattle.build_store.proofs.ItemPlaces.{few_shared, length_items}
 use Rattle.build_store.proofs.Noting.{noted_is_half}
 use Rattle.build_store.proofs.OpeningRuns.{begins_by, extras_are, found_by, rest_of}
@@ -104,13 +103,3 @@ notes_by p folder object tree middle extra ha hb hc folder_is object_is tree_is 
     by None is no' yes' = noted_none p extra ha is (subst (NotesIn (work_at p.folder) p.tree ha []) (sym (no' refl)) own)
     by (Some unihash) is no' yes' = noted_some p unihash middle extra ha is own
         (subst (λ (t : Entries). NotesIn (object_folder unihash) t ha middle extra) (sym tree_is) (subst (λ (h : Store). NotesIn (object_folder unihash) tree h middle extra) first (yes' unihash refl)))
-
-pub begun : (p : Publication) (folder : List ℕ) (object : Option Hash) (tree : Entries) (items : List Item) (b c : Story) → p.folder ≡ folder → p.object ≡ object → p.tree ≡ tree → IsTree tree → EachNow b (λ image. image (stamp_at folder) ≡ None) → IsOpen (work_at folder) b.held
-    → ((unihash : Hash) → object ≡ Some unihash → IsOpen (object_folder unihash) b.held) → Passes b c Same → AreNoted p items c.held → IsHalf p items c
-begun p folder object tree items b c folder_is object_is tree_is is_tree gone work objects same noted =
-    let back : b.held ≡ c.held = sym same.held in
-    noted_half p items c (subst IsTree (sym tree_is) is_tree)
-    (each_now (λ i. i (stamp_at p.folder) ≡ None) (λ i. i (stamp_at p.folder) ≡ None) (subst (λ (f : List ℕ). EachNow b (λ image. image (stamp_at f) ≡ None)) (sym folder_is) gone) same (λ i j none e. ap (λ (h : Store). h (stamp_at p.folder)) e ∙ none))
-    (subst (λ (f : List ℕ). IsOpen (work_at f) c.held) (sym folder_is) (subst (IsOpen (work_at folder)) back work))
-    (λ unihash is. subst (IsOpen (object_folder unihash)) back (objects unihash (sym object_is ∙ is)))
-    noted

@@ -15,12 +15,12 @@ use Rattle.store_model.specs.Signatures.{Signed}
 use Rattle.tree_model.specs.declared.hash.Hash.{Hash}
 use Rattle.build_store.specs.declared.pieces.OpenPublication.{OpenPublication}
 use Rattle.build_store.specs.Halves.{IsOn}
-use Rattle.build_store.specs.OpenOnes.{progress_of}
+use Rattle.build_store.specs.OpenOnes.{AddsOwn, progress_of}
 use Rattle.build_store.specs.OpenTasks.{IsOpenOf}
-use Rattle.build_store.specs.Openings.{NoneNamed, OpensOne, SomeOpen, open_view}
+use Rattle.build_store.specs.Openings.{NoneNamed, OpensOne, open_view}
 use Rattle.build_store.specs.Pieces.{IsPublishing}
 use Rattle.build_store.specs.Publication.{publication}
-use Rattle.build_store.specs.Standing.{AddsNoLitter, AreOpen, IsOpenTask, IsTidy, Stands}
+use Rattle.build_store.specs.Standing.{AreOpen, IsOpenTask, IsTidy, Stands}
 use Rattle.build_store.specs.View.{IsSignatureOf, OpenView, open_in, open_view_of, opened_at}
 use Rattle.build_store.proofs.Beside.{IsFreeOf, beside_by_free, if_some, others_stand}
 use Rattle.build_store.proofs.Several.{beside_last, each_last, view_last, view_last_other}
@@ -34,11 +34,6 @@ not_any f (x ∷ xs) e = by (f x) refl (not_any f xs) e
     by : (b : Bool) → f x ≡ b → (list_any f xs ≡ false → AllByRecursion (λ y. f y ≡ false) xs) → (b || list_any f xs) ≡ false → AllByRecursion (λ y. f y ≡ false) (x ∷ xs)
     by true at more none = absurd (cc)
     by false at more none = (at, more none)
-
--- where one is, some is open
-pub some_open : (f : OpenPublication → Bool) (xs : List OpenPublication) → list_any f xs ≡ true → SomeOpen (open_in xs)
-some_open f [] e = absurd (cc)
-some_open f (x ∷ xs) e = (x.folder, (open_view_of x, (let t = text_itself x.folder in rw t refl)))
 
 module _ (rows : List EquivRow) (s : Signed) (tree : Entries) (xs : List OpenPublication) (one : OpenPublication) (of : IsOpenOf rows s tree one) where
   pub own : IsOpenOf rows s one.tree one
@@ -69,8 +64,8 @@ module _ (rows : List EquivRow) (s : Signed) (tree : Entries) (xs : List OpenPub
     on_opened all two named a b sound run on stand = each_last (Stands rows b) xs one (others_stand rows s tree all two a b sound run xs free stand)
         (record { task = record { signed = s; of = own; named = named }; on = subst (λ (t : Entries). IsOn (publication rows s t) (progress_of one) b) (sym of.gave) on })
 
-  pub tidy_beside : (a b : Story) → AddsNoLitter a.held b.held → Passes a b (IsPublishing (publication rows s tree) a.held) → IsTidy xs a → IsTidy (xs ++ one ∷ []) b
-  tidy_beside a b adds run was = tidy_opened xs one (publication rows s tree) a b (sym of.folder) adds run was
+  pub tidy_beside : (a b : Story) → AddsOwn one a.held b.held → Passes a b (IsPublishing (publication rows s tree) a.held) → IsTidy xs a → IsTidy (xs ++ one ∷ []) b
+  tidy_beside a b adds run was = tidy_opened xs one (publication rows s tree) a b of.fit.parts (sym of.folder) adds run was
 
 -- those that are open have other names
 module _ (name : Hash) (folder : List ℕ) (view : OpenView) where

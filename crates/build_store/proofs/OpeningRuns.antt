@@ -20,8 +20,8 @@ use Rattle.store_opening.specs.Paths.{IsLaidOut}
 use Rattle.store_opening.proofs.Areas.{differ, heads, heads_differ}
 use Rattle.build_store.specs.Calls.{IsRound, Opens}
 use Rattle.build_store.specs.Items.{Item, removal}
-use Rattle.build_store.specs.Noting.{IsListed, removals}
-use Rattle.build_store.specs.OpenOnes.{AreFound, MakesRoom, extras}
+use Rattle.build_store.specs.Noting.{AreFound, IsListed, removals}
+use Rattle.build_store.specs.OpenOnes.{MakesRoom, extras}
 use Rattle.build_store.specs.Phases.{Lays}
 use Rattle.build_store.proofs.Around.{begins_around, far_by_first, not_round}
 use Rattle.build_store.proofs.Phasing.{laid_lays}

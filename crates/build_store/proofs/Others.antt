@@ -1,12 +1,11 @@
 -- A publication leaves other tasks alone.
-use Rattle.std.proofs.Common.{◌≡◌, ◌≢◌, ◌∙◌, sym, ap, subst, refl, ℕ, ◌⊎◌, inl, inr, List, [], ◌∷◌, ◌++◌, Option, Some, None, arith}
+use Rattle.std.proofs.Common.{◌≡◌, ◌∙◌, sym, ap, subst, refl, ℕ, ◌⊎◌, inl, inr, List, [], ◌∷◌, ◌++◌, Option, Some, None, arith}
 use Rattle.std.specs.Prelude.{codes}
 use Rattle.tree_model.specs.declared.hash.Hash.{Hash}
 use Rattle.tree_model.specs.declared.manifest.ManifestLine.{ManifestLine}
 use Rattle.tree_model.specs.Hash.{hash_text}
 use Rattle.tree_model.specs.Path.{IsAtOrBelow, IsBelow, inside}
 use Rattle.outside_traits.specs.Store.{IsApart, Store}
-use Rattle.outside_traits.proofs.Folders.{under_same}
 use Rattle.meta_model.specs.CleanBuild.{Gives}
 use Rattle.store_model.specs.declared.signature.EquivRow.{EquivRow}
 use Rattle.store_model.specs.Available.{Matches, object_folder, task_folder, work_folder}
@@ -35,11 +34,11 @@ parts_apart pn task pm other a b c d differ' = apart_by_count (inside pn task) (
     (λ same. let parts = same_parts pm pn other task c a same in differ' parts.0 parts.1)
 
 -- a stamp is foreign to a publication of another folder
-foreign_stamp : (p : Publication) (folder : List ℕ) → folder ≢ p.folder → IsForeign p (stamp_at folder)
-foreign_stamp p folder ne = record {
+foreign_stamp : (p : Publication) (folder : List ℕ) → IsApart p.folder folder → IsForeign p (stamp_at folder)
+foreign_stamp p folder apart = record {
   temporary = λ below. heads_differ (differ 115 116 refl) below.1;
   work = apart_by_first (116 ∷ 97 ∷ 109 ∷ 112 ∷ 47 ∷ folder) (111 ∷ 114 ∷ 107 ∷ 47 ∷ p.folder) (differ 115 119 refl);
-  stamp = λ same. ne (under_same (codes "stamp") folder p.folder same);
+  stamp = apart_under (codes "stamp") p.folder folder apart;
   stored = λ new. heads_differ (differ 115 114 refl);
   shared = λ unihash is. apart_by_first (116 ∷ 97 ∷ 109 ∷ 112 ∷ 47 ∷ folder) (98 ∷ 106 ∷ 47 ∷ hash_text unihash) (differ 115 111 refl);
 }
@@ -49,7 +48,7 @@ foreign_work : (p : Publication) (ps : List ℕ) → IsApart (work_at p.folder) 
 foreign_work p ps apart = record {
   temporary = λ below. heads_differ (differ 119 116 refl) below.1;
   work = apart;
-  stamp = heads_differ (differ 119 115 refl);
+  stamp = apart_by_first ps (116 ∷ 97 ∷ 109 ∷ 112 ∷ 47 ∷ p.folder) (differ 119 115 refl);
   stored = λ new. heads_differ (differ 119 114 refl);
   shared = λ unihash is. apart_by_first ps (98 ∷ 106 ∷ 47 ∷ hash_text unihash) (differ 119 111 refl);
 }
@@ -59,7 +58,7 @@ foreign_object : (p : Publication) (ps : List ℕ) → ((unihash : Hash) → p.o
 foreign_object p ps apart = record {
   temporary = λ below. heads_differ (differ 111 116 refl) below.1;
   work = apart_by_first ps (111 ∷ 114 ∷ 107 ∷ 47 ∷ p.folder) (differ 111 119 refl);
-  stamp = heads_differ (differ 111 115 refl);
+  stamp = apart_by_first ps (116 ∷ 97 ∷ 109 ∷ 112 ∷ 47 ∷ p.folder) (differ 111 115 refl);
   stored = λ new. heads_differ (differ 111 114 refl);
   shared = apart;
 }
@@ -69,7 +68,7 @@ foreign_at p c ps q at foreign = let b = begins c ps q at in subst (IsForeign p)
 
 pub keeps_work : (p : Publication) (folder : List ℕ) (old new : Store) → IsApart p.folder folder → Publishes p old new → KeepsWork folder old new
 keeps_work p folder old new apart publishes = record {
-  stamp = publishes.others (stamp_at folder) (foreign_stamp p folder apart.not_folder);
+  stamp = publishes.others (stamp_at folder) (foreign_stamp p folder apart);
   work = λ q at. publishes.others q (foreign_at p 119 (111 ∷ 114 ∷ 107 ∷ 47 ∷ folder) q at (λ rest in_it. foreign_work p rest (apart_within (work_at p.folder) (work_at folder) (119 ∷ rest) (apart_under (codes "work") p.folder folder apart) in_it)));
 }
 
@@ -161,7 +160,7 @@ others_in_work_stay of object held old new keeps place rows s place' differ' the
       kept = was.kept;
       row = was.row;
       stored = was.stored;
-      stamp = keeps.stamps (task_folder s.task) apart.not_folder ∙ was.stamp;
+      stamp = keeps.stamps (task_folder s.task) (inl apart) ∙ was.stamp;
       folder =
           let one : then'.row ≡ was.row = (let a = then'.stored.is_row in let b = was.stored.is_row in let k : Some then'.row ≡ Some was.row = sym a ∙ b in cc) in
           matches_still (codes "work") (task_folder of) (task_folder s.task) refl apart held old new keeps.work keeps.above_work was.row.manifest (subst (λ (r : EquivRow). Matches held (work_folder s.task) r.manifest) one then'.folder) was.folder;

@@ -15,11 +15,13 @@ use Rattle.stamp_store.specs.Stamp.{TakesAway, old_path, stamp_path, staged_path
 use Rattle.store_opening.specs.Named.{IsName}
 use Rattle.store_opening.specs.Paths.{IsLaidOut, IsTemporary, staged_record_path}
 use Rattle.store_model.specs.Paths.{record_path, slashes}
+use Rattle.build_store.specs.Calls.{FreesStamp}
 use Rattle.build_store.specs.Phases.{IsApartFrom, Lays, Stages}
 use Rattle.store_model.specs.Publication.{work_at}
 use Rattle.store_opening.proofs.Areas.{apart_by_first, differ, heads_differ}
 use Rattle.store_opening.proofs.Clean.{name_slashes}
 use Rattle.store_opening.proofs.Slashes.{slashes_inside}
+use Rattle.build_store.proofs.Rounding.{frees_there}
 
 -- a path under `rec/`, `stamp/` or `tmp/` at which the store may put something
 pub IsWell : List ℕ → Type 0
@@ -33,7 +35,6 @@ laid_after : (i j : Store) → ((q : List ℕ) → IsSome (j q) → IsSome (i q)
 unfolding IsWell
 laid_after i j comes was = record {
   records = λ path some. by_rec path (comes (inside (codes "rec") path) some);
-  stamps = λ path some. by_stamp path (comes (inside (codes "stamp") path) some);
   temporary = λ path some. by_tmp path (comes (inside (codes "tmp") path) some);
   at_records = none_unless (j (codes "rec")) (λ some. at_rec (comes (codes "rec") some));
   at_stamps = none_unless (j (codes "stamp")) (λ some. at_stamp (comes (codes "stamp") some));
@@ -51,12 +52,6 @@ laid_after i j comes was = record {
     by_rec path (inr (inl w)) = ap slashes (under_same (codes "rec") path w.0 w.1) ∙ w.2
     by_rec path (inr (inr (inl w))) = absurd (heads_differ (differ 114 115 refl) w.1)
     by_rec path (inr (inr (inr w))) = absurd (heads_differ (differ 114 116 refl) w.1)
-
-    by_stamp : (path : List ℕ) → IsSome (i (inside (codes "stamp") path)) ⊎ (((p : List ℕ) × (inside (codes "stamp") path ≡ inside (codes "rec") p) × (slashes p ≡ 0)) ⊎ (((p : List ℕ) × (inside (codes "stamp") path ≡ inside (codes "stamp") p) × (slashes p ≡ 1)) ⊎ ((p : List ℕ) × (inside (codes "stamp") path ≡ inside (codes "tmp") p) × IsTemporary p))) → slashes path ≡ 1
-    by_stamp path (inl some) = was.stamps path some
-    by_stamp path (inr (inl w)) = absurd (heads_differ (differ 115 114 refl) w.1)
-    by_stamp path (inr (inr (inl w))) = ap slashes (under_same (codes "stamp") path w.0 w.1) ∙ w.2
-    by_stamp path (inr (inr (inr w))) = absurd (heads_differ (differ 115 116 refl) w.1)
 
     by_tmp : (path : List ℕ) → IsSome (i (inside (codes "tmp") path)) ⊎ (((p : List ℕ) × (inside (codes "tmp") path ≡ inside (codes "rec") p) × (slashes p ≡ 0)) ⊎ (((p : List ℕ) × (inside (codes "tmp") path ≡ inside (codes "stamp") p) × (slashes p ≡ 1)) ⊎ ((p : List ℕ) × (inside (codes "tmp") path ≡ inside (codes "tmp") p) × IsTemporary p))) → IsTemporary path
     by_tmp path (inl some) = was.temporary path some
@@ -127,6 +122,19 @@ laid_aside folder i j one takes was = laid_from (stamp_path folder) (old_path fo
 pub laid_stamped : (folder : List ℕ) (x : Option Entry) (i j : Store) → slashes folder ≡ 1 → Moves (staged_path folder) (stamp_path folder) x i j → IsLaidOut i → IsLaidOut j
 laid_stamped folder x i j one move was = laid_move (staged_path folder) (stamp_path folder) x i j (well_stamp folder one) move was
 
+-- what is in the way of a stamp goes
+pub laid_freeing : (folder : List ℕ) (i j : Store) → FreesStamp folder i i j → IsLaidOut i → IsLaidOut j
+laid_freeing folder i j frees was = record {
+  records = λ path some. was.records path (subst IsSome (same 114 (101 ∷ 99 ∷ 47 ∷ path) (differ 114 115 refl)) some);
+  temporary = λ path some. was.temporary path (subst IsSome (same 116 (109 ∷ 112 ∷ 47 ∷ path) (differ 116 115 refl)) some);
+  at_records = same 114 (101 ∷ 99 ∷ []) (differ 114 115 refl) ∙ was.at_records;
+  at_stamps = frees.none (codes "stamp") was.at_stamps ∙ was.at_stamps;
+  at_temporary = same 116 (109 ∷ 112 ∷ []) (differ 116 115 refl) ∙ was.at_temporary;
+}
+  where
+    same : (c : ℕ) (rest : List ℕ) → c ≢ 115 → j (c ∷ rest) ≡ i (c ∷ rest)
+    same c rest ne = frees_there folder i i j c (c ∷ rest) ne (rest, refl) frees
+
 -- ---- the work folder and the object
 
 object_by_first : (object : Option Hash) (c : ℕ) (ps : List ℕ) → c ≢ 111 → IsApartFrom object (c ∷ ps)
@@ -135,7 +143,6 @@ object_by_first object c ps ne unihash is = apart_by_first ps (98 ∷ 106 ∷ 47
 pub laid_lays : (folder : List ℕ) (object : Option Hash) (i j : Store) → Lays folder object i j → IsLaidOut i → IsLaidOut j
 laid_lays folder object i j lays was = record {
   records = λ path some. was.records path (subst IsSome (same 114 (101 ∷ 99 ∷ 47 ∷ path) (differ 114 119 refl) (differ 114 111 refl)) some);
-  stamps = λ path some. was.stamps path (subst IsSome (same 115 (116 ∷ 97 ∷ 109 ∷ 112 ∷ 47 ∷ path) (differ 115 119 refl) (differ 115 111 refl)) some);
   temporary = λ path some. was.temporary path (subst IsSome (same 116 (109 ∷ 112 ∷ 47 ∷ path) (differ 116 119 refl) (differ 116 111 refl)) some);
   at_records = same 114 (101 ∷ 99 ∷ []) (differ 114 119 refl) (differ 114 111 refl) ∙ was.at_records;
   at_stamps = same 115 (116 ∷ 97 ∷ 109 ∷ 112 ∷ []) (differ 115 119 refl) (differ 115 111 refl) ∙ was.at_stamps;

@@ -1,5 +1,5 @@
 -- Each call of a publication in pieces is a publication, at each moment.
-use Rattle.std.proofs.Common.{◌≡◌, ◌≢◌, ◌∙◌, sym, subst, refl, ℕ, inl, inr, List, [], ◌∷◌, Some, None}
+use Rattle.std.proofs.Common.{◌≡◌, ◌≢◌, ◌∙◌, sym, subst, refl, ℕ, ◌⊎◌, inl, inr, List, [], ◌∷◌, Some, None}
 use Rattle.std.specs.Prelude.{codes}
 use Rattle.std.specs.List.{AllByRecursion}
 use Rattle.tree_model.specs.declared.hash.Hash.{Hash}
@@ -14,11 +14,12 @@ use Rattle.store_model.specs.Paths.{record_path}
 use Rattle.build_store.specs.Publication.{IsForeign, KeepsOthers, Publishes}
 use Rattle.store_model.specs.Publication.{Publication, stamp_at, work_at}
 use Rattle.store_opening.proofs.Areas.{differ, heads_differ}
-use Rattle.build_store.proofs.Rounding.{begins}
-use Rattle.build_store.specs.Calls.{Finishes, IsRound, KeepsStaged, Opens, Works}
+use Rattle.store_opening.proofs.Doomed.{no_slash}
+use Rattle.build_store.proofs.Rounding.{another, begins, by_freeing, frees_there}
+use Rattle.build_store.specs.Calls.{Finishes, FreesStamp, IsRound, KeepsStaged, Opens, Works}
 use Rattle.build_store.specs.Items.{IsItemOf, IsWithin, Item}
-use Rattle.build_store.specs.Pieces.{FinishesIsPublishing, OpensIsPublishing, WorksIsPublishing}
-use Rattle.build_store.proofs.Around.{apart_at, begins_above, due_within, far_by_first, not_around, not_at, not_round, out_by_first}
+use Rattle.build_store.specs.Pieces.{FinishesIsPublishing, IsPublishing, OpensIsPublishing, WorksIsPublishing}
+use Rattle.build_store.proofs.Around.{apart_at, begins_above, below_itself, due_within, far_by_first, not_around, not_at, not_round, out_by_first}
 
 -- what is foreign to a publication
 module _ (p : Publication) (q : List ℕ) (foreign : IsForeign p q) where
@@ -54,7 +55,7 @@ not_record p c rest q is ne = not_at c 114 rest (101 ∷ 99 ∷ 47 ∷ hash_text
 module _ (p : Publication) (held old new : Store) (opens : Opens p held old new) where
   pub opens_own : Publishes p old new
   opens_own = record {
-    others = λ q foreign. opens.others q foreign.stamp (not_old p q foreign) (foreign_round p q foreign);
+    others = λ q foreign. opens.others q foreign.stamp.not_folder (not_old p q foreign) (foreign_round p q foreign);
     stored = inl (opens.others (record_path p.name) (heads_differ (differ 114 115 refl)) (heads_differ (differ 114 116 refl)) (far_by_first p 114 (101 ∷ 99 ∷ 47 ∷ hash_text p.name) (record_path p.name) refl (differ 114 119 refl) (differ 114 111 refl)));
     honest = elim opens.honest [ inl untouched ↦ inl untouched | inr gone ↦ inr (inl gone) ];
   }
@@ -76,8 +77,9 @@ module _ (p : Publication) (held old new : Store) (opens : Opens p held old new)
 
   pub opens_others : KeepsOthers p.folder p.object held old new
   opens_others = record {
-    stamps = λ other ne. opens.others (stamp_at other) (λ same. ne (under_same (codes "stamp") other p.folder same)) (heads_differ (differ 115 116 refl))
+    stamps = λ other w. opens.others (stamp_at other) (λ same. another p.folder held other w (under_same (codes "stamp") other p.folder same)) (heads_differ (differ 115 116 refl))
         (far_by_first p 115 (116 ∷ 97 ∷ 109 ∷ 112 ∷ 47 ∷ other) (stamp_at other) refl (differ 115 119 refl) (differ 115 111 refl));
+    top = λ none. opens.others (codes "stamp") (no_slash (codes "stamp") p.folder) (heads_differ (differ 115 116 refl)) (far_by_first p 115 (116 ∷ 97 ∷ 109 ∷ 112 ∷ []) (codes "stamp") refl (differ 115 119 refl) (differ 115 111 refl));
     work = λ q at apart. let b = begins 119 (111 ∷ 114 ∷ 107 ∷ []) q at in by_work q b.0 b.1 apart;
     objects = λ q at apart. let b = begins 111 (98 ∷ 106 ∷ []) q at in by_object q b.0 b.1 apart;
     above_work = λ q up none. opens.round q (inl (inr up)) none;
@@ -125,7 +127,8 @@ module _ (p : Publication) (items : List Item) (held old new : Store) (all : All
 
   pub works_others : KeepsOthers p.folder p.object held old new
   works_others = record {
-    stamps = λ other ne. works_at (stamp_at other) (out_by_first p 115 (116 ∷ 97 ∷ 109 ∷ 112 ∷ 47 ∷ other) (stamp_at other) refl (differ 115 119 refl) (differ 115 111 refl));
+    stamps = λ other w. works_at (stamp_at other) (out_by_first p 115 (116 ∷ 97 ∷ 109 ∷ 112 ∷ 47 ∷ other) (stamp_at other) refl (differ 115 119 refl) (differ 115 111 refl));
+    top = λ none. works_at (codes "stamp") (out_by_first p 115 (116 ∷ 97 ∷ 109 ∷ 112 ∷ []) (codes "stamp") refl (differ 115 119 refl) (differ 115 111 refl));
     work = λ q at apart. let b = begins 119 (111 ∷ 114 ∷ 107 ∷ []) q at in works_work q b.0 b.1 apart.not_under;
     objects = λ q at apart. let b = begins 111 (98 ∷ 106 ∷ []) q at in works_object q b.0 b.1 (λ unihash is. (apart unihash is).not_under);
     above_work = λ q up none. let b = begins_above 119 (111 ∷ 114 ∷ 107 ∷ 47 ∷ p.folder) q (differ 119 47 refl) up in works_work q b.0 b.1 (λ in_it. not_around (work_at p.folder) q in_it (inr up));
@@ -145,6 +148,30 @@ module _ (p : Publication) (items : List Item) (held old new : Store) (all : All
 pub works_is_publishing : WorksIsPublishing
 works_is_publishing p items held old new all none works = record { own = works_own p items held old new all works none; others = works_others p items held old new all works; staged = works_staged p items held old new all works }
 
+-- ---- what is in the way of the stamp goes
+
+stamp_itself : (folder : List ℕ) → IsBelow (stamp_at folder) (stamp_at folder) ⊎ IsBelow (stamp_at folder) (stamp_at folder) → ⊥
+stamp_itself folder (inl at) = below_itself (stamp_at folder) at
+stamp_itself folder (inr at) = below_itself (stamp_at folder) at
+
+-- the stamp's own path stays
+pub frees_keeps : (folder : List ℕ) (held old new : Store) → FreesStamp folder held old new → new (stamp_at folder) ≡ old (stamp_at folder)
+frees_keeps folder held old new frees = frees.others (stamp_at folder) (stamp_itself folder)
+
+pub freeing_is_publishing : (p : Publication) (held old new : Store) → old (stamp_at p.folder) ≡ None → FreesStamp p.folder held old new → IsPublishing p held old new
+freeing_is_publishing p held old new none frees = record {
+  own = record {
+    others = λ q foreign. frees.others q (λ way. elim way [ inl up ↦ foreign.stamp.not_above up | inr down ↦ foreign.stamp.not_under down ]);
+    stored = inl (frees_there p.folder held old new 114 (record_path p.name) (differ 114 115 refl) (101 ∷ 99 ∷ 47 ∷ hash_text p.name, refl) frees);
+    honest = inr (inl (frees_keeps p.folder held old new frees ∙ none));
+  };
+  others = by_freeing p.folder p.object held old new frees;
+  staged = record {
+    temporary = λ q below a b c. frees_there p.folder held old new 116 q (differ 116 115 refl) (109 ∷ 112 ∷ 47 ∷ below.0, below.1) frees;
+    records = λ q below ne. frees_there p.folder held old new 114 q (differ 114 115 refl) (101 ∷ 99 ∷ 47 ∷ below.0, below.1) frees;
+  };
+}
+
 -- ---- the end
 
 module _ (p : Publication) (held old new : Store) (finishes : Finishes p old new) where
@@ -153,15 +180,16 @@ module _ (p : Publication) (held old new : Store) (finishes : Finishes p old new
 
   pub finishes_own : old (stamp_at p.folder) ≡ None → Publishes p old new
   finishes_own none = record {
-    others = λ q foreign. finishes.others q (λ same. foreign.temporary (115 ∷ 116 ∷ 97 ∷ 109 ∷ 112 ∷ 47 ∷ p.folder, same)) (λ same. foreign.temporary (114 ∷ 101 ∷ 99 ∷ 47 ∷ hash_text p.name, same)) foreign.stamp foreign.stored;
+    others = λ q foreign. finishes.others q (λ same. foreign.temporary (115 ∷ 116 ∷ 97 ∷ 109 ∷ 112 ∷ 47 ∷ p.folder, same)) (λ same. foreign.temporary (114 ∷ 101 ∷ 99 ∷ 47 ∷ hash_text p.name, same)) foreign.stamp.not_folder foreign.stored;
     stored = finishes.stored;
     honest = elim finishes.stamp [ inl same ↦ inr (inl (same ∙ none)) | inr is ↦ inr (inr is) ];
   }
 
   pub finishes_others : KeepsOthers p.folder p.object held old new
   finishes_others = record {
-    stamps = λ other ne. let rest = 116 ∷ 97 ∷ 109 ∷ 112 ∷ 47 ∷ other in
-        finishes.others (stamp_at other) (not_staged p 115 rest (stamp_at other) refl (differ 115 116 refl)) (not_staged_record p 115 rest (stamp_at other) refl (differ 115 116 refl)) (λ same. ne (under_same (codes "stamp") other p.folder same)) (λ new_one. heads_differ (differ 115 114 refl));
+    stamps = λ other w. let rest = 116 ∷ 97 ∷ 109 ∷ 112 ∷ 47 ∷ other in
+        finishes.others (stamp_at other) (not_staged p 115 rest (stamp_at other) refl (differ 115 116 refl)) (not_staged_record p 115 rest (stamp_at other) refl (differ 115 116 refl)) (λ same. another p.folder held other w (under_same (codes "stamp") other p.folder same)) (λ new_one. heads_differ (differ 115 114 refl));
+    top = λ none. let rest = 116 ∷ 97 ∷ 109 ∷ 112 ∷ [] in finishes.others (codes "stamp") (not_staged p 115 rest (codes "stamp") refl (differ 115 116 refl)) (not_staged_record p 115 rest (codes "stamp") refl (differ 115 116 refl)) (no_slash (codes "stamp") p.folder) (λ new_one. heads_differ (differ 115 114 refl));
     work = λ q at apart. let b = begins 119 (111 ∷ 114 ∷ 107 ∷ []) q at in finishes_at 119 b.0 q b.1 (differ 119 116 refl) (differ 119 115 refl) (differ 119 114 refl);
     objects = λ q at apart. let b = begins 111 (98 ∷ 106 ∷ []) q at in finishes_at 111 b.0 q b.1 (differ 111 116 refl) (differ 111 115 refl) (differ 111 114 refl);
     above_work = λ q up none. let b = begins_above 119 (111 ∷ 114 ∷ 107 ∷ 47 ∷ p.folder) q (differ 119 47 refl) up in finishes_at 119 b.0 q b.1 (differ 119 116 refl) (differ 119 115 refl) (differ 119 114 refl);

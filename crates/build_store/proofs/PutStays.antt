@@ -1,5 +1,5 @@
 -- What a publication at its end has put stays, whatever others do.
-use Rattle.std.proofs.Common.{◌≡◌, ◌≢◌, ◌∙◌, sym, ap, subst, refl, ℕ, List, ◌∷◌, Option, Some, None, get_or}
+use Rattle.std.proofs.Common.{◌≡◌, ◌≢◌, ◌∙◌, sym, ap, subst, refl, ℕ, inl, List, ◌∷◌, Option, Some, None, get_or}
 use Rattle.std.specs.Prelude.{codes}
 use Rattle.tree_model.specs.declared.hash.Hash.{Hash}
 use Rattle.tree_model.specs.Hash.{hash_text}
@@ -51,5 +51,5 @@ others_keep_put p r held old new apart first did = record {
       (areas 4 115 111 (staged_path p.folder) (old_path r.folder) refl refl (differ 115 111 refl))
       (λ same. apart.folders.not_folder (under_same (codes "tmp/stamp") p.folder r.folder same))
       (staged_differ p.folder r.name);
-  stamp = did.others.stamps p.folder apart.folders.not_folder;
+  stamp = did.others.stamps p.folder (inl apart.folders);
 }

@@ -17,11 +17,14 @@ use Rattle.stamp_store.specs.Stamp.{TakesAway, stamp_path, staged_path}
 use Rattle.store_model.specs.Available.{object_folder}
 use Rattle.store_model.specs.Paths.{record_path}
 use Rattle.store_opening.specs.Paths.{staged_record_path}
+use Rattle.build_store.specs.Calls.{FreesStamp}
 use Rattle.build_store.specs.Phases.{Lays, Stages, put_of}
 use Rattle.build_store.specs.Publication.{IsForeign, IsPublished, Publishes}
 use Rattle.store_model.specs.Publication.{Publication, stamp_at, stamp_file, work_at}
 use Rattle.store_opening.proofs.Areas.{differ, heads_differ, tree_stays}
 use Rattle.build_store.proofs.Phasing.{lays_elsewhere}
+use Rattle.build_store.proofs.Piecing.{frees_keeps}
+use Rattle.build_store.proofs.Rounding.{frees_there}
 
 some_is : (o : Option Entry) → IsSome o → (e : Entry) × (o ≡ Some e)
 some_is None some = absurd (false≢true some)
@@ -44,7 +47,7 @@ module _ (folder : List ℕ) (name : Hash) (tree : Entries) (object : Option Has
   -- the stamp is taken away
   by_aside : (i j : Store) → TakesAway folder i j → Publishes P i j
   by_aside i j move = record {
-    others = λ q foreign. move.others q foreign.stamp (λ same. foreign.temporary (inside (codes "old") folder, same));
+    others = λ q foreign. move.others q foreign.stamp.not_folder (λ same. foreign.temporary (inside (codes "old") folder, same));
     stored = inl (move.others (record_path name) (heads_differ (differ 114 115 refl)) (heads_differ (differ 114 116 refl)));
     honest = ⊎_elim (λ same. inl (record { stamp = same; work = work })) (λ gone. inr (inl gone)) move.source;
   }
@@ -64,6 +67,13 @@ module _ (folder : List ℕ) (name : Hash) (tree : Entries) (object : Option Has
     others = λ q foreign. lays.others q foreign.work foreign.shared;
     stored = inl (lays_elsewhere folder object j k 114 (101 ∷ 99 ∷ 47 ∷ hash_text name) (differ 114 119 refl) (differ 114 111 refl) lays);
     stamp = lays_elsewhere folder object j k 115 (116 ∷ 97 ∷ 109 ∷ 112 ∷ 47 ∷ folder) (differ 115 119 refl) (differ 115 111 refl) lays;
+  }
+
+  quiet_freeing : (h j k : Store) → FreesStamp folder h j k → IsQuiet j k
+  quiet_freeing h j k frees = record {
+    others = λ q foreign. frees.others q (λ way. elim way [ inl up ↦ foreign.stamp.not_above up | inr down ↦ foreign.stamp.not_under down ]);
+    stored = inl (frees_there folder h j k 114 (record_path name) (differ 114 115 refl) (101 ∷ 99 ∷ 47 ∷ hash_text name, refl) frees);
+    stamp = frees_keeps folder h j k frees;
   }
 
   quiet_stages : ((e : Entry) → file ≡ Some e → e ≡ f) → (j k : Store) → Stages name file j k → IsQuiet j k
@@ -97,6 +107,9 @@ module _ (folder : List ℕ) (name : Hash) (tree : Entries) (object : Option Has
   pub lays_run : {a b c : Story} → IsSound b → Quiets a b → Passes b c (Lays folder object) → Quiets a c
   lays_run sound quiets run = quiet_more sound quiet_lays quiets run
 
+  pub freeing_run : {a b c : Story} (h : Store) → IsSound b → Quiets a b → Passes b c (FreesStamp folder h) → Quiets a c
+  freeing_run h sound quiets run = quiet_more sound (quiet_freeing h) quiets run
+
   pub stages_run : {a b c : Story} → ((e : Entry) → file ≡ Some e → e ≡ f) → IsSound b → Quiets a b → Passes b c (Stages name file) → Quiets a c
   stages_run is sound quiets run = quiet_more sound (quiet_stages is) quiets run
 
@@ -118,7 +131,7 @@ module _ (folder : List ℕ) (name : Hash) (tree : Entries) (object : Option Has
 
   last : (x : Option Entry) (i j k : Store) → x ≡ Some (stamp_file name) → Publishes P i j → NoStamp j → IsReady j → Moves (staged_path folder) (stamp_path folder) x j k → Publishes P i k
   last x i j k is was none ready move = record {
-    others = λ q foreign. move.others q (λ same. foreign.temporary (inside (codes "stamp") folder, same)) foreign.stamp ∙ was.others q foreign;
+    others = λ q foreign. move.others q (λ same. foreign.temporary (inside (codes "stamp") folder, same)) foreign.stamp.not_folder ∙ was.others q foreign;
     stored = ⊎_elim (λ as_was. inl (kept ∙ as_was)) (λ new. inr (new.0, kept ∙ new.1)) was.stored;
     honest = ⊎_elim (λ same. inr (inl (same ∙ none))) (λ new. inr (inr (published_by x j k ready move (new ∙ is)))) move.target;
   }

@@ -15,8 +15,10 @@ use Rattle.stamp_store.specs.Stamp.{TakesAway, staged_path, stamp_path}
 use Rattle.store_model.specs.Available.{object_folder}
 use Rattle.store_model.specs.Publication.{work_at}
 use Rattle.store_opening.proofs.Areas.{apart_by_first, differ, heads_differ}
+use Rattle.build_store.specs.Calls.{FreesStamp}
 use Rattle.build_store.specs.Phases.{Stages}
 use Rattle.build_store.specs.Publication.{KeepsCopied, KeepsRight}
+use Rattle.build_store.proofs.Rounding.{frees_there}
 
 module _ (folder : List ℕ) (object : Option Hash) (tree : Entries) where
   -- all under `work` and `obj` stays
@@ -59,6 +61,13 @@ module _ (folder : List ℕ) (object : Option Hash) (tree : Entries) where
       elsewhere a.held i j
       (λ rest. move.others (119 ∷ rest) (heads_differ (differ 119 115 refl)) (heads_differ (differ 119 116 refl)))
       (λ rest. move.others (111 ∷ rest) (heads_differ (differ 111 115 refl)) (heads_differ (differ 111 116 refl))))
+
+  -- what is in its way goes
+  pub rights_by_freeing : {a b : Story} → Passes a b (FreesStamp folder a.held) → Rights a b
+  rights_by_freeing {a} run = passes_so (KeepsRight folder object tree a.held) run (λ i j frees.
+      elsewhere a.held i j
+      (λ rest. frees_there folder a.held i j 119 (119 ∷ rest) (differ 119 115 refl) (rest, refl) frees)
+      (λ rest. frees_there folder a.held i j 111 (111 ∷ rest) (differ 111 115 refl) (rest, refl) frees))
 
   -- it comes to its place
   pub rights_by_stamp : {x : Option Entry} {a b : Story} → Passes a b (Moves (staged_path folder) (stamp_path folder) x) → Rights a b

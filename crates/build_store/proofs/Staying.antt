@@ -1,5 +1,5 @@
 -- Open publications stay, whatever others do.
-use Rattle.std.proofs.Common.{◌≡◌, ◌∙◌, sym, subst, refl, ℕ, ◌⊎◌, inl, inr, Bool, true, false, List, [], ◌∷◌, ◌++◌, Option, Some, None}
+use Rattle.std.proofs.Common.{◌≡◌, ◌∙◌, sym, subst, refl, ℕ, ◌⊎◌, inl, inr, Bool, true, false, List, [], ◌∷◌, ◌++◌, Option, Some, None, arith}
 use Rattle.std.specs.Prelude.{codes, find}
 use Rattle.std.specs.Str.{bytes_eq}
 use Rattle.tree_model.specs.declared.hash.Hash.{Hash}
@@ -7,7 +7,9 @@ use Rattle.tree_model.specs.declared.manifest.ManifestLine.{ManifestLine}
 use Rattle.tree_model.specs.Hash.{hash_text}
 use Rattle.tree_model.specs.Manifest.{manifest_lines}
 use Rattle.tree_model.specs.Path.{IsAtOrBelow, IsBelow, inside}
+use Rattle.outside_traits.specs.Passes.{Passes}
 use Rattle.outside_traits.specs.Store.{IsApart, IsOpen, Store}
+use Rattle.outside_traits.specs.Story.{Story}
 use Rattle.outside_traits.proofs.Runs.{each_now}
 use Rattle.meta_model.proofs.Bools.{either_way, same_text}
 use Rattle.meta_model.specs.CleanBuild.{Entries}
@@ -18,6 +20,8 @@ use Rattle.store_model.specs.Signatures.{Signed}
 use Rattle.store_model.specs.Spelling.{name_of}
 use Rattle.build_store.specs.Publication.{KeepsOthers, publication}
 use Rattle.store_model.specs.Publication.{Publication, stamp_at, work_at}
+use Rattle.build_store.specs.Halves.{IsAside}
+use Rattle.build_store.proofs.AsideRuns.{noted_same}
 use Rattle.build_store.proofs.FoldersStay.{open_far, open_in, path_far, path_in}
 use Rattle.build_store.specs.Items.{IsLaidBut, Item}
 use Rattle.build_store.specs.Pieces.{HalvesStay, PublicationStays}
@@ -53,9 +57,29 @@ module _ (p : Publication) (left : List Item) (folder : List ℕ) (object : Opti
           (path_far (codes "obj") (hash_text one) (hash_text unihash) refl (far one e) old old new same above)
           (open_far (codes "obj") (hash_text one) (hash_text unihash) refl (far one e) old old new same above was.outside was.outside) was
 
+  object_same : (unihash : Hash) → ((one : Hash) → object ≡ Some one → IsApart (hash_text one) (hash_text unihash)) → (path : List ℕ) → new (inside (object_folder unihash) path) ≡ old (inside (object_folder unihash) path)
+  object_same unihash far = by object refl
+    where
+      by : (o : Option Hash) → object ≡ o → (path : List ℕ) → new (inside (object_folder unihash) path) ≡ old (inside (object_folder unihash) path)
+      by None e = path_in (codes "obj") (hash_text unihash) refl old new (λ q at. keeps.objects q at (λ u some. absurd (let n : None ≡ Some u = sym e ∙ some in cc)))
+      by (Some one) e = path_far (codes "obj") (hash_text one) (hash_text unihash) refl (far one e) old old new
+          (λ q at a. keeps.objects q at (λ u some. let k : Some one ≡ Some u = sym e ∙ some in let is : one ≡ u = cc in subst (λ (h : Hash). IsApart (object_folder h) q) is a))
+          (λ q up none. keeps.above_object one e q up none)
+
+-- one whose stamp was put aside
+pub aside_stays : (p : Publication) (k : ℕ) (items : List Item) (folder : List ℕ) (object : Option Hash) (a b : Story) → IsApart folder p.folder → ((one other : Hash) → object ≡ Some one → p.object ≡ Some other → IsApart (hash_text one) (hash_text other))
+    → Passes a b (KeepsOthers folder object a.held) → IsAside p k items a → IsAside p k items b
+aside_stays p k items folder object a b apart objects run is = record {
+  past = omega (arith, is.past, run.later);
+  gone = λ i left. let w = run.above k i is.past left in w.2.stamps p.folder (inl apart) ∙ is.gone w.0 w.1;
+  noted = noted_same p items a.held b.held
+      (path_far (codes "work") folder p.folder refl apart a.held a.held b.held run.held.work run.held.above_work)
+      (λ unihash some. object_same p items folder object a.held b.held apart run.held unihash (λ one e. objects one unihash e some)) is.noted;
+}
+
 pub halves_stay : HalvesStay
 halves_stay p left folder object a b apart objects run half = record {
-  unstamped = each_now (λ i. i (stamp_at p.folder) ≡ None) (λ i. i (stamp_at p.folder) ≡ None) half.unstamped run (λ i j none keeps. keeps.stamps p.folder apart.not_folder ∙ none);
+  unstamped = each_now (λ i. i (stamp_at p.folder) ≡ None) (λ i. i (stamp_at p.folder) ≡ None) half.unstamped run (λ i j none keeps. keeps.stamps p.folder (inl apart) ∙ none);
   items = half.items;
   order = half.order;
   work = work_stays p left folder object a.held b.held apart run.held half.work;

@@ -91,7 +91,7 @@ held_stays p rows i k others publishes all = each_both (IsHeld i) (IsOther p.is_
   held = publishes.others (record_path row.name) (record {
     temporary = λ below. heads_differ (differ 114 116 refl) below.1;
     work = apart_by_first (101 ∷ 99 ∷ 47 ∷ hash_text row.name) (111 ∷ 114 ∷ 107 ∷ 47 ∷ p.folder) (differ 114 119 refl);
-    stamp = heads_differ (differ 114 115 refl);
+    stamp = apart_by_first (101 ∷ 99 ∷ 47 ∷ hash_text row.name) (116 ∷ 97 ∷ 109 ∷ 112 ∷ 47 ∷ p.folder) (differ 114 115 refl);
     stored = other;
     shared = λ unihash is. apart_by_first (101 ∷ 99 ∷ 47 ∷ hash_text row.name) (98 ∷ 106 ∷ 47 ∷ hash_text unihash) (differ 114 111 refl);
   }) ∙ h.held;

@@ -178,7 +178,7 @@ module _ (rows : List EquivRow) (s : Signed) (spells : Spells (signature_bytes s
     next_on of a b sound run on own = subst (AreOn rows b) (sym are) (on_next rows s spells named h.before one h.after h.meant stand_here all next of b own (others_here a b sound run on))
 
     pub next_tidy : (a b : Story) → Passes a b (IsPublishing (publication rows s one.tree) a.held) → Sweeps one one.reached (Some next) a.held b.held → IsTidy xs a → IsTidy ys b
-    next_tidy a b run sweeps was = subst (λ (l : List OpenPublication). IsTidy l b) (sym are) (tidy_next h.before one h.after (publication rows s one.tree) a b (sym h.meant.folder) run (subst (λ (l : List OpenPublication). IsTidy l a) h.is was) next sweeps)
+    next_tidy a b run sweeps was = subst (λ (l : List OpenPublication). IsTidy l b) (sym are) (tidy_next h.before one h.after (publication rows s one.tree) a b here_of.fit.parts (sym h.meant.folder) run (subst (λ (l : List OpenPublication). IsTidy l a) h.is was) next sweeps)
 
   -- it is open no more
   module _ (ys : List OpenPublication) (are : ys ≡ h.before ++ h.after) where
@@ -201,7 +201,7 @@ module _ (rows : List EquivRow) (s : Signed) (spells : Spells (signature_bytes s
     done_on a b sound run on = subst (AreOn (rows_with rows s one.tree) b) (sym are) (on_done rows s spells named h.before one h.after h.meant stand_here all b (others_here a b sound run on))
 
     pub done_tidy : (a b : Story) → IsSound b → Passes a b (IsPublishing (publication rows s one.tree) a.held) → Sweeps one one.reached None a.held b.held → EachNow b (IsPublished (publication rows s one.tree)) → IsTidy xs a → IsTidy ys b
-    done_tidy a b sound run sweeps published was = subst (λ (l : List OpenPublication). IsTidy l b) (sym are) (tidy_done h.before one h.after (publication rows s one.tree) a b (sym h.meant.folder) run (subst (λ (l : List OpenPublication). IsTidy l a) h.is was) sound sweeps published)
+    done_tidy a b sound run sweeps published was = subst (λ (l : List OpenPublication). IsTidy l b) (sym are) (tidy_done h.before one h.after (publication rows s one.tree) a b here_of.fit.parts (sym h.meant.folder) run (subst (λ (l : List OpenPublication). IsTidy l a) h.is was) sound sweeps published)
 
 -- ---- what it came to
 

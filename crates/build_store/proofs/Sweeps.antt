@@ -14,21 +14,19 @@ use Rattle.outside_traits.specs.Store.{Store}
 use Rattle.outside_traits.specs.Story.{IsSound, Story}
 use Rattle.outside_traits.proofs.Calls.{ends_passes, renames_passes}
 use Rattle.outside_traits.proofs.Puts.{path_cases}
-use Rattle.stamp_store.specs.Stamp.{old_path, stamp_path, staged_path}
+use Rattle.stamp_store.specs.Stamp.{stamp_path, staged_path}
 use Rattle.store_model.specs.Paths.{record_path}
-use Rattle.store_model.specs.Publication.{Publication, stamp_at}
 use Rattle.store_opening.specs.Paths.{staged_record_path}
 use Rattle.store_opening.proofs.Areas.{differ, heads_differ}
 use Rattle.build_store.specs.declared.pieces.OpenPublication.{OpenPublication}
 use Rattle.build_store.specs.declared.pieces.Reached.{Reached}
 use Rattle.build_store.specs.declared.pieces.Reached.TheVariants as reached
-use Rattle.build_store.specs.Calls.{MovesOnly, Opens, Works}
+use Rattle.build_store.specs.Calls.{KeepsBut, MovesOnly, Works}
 use Rattle.build_store.specs.Drafts.{file_of}
 use Rattle.build_store.specs.Items.{IsItemOf, Item}
 use Rattle.build_store.specs.OpenOnes.{IsStaged, StagesAt, Sweeps, put_by}
 use Rattle.build_store.specs.Phases.{AddsStaged}
-use Rattle.build_store.specs.Standing.{AddsNoLitter}
-use Rattle.build_store.proofs.Around.{far_by_first, out_by_first}
+use Rattle.build_store.proofs.Around.{out_by_first}
 use Rattle.build_store.proofs.Piecing.{works_at}
 
 pub on_ok_of : {T E P : Type 0} (r : Result T E) → P → OnOk r P
@@ -44,14 +42,6 @@ no_stamp folder q below same = heads_differ (differ 116 115 refl) (sym below.1 �
 
 no_record : (name : Hash) (q : List ℕ) → IsBelow (codes "tmp") q → q ≢ record_path name
 no_record name q below same = heads_differ (differ 116 114 refl) (sym below.1 ∙ same)
-
--- ---- opening
-
-pub opens_no_litter : (p : Publication) (held old new : Store) → Opens p held old new → (old (old_path p.folder) ≡ None → new (old_path p.folder) ≡ None) → AddsNoLitter old new
-opens_no_litter p held old new opens aside q below none = elim (path_cases q (old_path p.folder)) [
-  | inl same ↦ ap new same ∙ aside (ap old (sym same) ∙ none)
-  | inr other ↦ opens.others q (no_stamp p.folder q below) other (far_by_first p 116 (109 ∷ 112 ∷ 47 ∷ below.0) q below.1 (differ 116 119 refl) (differ 116 111 refl)) ∙ none
-]
 
 -- ---- items
 
@@ -72,6 +62,8 @@ no_file : (new : Option Entry) → new ≡ None → IsSome new → ⊥
 no_file new is some = false≢true (sym (ap is_some is) ∙ some)
 
 pub staging_sweeps : (o : OpenPublication) (done : ℕ) (next : Reached) (old new : Store) → IsStaged o next → AddsStaged o.folder o.name (file_of o.new) old new → Sweeps o (reached.Working done) (Some next) old new
+staging_sweeps o done (reached.Aside k) old new is adds q below not was = absurd is
+staging_sweeps o done (reached.Taken k) old new is adds q below not was = absurd is
 staging_sweeps o done (reached.Working n) old new is adds q below not was = absurd is
 staging_sweeps o done (reached.Staged k) old new is adds q below not (inr staged) = absurd staged
 staging_sweeps o done (reached.Staged k) old new is adds q below not (inl none) = adds.others q (λ same. not (inl same)) (λ some same. not (inr same)) ∙ none
@@ -95,15 +87,15 @@ record_sweeps o j k old new moves gone q below not was = by (path_cases q (stage
     by (inr other) (inr (inl stamp)) = absurd (not stamp)
     by (inr other) (inr (inr record_at)) = absurd (other record_at)
 
-pub stamp_sweeps_kept : (o : OpenPublication) (j k : ℕ) (old new : Store) → MovesOnly (staged_path o.folder) (stamp_at o.folder) old new → new (staged_path o.folder) ≡ None → Sweeps o (reached.Kept j) (Some (reached.Stamped k)) old new
+pub stamp_sweeps_kept : (o : OpenPublication) (j k : ℕ) (old new : Store) → KeepsBut (staged_path o.folder) old new → new (staged_path o.folder) ≡ None → Sweeps o (reached.Kept j) (Some (reached.Stamped k)) old new
 stamp_sweeps_kept o j k old new moves gone q below not was = by (path_cases q (staged_path o.folder)) was
   where
     by : (q ≡ staged_path o.folder) ⊎ (q ≢ staged_path o.folder) → (old q ≡ None) ⊎ StagesAt o (reached.Kept j) q → new q ≡ None
     by (inl same) w = ap new same ∙ gone
-    by (inr other) (inl none) = moves q other (no_stamp o.folder q below) ∙ none
+    by (inr other) (inl none) = moves q below other ∙ none
     by (inr other) (inr staged) = absurd (other staged)
 
-pub stamp_sweeps_stored : (o : OpenPublication) (j k : ℕ) (old new : Store) → MovesOnly (staged_path o.folder) (stamp_at o.folder) old new → new (staged_path o.folder) ≡ None → Sweeps o (reached.Stored j) (Some (reached.Stamped k)) old new
+pub stamp_sweeps_stored : (o : OpenPublication) (j k : ℕ) (old new : Store) → KeepsBut (staged_path o.folder) old new → new (staged_path o.folder) ≡ None → Sweeps o (reached.Stored j) (Some (reached.Stamped k)) old new
 stamp_sweeps_stored o j k old new moves gone = stamp_sweeps_kept o j k old new moves gone
 
 pub ending_sweeps : (o : OpenPublication) (j : ℕ) (old new : Store) → new ≡ old → Sweeps o (reached.Stamped j) None old new

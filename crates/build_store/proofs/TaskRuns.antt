@@ -23,13 +23,23 @@ use Rattle.build_store.specs.declared.pieces.Reached.TheVariants as reached
 use Rattle.build_store.specs.Drafts.{IsDraft, IsNewFor, file_of}
 use Rattle.build_store.specs.Items.{Item}
 use Rattle.build_store.specs.Halves.{IsOn, Progress}
-use Rattle.build_store.specs.OpenOnes.{IsFit, IsOnOrDone, KeepsEntries, LeadsTo, Suits, at_next, opened_by, progress_of, put_by}
+use Rattle.build_store.specs.OpenOnes.{IsFirst, IsFit, IsOnOrDone, KeepsEntries, LeadsTo, Suits, at_next, opened_by, progress_of, put_by}
 use Rattle.build_store.specs.OpenTasks.{IsOpenOf}
 use Rattle.build_store.specs.Phases.{IsFileOf, put_of}
 use Rattle.build_store.specs.Pieces.{IsPublishing}
 use Rattle.build_store.specs.Publication.{Publishes, object_for, publication}
 use Rattle.build_store.proofs.Drafted.{File, file_is, put_is}
 use Rattle.build_store.proofs.Stays.{kept_after}
+
+-- what it has reached at first suits it
+first_suits : (o : OpenPublication) (now : Reached) → IsFirst now → Suits o now
+first_suits o (reached.Aside k) first = tt
+first_suits o (reached.Taken k) first = absurd first
+first_suits o (reached.Working done) first = omega (arith, first)
+first_suits o (reached.Staged k) first = absurd first
+first_suits o (reached.Kept k) first = absurd first
+first_suits o (reached.Stored k) first = absurd first
+first_suits o (reached.Stamped k) first = absurd first
 
 module _ (rows : List EquivRow) (s : Signed) (tree : Entries) where
   -- what it puts is the task's publication
@@ -43,19 +53,19 @@ module _ (rows : List EquivRow) (s : Signed) (tree : Entries) where
     pub drafted_run : (a b : Story) → ((f : Entry) → Passes a b (IsPublishing (put_of folder draft.name tree object (file_of draft.new) f) a.held)) → Passes a b (IsPublishing (publication rows s tree) a.held)
     drafted_run a b run = subst (λ (p : Publication). Passes a b (IsPublishing p a.held)) drafted_same (run (File rows s tree))
 
-    pub opened_of : draft.bytes ≡ signature_bytes s.sig → (one : OpenPublication) → ((extra : List (List ℕ)) × (one ≡ opened_by folder object draft tree extra)) → IsFit one → IsOpenOf rows s tree one
+    pub opened_of : draft.bytes ≡ signature_bytes s.sig → (one : OpenPublication) → ((extra : List (List ℕ)) × ((now : Reached) × IsFirst now × (one ≡ opened_by folder object draft tree extra now))) → IsFit one → IsOpenOf rows s tree one
     opened_of bytes one w fit = record {
-      folder = ap (λ (o : OpenPublication). o.folder) w.1 ∙ folder_is;
-      name = ap (λ (o : OpenPublication). o.name) w.1 ∙ d.name;
-      sig = ap (λ (o : OpenPublication). o.sig) w.1 ∙ bytes;
-      gave = ap (λ (o : OpenPublication). o.tree) w.1;
-      unihash = ap (λ (o : OpenPublication). o.unihash) w.1 ∙ d.unihash;
-      object = ap (λ (o : OpenPublication). o.object) w.1 ∙ object_is;
-      new = subst (IsNewFor rows s tree) (sym (ap (λ (o : OpenPublication). o.new) w.1)) d.new;
+      folder = ap (λ (o : OpenPublication). o.folder) w.1.2 ∙ folder_is;
+      name = ap (λ (o : OpenPublication). o.name) w.1.2 ∙ d.name;
+      sig = ap (λ (o : OpenPublication). o.sig) w.1.2 ∙ bytes;
+      gave = ap (λ (o : OpenPublication). o.tree) w.1.2;
+      unihash = ap (λ (o : OpenPublication). o.unihash) w.1.2 ∙ d.unihash;
+      object = ap (λ (o : OpenPublication). o.object) w.1.2 ∙ object_is;
+      new = subst (IsNewFor rows s tree) (sym (ap (λ (o : OpenPublication). o.new) w.1.2)) d.new;
       spells = d.spells;
       agrees = d.agrees;
       fit = fit;
-      suits = subst (λ (o : OpenPublication). Suits o o.reached) (sym w.1) (omega arith);
+      suits = subst (λ (o : OpenPublication). Suits o o.reached) (sym w.1.2) (first_suits (opened_by folder object draft tree w.0 w.1.0) w.1.0 w.1.1);
     }
 
   pub opened_on : (o : OpenPublication) → IsOpenOf rows s tree o → (a : Story) → ((f : Entry) → IsOn (put_by o f) (progress_of o) a) → IsOn (publication rows s tree) (progress_of o) a
@@ -69,26 +79,50 @@ kept_still rows s tree all a b was run laid = kept_after rows s tree all a b was
 
 -- what it has reached next suits it
 suits_next : (o : OpenPublication) (now next : Reached) → Suits o now → LeadsTo o now (Some next) → Suits o next
+suits_next o (reached.Aside j) (reached.Aside k) suits leads = tt
+suits_next o (reached.Aside j) (reached.Taken k) suits leads = tt
+suits_next o (reached.Aside j) (reached.Working next) suits leads = absurd leads
+suits_next o (reached.Aside j) (reached.Staged k) suits leads = absurd leads
+suits_next o (reached.Aside j) (reached.Kept k) suits leads = absurd leads
+suits_next o (reached.Aside j) (reached.Stored k) suits leads = tt
+suits_next o (reached.Aside j) (reached.Stamped k) suits leads = tt
+suits_next o (reached.Taken j) (reached.Aside k) suits leads = tt
+suits_next o (reached.Taken j) (reached.Taken k) suits leads = tt
+suits_next o (reached.Taken j) (reached.Working next) suits leads = omega (arith, leads)
+suits_next o (reached.Taken j) (reached.Staged k) suits leads = absurd leads
+suits_next o (reached.Taken j) (reached.Kept k) suits leads = absurd leads
+suits_next o (reached.Taken j) (reached.Stored k) suits leads = tt
+suits_next o (reached.Taken j) (reached.Stamped k) suits leads = tt
+suits_next o (reached.Working done) (reached.Aside k) suits leads = tt
+suits_next o (reached.Working done) (reached.Taken k) suits leads = tt
 suits_next o (reached.Working done) (reached.Working next) suits leads = let is = leads.1 in omega (arith, is)
 suits_next o (reached.Working done) (reached.Staged k) suits leads = leads.1
 suits_next o (reached.Working done) (reached.Kept k) suits leads = leads.1
 suits_next o (reached.Working done) (reached.Stored k) suits leads = tt
 suits_next o (reached.Working done) (reached.Stamped k) suits leads = tt
+suits_next o (reached.Staged j) (reached.Aside k) suits leads = tt
+suits_next o (reached.Staged j) (reached.Taken k) suits leads = tt
 suits_next o (reached.Staged j) (reached.Working next) suits leads = absurd leads
 suits_next o (reached.Staged j) (reached.Staged k) suits leads = absurd leads
 suits_next o (reached.Staged j) (reached.Kept k) suits leads = absurd leads
 suits_next o (reached.Staged j) (reached.Stored k) suits leads = tt
 suits_next o (reached.Staged j) (reached.Stamped k) suits leads = tt
+suits_next o (reached.Kept j) (reached.Aside k) suits leads = tt
+suits_next o (reached.Kept j) (reached.Taken k) suits leads = tt
 suits_next o (reached.Kept j) (reached.Working next) suits leads = absurd leads
 suits_next o (reached.Kept j) (reached.Staged k) suits leads = absurd leads
 suits_next o (reached.Kept j) (reached.Kept k) suits leads = absurd leads
 suits_next o (reached.Kept j) (reached.Stored k) suits leads = tt
 suits_next o (reached.Kept j) (reached.Stamped k) suits leads = tt
+suits_next o (reached.Stored j) (reached.Aside k) suits leads = tt
+suits_next o (reached.Stored j) (reached.Taken k) suits leads = tt
 suits_next o (reached.Stored j) (reached.Working next) suits leads = absurd leads
 suits_next o (reached.Stored j) (reached.Staged k) suits leads = absurd leads
 suits_next o (reached.Stored j) (reached.Kept k) suits leads = absurd leads
 suits_next o (reached.Stored j) (reached.Stored k) suits leads = tt
 suits_next o (reached.Stored j) (reached.Stamped k) suits leads = tt
+suits_next o (reached.Stamped j) (reached.Aside k) suits leads = tt
+suits_next o (reached.Stamped j) (reached.Taken k) suits leads = tt
 suits_next o (reached.Stamped j) (reached.Working next) suits leads = absurd leads
 suits_next o (reached.Stamped j) (reached.Staged k) suits leads = absurd leads
 suits_next o (reached.Stamped j) (reached.Kept k) suits leads = absurd leads

@@ -51,7 +51,7 @@ module _ (p : Publication) (line : Line) (old new : Store) (of : IsOfLine p line
   beside path ne = publishes.others (inside (codes "rec") path) (record {
     temporary = λ below. heads_differ (differ 114 116 refl) below.1;
     work = apart_by_first (101 ∷ 99 ∷ 47 ∷ path) (111 ∷ 114 ∷ 107 ∷ 47 ∷ p.folder) (differ 114 119 refl);
-    stamp = heads_differ (differ 114 115 refl);
+    stamp = apart_by_first (101 ∷ 99 ∷ 47 ∷ path) (116 ∷ 97 ∷ 109 ∷ 112 ∷ 47 ∷ p.folder) (differ 114 115 refl);
     stored = λ is_new same. ne (sym (ap hash_text of.name) ∙ sym (under_same (codes "rec") path (hash_text p.name) same));
     shared = λ unihash is. apart_by_first (101 ∷ 99 ∷ 47 ∷ path) (98 ∷ 106 ∷ 47 ∷ hash_text unihash) (differ 114 111 refl);
   })

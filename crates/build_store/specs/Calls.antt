@@ -22,6 +22,16 @@ pub record Opens (p : Publication) (held old new : Store) : Type 0 where
   pub round : (q : List ℕ) → IsRound p q → held q ≡ None → new q ≡ old q
   pub honest : IsUntouched p.folder old new ⊎ (new (stamp_at p.folder) ≡ None)
 
+-- What is in the way of a stamp goes, above its path or below it, and nothing else: where this store holds something.
+pub record FreesStamp (folder : List ℕ) (held old new : Store) : Type 0 where
+  pub others : (q : List ℕ) → (IsBelow q (stamp_at folder) ⊎ IsBelow (stamp_at folder) q → ⊥) → new q ≡ old q
+  pub none : (q : List ℕ) → held q ≡ None → new q ≡ old q
+
+-- What is held below a path goes, and nothing else.
+pub record ClearsBelow (path : List ℕ) (held old new : Store) : Type 0 where
+  pub others : (q : List ℕ) → (IsBelow path q → ⊥) → new q ≡ old q
+  pub none : (q : List ℕ) → held q ≡ None → new q ≡ old q
+
 -- A step changes just the paths of its items.
 pub record Works (items : List Item) (old new : Store) : Type 0 where
   pub others : (q : List ℕ) → (IsDue items q → ⊥) → new q ≡ old q
@@ -52,3 +62,7 @@ pub record KeepsAround (folder : List ℕ) (held old new : Store) : Type 0 where
 -- what is held at other paths than these two stays
 abbrev pub MovesOnly : List ℕ → List ℕ → Store → Store → Type 0
 MovesOnly from to old new = (q : List ℕ) → q ≢ from → q ≢ to → new q ≡ old q
+
+-- of what is under `tmp/` all but what is at this path stays
+abbrev pub KeepsBut : List ℕ → Store → Store → Type 0
+KeepsBut from old new = (q : List ℕ) → IsBelow (codes "tmp") q → q ≢ from → new q ≡ old q

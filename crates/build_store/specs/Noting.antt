@@ -4,14 +4,11 @@ use Rattle.std.specs.Prelude.{◌≡◌, ◌⊎◌, ℕ, List, [], ◌∷◌, �
 use Rattle.tree_model.specs.declared.entry.Entry.{Entry}
 use Rattle.tree_model.specs.declared.hash.Hash.{Hash}
 use Rattle.tree_model.specs.Path.{inside}
-use Rattle.tree_model.specs.Tree.{IsTree, entry_at}
-use Rattle.outside_traits.specs.Passes.{EachNow}
-use Rattle.outside_traits.specs.Store.{IsOpen, Store}
-use Rattle.outside_traits.specs.Story.{Story}
+use Rattle.tree_model.specs.Tree.{entry_at}
+use Rattle.outside_traits.specs.Store.{Store}
 use Rattle.meta_model.specs.CleanBuild.{Entries}
 use Rattle.store_model.specs.Available.{object_folder}
-use Rattle.store_model.specs.Publication.{Publication, stamp_at, work_at}
-use Rattle.build_store.specs.Halves.{IsHalf}
+use Rattle.store_model.specs.Publication.{Publication, work_at}
 use Rattle.build_store.specs.Items.{Item, removal, writing}
 
 -- a removal, where the tree hasn't the path
@@ -44,9 +41,15 @@ items_with p shared (Some unihash) = removals (object_folder unihash) p.tree sha
 abbrev pub items_for : Publication → List (List ℕ) → List (List ℕ) → List Item
 items_for p found shared = removals (work_at p.folder) p.tree found ++ items_with p shared p.object
 
--- Where each crash leaves no stamp and nothing is in the way of the folders, the publication is open with these items.
-abbrev pub NotedIsHalf : Type 0
-NotedIsHalf = (p : Publication) (found shared : List (List ℕ)) (a : Story) → IsTree p.tree → EachNow a (λ image. image (stamp_at p.folder) ≡ None) →
-    IsOpen (work_at p.folder) a.held → AreListed (work_at p.folder) found a.held →
-    ((unihash : Hash) → p.object ≡ Some unihash → IsOpen (object_folder unihash) a.held × AreListed (object_folder unihash) shared a.held) →
-    IsHalf p (items_for p found shared) a
+-- just what is held under the folder
+pub record AreFound (folder : List ℕ) (found : List (List ℕ)) (held : Store) : Type 0 where
+  pub listed : AreListed folder found held
+  pub are_held : (path : List ℕ) → IsListed found path → IsSome (held (inside folder path))
+
+-- the items are those of the publication, by just what is held in its two folders
+pub record AreNoted (p : Publication) (items : List Item) (held : Store) : Type 0 where
+  pub found : List (List ℕ)
+  pub shared : List (List ℕ)
+  pub work : AreFound (work_at p.folder) found held
+  pub objects : (unihash : Hash) → p.object ≡ Some unihash → AreFound (object_folder unihash) shared held
+  pub are : items ≡ items_for p found shared

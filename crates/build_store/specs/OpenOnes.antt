@@ -9,7 +9,7 @@ use Rattle.outside_traits.specs.Passes.{EachNow}
 use Rattle.outside_traits.specs.Store.{Store}
 use Rattle.outside_traits.specs.Story.{Story}
 use Rattle.meta_model.specs.CleanBuild.{Entries}
-use Rattle.stamp_store.specs.Stamp.{IsFolder, staged_path}
+use Rattle.stamp_store.specs.Stamp.{IsFolder, old_path, staged_path}
 use Rattle.store_opening.specs.Named.{IsName}
 use Rattle.store_opening.specs.Paths.{staged_record_path}
 use Rattle.store_model.specs.Available.{object_folder}
@@ -21,9 +21,9 @@ use Rattle.build_store.specs.declared.pieces.Reached.{Reached}
 use Rattle.build_store.specs.declared.pieces.Reached.TheVariants as reached
 use Rattle.build_store.specs.Calls.{IsRound}
 use Rattle.build_store.specs.Drafts.{file_of}
-use Rattle.build_store.specs.Halves.{IsOn, Progress, ending, working}
+use Rattle.build_store.specs.Halves.{IsOn, Progress, ending, taking, working}
 use Rattle.build_store.specs.Items.{Item, removal}
-use Rattle.build_store.specs.Noting.{AreListed, IsListed, items_for, removals, writings}
+use Rattle.build_store.specs.Noting.{AreFound, removals, writings}
 use Rattle.build_store.specs.Phases.{put_of}
 use Rattle.build_store.specs.Publication.{AreShort, IsPublished}
 
@@ -44,9 +44,18 @@ items_by p extra = map removal extra ++ (writings (work_at p.folder) p.tree ++ s
 abbrev pub items_of : OpenPublication → List Item
 items_of o = map removal o.extra ++ (writings (work_at o.folder) o.tree ++ shared_writings o.object o.tree)
 
--- a publication as it is opened
-abbrev pub opened_by : List ℕ → Option Hash → Draft → Entries → List (List ℕ) → OpenPublication
-opened_by folder object draft tree extra = record {
+-- a publication as it is opened: its stamp was put aside, or there was none
+abbrev pub IsFirst : Reached → Type 0
+IsFirst (reached.Aside k) = Unit {0}
+IsFirst (reached.Working done) = done ≡ 0
+IsFirst now = ⊥
+
+abbrev pub IsAsideAt : Reached → Type 0
+IsAsideAt (reached.Aside k) = Unit {0}
+IsAsideAt now = ⊥
+
+abbrev pub opened_by : List ℕ → Option Hash → Draft → Entries → List (List ℕ) → Reached → OpenPublication
+opened_by folder object draft tree extra now = record {
   folder = folder;
   name = draft.name;
   sig = draft.bytes;
@@ -55,11 +64,13 @@ opened_by folder object draft tree extra = record {
   object = object;
   new = draft.new;
   extra = extra;
-  reached = reached.Working 0;
+  reached = now;
 }
 
 -- how far it is, where these are all its items
 abbrev pub progress_at : List Item → Reached → Progress
+progress_at items (reached.Aside k) = taking k items
+progress_at items (reached.Taken k) = taking k items
 progress_at items (reached.Working done) = working (drop done items)
 progress_at items (reached.Staged k) = ending (staged k)
 progress_at items (reached.Kept k) = ending (kept k)
@@ -85,15 +96,19 @@ at_next o next = record o { reached = next }
 
 -- What it has reached suits it: no more items are done than it has, and its record's file is staged where it is new.
 abbrev pub Suits : OpenPublication → Reached → Type 0
+Suits o (reached.Aside k) = Unit {0}
+Suits o (reached.Taken k) = Unit {0}
 Suits o (reached.Working done) = done ≤ length (items_of o)
 Suits o (reached.Staged k) = IsSome o.new
 Suits o (reached.Kept k) = o.new ≡ None
 Suits o (reached.Stored k) = Unit {0}
 Suits o (reached.Stamped k) = Unit {0}
 
--- What comes next: 64 items more, or all; with all done record and stamp are staged; then the record is renamed, if it is new, then the
--- stamp; and behind that all is done.
+-- What comes next: where its stamp was put aside a wait is asked for, and behind that its items begin; 64 items more, or all; with all done record and
+-- stamp are staged; then the record is renamed, if it is new, then the stamp; and behind that all is done.
 abbrev pub LeadsTo : OpenPublication → Reached → Option Reached → Type 0
+LeadsTo o (reached.Aside j) (Some (reached.Taken k)) = k ≡ j
+LeadsTo o (reached.Taken j) (Some (reached.Working next)) = next ≡ 0
 LeadsTo o (reached.Working done) (Some (reached.Working next)) = (done < length (items_of o)) × (next ≡ min (done + 64) (length (items_of o)))
 LeadsTo o (reached.Working done) (Some (reached.Staged k)) = (done ≡ length (items_of o)) × IsSome o.new
 LeadsTo o (reached.Working done) (Some (reached.Kept k)) = (done ≡ length (items_of o)) × (o.new ≡ None)
@@ -118,8 +133,10 @@ abbrev pub IsOnOrDone : Publication → List Item → Option Reached → Story �
 IsOnOrDone p items None story = EachNow story (IsPublished p)
 IsOnOrDone p items (Some now) story = IsOn p (progress_at items now) story
 
--- what a publication that has reached this has staged stands at the path
+-- what a publication that has reached this has staged, or put aside, stands at the path
 abbrev pub StagesAt : OpenPublication → Reached → List ℕ → Type 0
+StagesAt o (reached.Aside k) q = q ≡ old_path o.folder
+StagesAt o (reached.Taken k) q = q ≡ old_path o.folder
 StagesAt o (reached.Working done) q = ⊥
 StagesAt o (reached.Staged k) q = (q ≡ staged_path o.folder) ⊎ (q ≡ staged_record_path o.name)
 StagesAt o (reached.Kept k) q = q ≡ staged_path o.folder
@@ -134,17 +151,16 @@ StagesNext o (Some next) q = StagesAt o next q
 abbrev pub Sweeps : OpenPublication → Reached → Option Reached → Store → Store → Type 0
 Sweeps o now next old new = (q : List ℕ) → IsBelow (codes "tmp") q → (StagesNext o next q → ⊥) → (old q ≡ None) ⊎ StagesAt o now q → new q ≡ None
 
+-- where nothing was held under `tmp/` nothing is, but what it has put aside
+abbrev pub AddsOwn : OpenPublication → Store → Store → Type 0
+AddsOwn o old new = (q : List ℕ) → IsBelow (codes "tmp") q → (StagesAt o o.reached q → ⊥) → old q ≡ None → new q ≡ None
+
 -- ---- opening
 
 -- What is in the way of the folders goes, and nothing else: at a folder or above it, where this store holds something.
 pub record MakesRoom (p : Publication) (held old new : Store) : Type 0 where
   pub others : (q : List ℕ) → (IsRound p q → ⊥) → new q ≡ old q
   pub round : (q : List ℕ) → IsRound p q → held q ≡ None → new q ≡ old q
-
--- just what is held under the folder
-pub record AreFound (folder : List ℕ) (found : List (List ℕ)) (held : Store) : Type 0 where
-  pub listed : AreListed folder found held
-  pub are_held : (path : List ℕ) → IsListed found path → IsSome (held (inside folder path))
 
 -- those of the paths that the tree hasn't, by what stands behind the prefix
 abbrev pub extras : List ℕ → Entries → List (List ℕ) → List (List ℕ)
@@ -155,14 +171,6 @@ pub record NotesIn (folder : List ℕ) (tree : Entries) (held : Store) (before a
   pub found : List (List ℕ)
   pub are_found : AreFound folder found held
   pub noted : map removal after ≡ map removal before ++ removals folder tree found
-
--- the items are those of the publication, by just what is held in its two folders
-pub record AreNoted (p : Publication) (items : List Item) (held : Store) : Type 0 where
-  pub found : List (List ℕ)
-  pub shared : List (List ℕ)
-  pub work : AreFound (work_at p.folder) found held
-  pub objects : (unihash : Hash) → p.object ≡ Some unihash → AreFound (object_folder unihash) shared held
-  pub are : items ≡ items_for p found shared
 
 -- ---- a step
 

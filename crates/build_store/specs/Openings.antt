@@ -1,5 +1,5 @@
 -- What the calls of open publications do to a store, beside its disk.
-use Rattle.std.specs.Prelude.{◌≡◌, ◌≢◌, ℕ, List, Some, None}
+use Rattle.std.specs.Prelude.{◌≡◌, ◌≢◌, ◌⊎◌, ℕ, List, Option, Some, None}
 use Rattle.outside_traits.specs.Passes.{EachNow}
 use Rattle.outside_traits.specs.Story.{Story}
 use Rattle.meta_model.specs.CleanBuild.{Entries}
@@ -11,7 +11,7 @@ use Rattle.store_model.specs.Signatures.{Signed}
 use Rattle.store_model.specs.Spelling.{name_of, signature_bytes}
 use Rattle.build_store.specs.declared.step.Step.{Step}
 use Rattle.build_store.specs.declared.step.Step.TheVariants as step
-use Rattle.build_store.specs.Publication.{IsAgreed, IsPublished, line_for, publication, rows_with, unihash_for}
+use Rattle.build_store.specs.Publication.{IsAgreed, IsPublished, line_for, object_for, publication, rows_with, unihash_for}
 use Rattle.build_store.specs.View.{OpenView, OpenViews, SameBooks, View, kept_with, kept_without, opened_at}
 
 -- the publication of a task with its signature, which gave this tree, as contracts see it
@@ -37,9 +37,12 @@ pub record ClosesOne (folder : List ℕ) (old new : OpenViews) : Type 0 where
 abbrev pub NoneNamed : OpenViews → Hash → Type 0
 NoneNamed opened name = (folder : List ℕ) (one : OpenView) → opened_at opened folder ≡ Some one → one.name ≢ name
 
--- some publication is open
-abbrev pub SomeOpen : OpenViews → Type 0
-SomeOpen opened = (folder : List ℕ) × ((one : OpenView) × (opened_at opened folder ≡ Some one))
+-- Digests meet: a publication is open that has this record, or this object.
+pub record Meets (rows : List EquivRow) (opened : OpenViews) (name : Hash) (object : Option Hash) : Type 0 where
+  pub of : Signed
+  pub gave : Entries
+  pub is_open : IsOpen opened of gave
+  pub meets : (name_of of.sig ≡ name) ⊎ ((unihash : Hash) × ((object_for rows of gave ≡ Some unihash) × (object ≡ Some unihash)))
 
 module _ {D : Type 0} (old new : View D) (s : Signed) where
   -- The publication of the task was opened: its signature is kept, and its line can be read again.

@@ -6,7 +6,7 @@ use Rattle.tree_model.specs.declared.hash.Hash.{Hash}
 use Rattle.tree_model.specs.Hash.{hash_text}
 use Rattle.tree_model.specs.Tree.{IsTree}
 use Rattle.outside_traits.specs.Passes.{EachNow, Passes}
-use Rattle.outside_traits.specs.Store.{HoldsTree, IsApart, IsFree, Store}
+use Rattle.outside_traits.specs.Store.{HoldsTree, IsApart, IsFree, IsOpen, Store}
 use Rattle.outside_traits.specs.Story.{IsSound, Story}
 use Rattle.meta_model.specs.CleanBuild.{Entries}
 use Rattle.store_model.specs.declared.signature.EquivRow.{EquivRow}
@@ -19,6 +19,7 @@ use Rattle.store_model.specs.Publication.{Publication, stamp_at, work_at}
 use Rattle.build_store.specs.Calls.{Finishes, KeepsStaged, Opens, Works}
 use Rattle.build_store.specs.Halves.{AreApart, IsHalf, IsOn, Progress}
 use Rattle.build_store.specs.Ending.{HasFolders, KeepsPut}
+use Rattle.build_store.specs.Noting.{AreListed, items_for}
 use Rattle.build_store.specs.Items.{Does, IsItemOf, Item, writing}
 
 -- What each call does at each moment is what a publication does: all that follows from that follows for each of the calls alone.
@@ -73,3 +74,12 @@ WholeAtLast = (p : Publication) (a : Story) → IsHalf p [] a → HoldsTree (wor
 -- An entry that is the next item may be written: nothing stands above or below its path.
 abbrev pub MayBeWritten : Type 0
 MayBeWritten = (p : Publication) (path : List ℕ) (entry : Entry) (left : List Item) (a : Story) → IsTree p.tree → IsHalf p (writing path entry ∷ left) a → IsFree a.held path
+
+-- ---- its opening
+
+-- Where each crash leaves no stamp and nothing is in the way of the folders, the publication is open with these items.
+abbrev pub NotedIsHalf : Type 0
+NotedIsHalf = (p : Publication) (found shared : List (List ℕ)) (a : Story) → IsTree p.tree → EachNow a (λ image. image (stamp_at p.folder) ≡ None) →
+    IsOpen (work_at p.folder) a.held → AreListed (work_at p.folder) found a.held →
+    ((unihash : Hash) → p.object ≡ Some unihash → IsOpen (object_folder unihash) a.held × AreListed (object_folder unihash) shared a.held) →
+    IsHalf p (items_for p found shared) a

@@ -19,12 +19,12 @@ use Rattle.store_model.specs.Valid.{stored_of}
 use Rattle.store_model.specs.Paths.{record_path}
 use Rattle.store_model.specs.Publication.{record_file, Publication, work_at, stamp_at, stamp_file}
 
--- The path is none of the publication's own: it is not under `tmp/`, it is apart from the work folder and from the folder of an
--- object that is written, and it is neither the stamp nor a record that is written.
+-- The path is none of the publication's own: it is not under `tmp/`, it is apart from the work folder, from the folder of an object that is
+-- written and from the stamp's path, and it isn't a record that is written.
 pub record IsForeign (p : Publication) (q : List ℕ) : Type 0 where
   pub temporary : IsBelow (codes "tmp") q → ⊥
   pub work : IsApart (work_at p.folder) q
-  pub stamp : q ≢ stamp_at p.folder
+  pub stamp : IsApart (stamp_at p.folder) q
   pub stored : p.is_new ≡ true → q ≢ record_path p.name
   pub shared : (unihash : Hash) → p.object ≡ Some unihash → IsApart (object_folder unihash) q
 
@@ -47,10 +47,12 @@ pub record Publishes (p : Publication) (old new : Store) : Type 0 where
   pub stored : (new (record_path p.name) ≡ old (record_path p.name)) ⊎ ((p.is_new ≡ true) × (new (record_path p.name) ≡ Some p.file))
   pub honest : IsUntouched p.folder old new ⊎ ((new (stamp_at p.folder) ≡ None) ⊎ IsPublished p new)
 
--- What a publication, or a restoring, of a folder makes of what others have: their stamps stay, and all under `work` and `obj` that is
--- apart from its own folders; and above these nothing changes where this store holds nothing.
+-- What a publication, or a restoring, of a folder makes of what others have: all under `stamp` stays that is apart from its own stamp, and all under
+-- `work` and `obj` that is apart from its own folders; and above these, above or below the stamp, and at `stamp` itself, nothing changes where this
+-- store holds nothing.
 pub record KeepsOthers (folder : List ℕ) (object : Option Hash) (held old new : Store) : Type 0 where
-  pub stamps : (other : List ℕ) → other ≢ folder → new (stamp_at other) ≡ old (stamp_at other)
+  pub stamps : (other : List ℕ) → IsApart folder other ⊎ ((other ≢ folder) × (held (stamp_at other) ≡ None)) → new (stamp_at other) ≡ old (stamp_at other)
+  pub top : held (codes "stamp") ≡ None → new (codes "stamp") ≡ old (codes "stamp")
   pub work : (q : List ℕ) → IsAtOrBelow (codes "work") q → IsApart (work_at folder) q → new q ≡ old q
   pub objects : (q : List ℕ) → IsAtOrBelow (codes "obj") q → ((unihash : Hash) → object ≡ Some unihash → IsApart (object_folder unihash) q) → new q ≡ old q
   pub above_work : (q : List ℕ) → IsBelow q (work_at folder) → held q ≡ None → new q ≡ old q

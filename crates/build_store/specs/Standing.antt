@@ -10,6 +10,7 @@ use Rattle.outside_traits.specs.Store.{Store}
 use Rattle.outside_traits.specs.Story.{Story}
 use Rattle.store_model.specs.declared.signature.EquivRow.{EquivRow}
 use Rattle.store_model.specs.Available.{task_folder}
+use Rattle.store_model.specs.Paths.{slashes}
 use Rattle.store_model.specs.Publication.{stamp_at}
 use Rattle.store_model.specs.Rows.{hash_eq}
 use Rattle.store_model.specs.Signatures.{Signed}
@@ -56,10 +57,10 @@ IsStagedBy [] q = ⊥
 IsStagedBy (one ∷ others) q = StagesAt one one.reached q ⊎ IsStagedBy others q
 
 -- What is kept while no call that changes the disk met a fault: nothing is held under `tmp/` but what open ones have staged; and each crash leaves the
--- stamp of a folder of which none is open as it is held.
+-- stamp of a task's folder of which none is open as it is held.
 pub record IsTidy (open_ones : List OpenPublication) (story : Story) : Type 0 where
   pub litter : (q : List ℕ) → IsBelow (codes "tmp") q → (story.held q ≡ None) ⊎ IsStagedBy open_ones q
-  pub settled : (folder : List ℕ) → opened_at (open_in open_ones) folder ≡ None → EachNow story (λ image. image (stamp_at folder) ≡ story.held (stamp_at folder))
+  pub settled : (folder : List ℕ) → slashes folder ≡ 1 → opened_at (open_in open_ones) folder ≡ None → EachNow story (λ image. image (stamp_at folder) ≡ story.held (stamp_at folder))
 
 -- where nothing was held under `tmp/` nothing is
 abbrev pub AddsNoLitter : Store → Store → Type 0

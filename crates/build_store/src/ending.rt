@@ -3,21 +3,23 @@ ghost use Rattle.std.specs.Prelude.{◌≡◌, ◌≤◌, ◌⊎◌, ℕ, [], If
 ghost use Rattle.tree_model.specs.declared.entry.Entry.{Entry as AnEntry};
 ghost use Rattle.outside_traits.specs.Fault.{Counts, disk_failed};
 ghost use Rattle.outside_traits.specs.Passes.{Passes, Same};
+ghost use Rattle.outside_traits.specs.Store.{IsFree};
 ghost use Rattle.outside_traits.specs.Phases.{kept, staged, stamped, stored};
 ghost use Rattle.stamp_store.specs.Stamp.{IsFolder, staged_path};
 ghost use Rattle.store_model.specs.Paths.{record_path, slashes};
 ghost use Rattle.store_model.specs.Publication.{Publication, stamp_at, stamp_file};
 ghost use Rattle.store_opening.specs.Named.{IsName};
 ghost use Rattle.store_opening.specs.Paths.{IsLaidOut, staged_record_path};
-ghost use Rattle.build_store.specs.Calls.{Finishes, MovesOnly};
+ghost use Rattle.build_store.specs.Calls.{Finishes, KeepsBut, MovesOnly};
 ghost use Rattle.build_store.specs.Drafts.{file_of};
 ghost use Rattle.build_store.specs.Ending.{IsAt, IsTicket};
 ghost use Rattle.build_store.specs.Halves.{IsHalf, IsOn};
-ghost use Rattle.build_store.specs.OpenOnes.{IsFit, IsStaged, progress_by, put_by};
+ghost use Rattle.build_store.specs.OpenOnes.{IsFit, IsStaged, KeepsEntries, progress_by, put_by};
 ghost use Rattle.build_store.specs.Phases.{AddsStaged, AddsStagedFile, IsFileOf, IsStagedFile};
 ghost use Rattle.build_store.specs.Pieces.{IsPublishing};
 ghost use Rattle.build_store.specs.Publication.{IsPublished};
 
+use crate::freeing::free_stamp;
 use crate::pieces::{OpenPublication, Reached};
 use crate::places::{staged_path, staged_record_path, stamp_at};
 use crate::publication::write_record;
@@ -28,7 +30,7 @@ use store_opening::record_path;
 use tree_model::Hash;
 
 /// Takes a ticket: a moment up to which all is durable once it has ended. Where a disk counts no further, it syncs.
-fn take_ticket<D: Disk>(disk: &mut D) -> Result<u64, DiskFault>
+pub(crate) fn take_ticket<D: Disk>(disk: &mut D) -> Result<u64, DiskFault>
     ensures ticket { D.tells → IfOk result (λ k. IsTicket k (D.story disk.new)) }
     ensures same { D.tells → Passes (D.story disk.old) (D.story disk.new) Same }
     ensures cause { Counts (D.faults disk.old) (D.faults disk.new) (disk_failed result) }
@@ -136,8 +138,8 @@ pub(crate) fn rename_staged_record<D: Disk>(
     take_ticket(disk)
 }
 
-/// Ends the ticket, and renames the stamp to its place.
-pub(crate) fn rename_staged_stamp<D: Disk>(
+/// Ends the ticket, and renames the stamp to its place, which is free.
+fn rename_staged_stamp<D: Disk>(
     alloc: Global,
     disk: &mut D,
     folder: &str,
@@ -148,6 +150,7 @@ pub(crate) fn rename_staged_stamp<D: Disk>(
     requires folder { IsFolder folder.now }
     requires parts { slashes folder.now ≡ 1 }
     requires laid_out { D.tells → IsLaidOut (D.story disk.old).held }
+    requires free { D.tells → IsFree (D.story disk.old).held (stamp_at folder.now) }
     requires at { D.tells → (p : Publication) × (p.folder ≡ folder.now) × (IsAt p (kept ticket) (D.story disk.old)
         ⊎ IsAt p (stored ticket) (D.story disk.old)) }
     ensures at { D.tells → IfOk result (λ next. (p : Publication) → p.folder ≡ folder.now
@@ -167,4 +170,37 @@ pub(crate) fn rename_staged_stamp<D: Disk>(
     disk.end_sync(ticket, synced)?;
     disk.rename(from.as_str(), to.as_str())?;
     take_ticket(disk)
+}
+
+/// Removes what is in the way of the stamp, ends the ticket, and renames the stamp to its place.
+pub(crate) fn put_stamp<D: Disk>(
+    alloc: Global,
+    disk: &mut D,
+    folder: &str,
+    ticket: u64,
+    synced: bool,
+) -> Result<u64, DiskFault>
+    requires reach { 3600 ≤ D.reach }
+    requires folder { IsFolder folder.now }
+    requires parts { slashes folder.now ≡ 1 }
+    requires laid_out { D.tells → IsLaidOut (D.story disk.old).held }
+    requires at { D.tells → (p : Publication) × (p.folder ≡ folder.now) × (IsAt p (kept ticket) (D.story disk.old)
+        ⊎ IsAt p (stored ticket) (D.story disk.old)) }
+    ensures at { D.tells → IfOk result (λ next. (p : Publication) → p.folder ≡ folder.now
+        → IsAt p (kept ticket) (D.story disk.old) ⊎ IsAt p (stored ticket) (D.story disk.old)
+        → IsAt p (stamped next) (D.story disk.new)) }
+    ensures publishing { D.tells → (p : Publication) → p.folder ≡ folder.now
+        → IsAt p (kept ticket) (D.story disk.old) ⊎ IsAt p (stored ticket) (D.story disk.old)
+        → Passes (D.story disk.old) (D.story disk.new) (IsPublishing p (D.story disk.old).held) }
+    ensures keeps { D.tells → (p : Publication) → p.folder ≡ folder.now
+        → IsAt p (kept ticket) (D.story disk.old) ⊎ IsAt p (stored ticket) (D.story disk.old)
+        → Passes (D.story disk.old) (D.story disk.new) (KeepsEntries p (D.story disk.old).held) }
+    ensures laid_out { D.tells → IsLaidOut (D.story disk.new).held }
+    ensures swept { D.tells → OnOk result ((D.story disk.new).held (staged_path folder.now) ≡ None) }
+    ensures moves { D.tells → OnOk result (KeepsBut (staged_path folder.now) (D.story disk.old).held
+        (D.story disk.new).held) }
+    ensures cause { Counts (D.faults disk.old) (D.faults disk.new) (disk_failed result) }
+{
+    free_stamp(alloc, disk, folder)?;
+    rename_staged_stamp(alloc, disk, folder, ticket, synced)
 }

@@ -1,16 +1,19 @@
 // An open publication goes on, a call a turn.
-ghost use Rattle.std.specs.Prelude.{◌≡◌, ◌≤◌, IfOk, Some};
+ghost use Rattle.std.specs.Prelude.{◌≡◌, ◌≤◌, IfOk, None, OnOk, Some};
 ghost use Rattle.tree_model.specs.declared.entry.Entry.{Entry as AnEntry};
 ghost use Rattle.outside_traits.specs.Fault.{Counts, disk_failed};
 ghost use Rattle.outside_traits.specs.Passes.{Passes};
 ghost use Rattle.store_opening.specs.Paths.{IsLaidOut};
 ghost use Rattle.build_store.specs.Drafts.{file_of};
-ghost use Rattle.build_store.specs.Halves.{IsOn};
+ghost use Rattle.stamp_store.specs.Stamp.{old_path};
+ghost use Rattle.build_store.specs.Calls.{Opens};
+ghost use Rattle.build_store.specs.Halves.{IsAside, IsHalf, IsOn};
 ghost use Rattle.build_store.specs.OpenOnes.{IsFit, IsOnOrDone, KeepsEntries, LeadsTo, Suits, Sweeps, items_of, progress_by, progress_of, put_by};
 ghost use Rattle.build_store.specs.Phases.{IsFileOf};
 ghost use Rattle.build_store.specs.Pieces.{IsPublishing};
 
-use crate::ending::{rename_staged_record, rename_staged_stamp, stage_ending};
+use crate::ending::{put_stamp, rename_staged_record, stage_ending};
+use crate::opening::take_out;
 use crate::pieces::{OpenPublication, Reached, count_items};
 use crate::working::step;
 use outside_traits::{Disk, DiskFault};
@@ -47,6 +50,38 @@ fn work_on<D: Disk>(
     stage_ending(alloc, disk, one)
 }
 
+/// Takes the stamp out that was put aside, and what is in the way of the folders: the items are next.
+fn take_on<D: Disk>(
+    alloc: Global,
+    disk: &mut D,
+    one: &OpenPublication,
+    ticket: u64,
+    synced: bool,
+) -> Result<Reached, DiskFault>
+    requires fit { IsFit one.now }
+    requires laid_out { D.tells → IsLaidOut (D.story disk.old).held }
+    requires at { D.tells → (f : AnEntry) × IsAside (put_by one.now f) ticket (items_of one.now) (D.story disk.old) }
+    ensures next { IfOk result (λ next. next ≡ Reached.Working 0) }
+    ensures half { D.tells → OnOk result ((f : AnEntry)
+        → IsAside (put_by one.now f) ticket (items_of one.now) (D.story disk.old)
+        → IsHalf (put_by one.now f) (items_of one.now) (D.story disk.new)) }
+    ensures swept { D.tells → OnOk result ((D.story disk.new).held (old_path one.now.folder) ≡ None) }
+    ensures opens { D.tells → (f : AnEntry) → IsAside (put_by one.now f) ticket (items_of one.now) (D.story disk.old)
+        → Passes (D.story disk.old) (D.story disk.new) (Opens (put_by one.now f) (D.story disk.old).held) }
+    ensures laid_out { D.tells → IsLaidOut (D.story disk.new).held }
+    ensures cause { Counts (D.faults disk.old) (D.faults disk.new) (disk_failed result) }
+{
+    take_out(
+        alloc,
+        disk,
+        one.folder.as_str(),
+        &one.object,
+        ticket,
+        synced,
+    )?;
+    Ok(Reached::Working(0))
+}
+
 /// Goes on with an open publication, by one step or one phase of its end: what it has reached then, or nothing where all is done.
 ///
 /// `synced` says that the system has synced what the disk stands on, and began it no sooner than at the publication's last ticket.
@@ -78,17 +113,19 @@ pub(crate) fn go_on<D: Disk>(
     ensures cause { Counts (D.faults disk.old) (D.faults disk.new) (disk_failed result) }
 {
     match one.reached {
+        Reached::Aside(ticket) => Ok(Some(Reached::Taken(ticket))),
+        Reached::Taken(ticket) => Ok(Some(take_on(alloc, disk, one, ticket, synced)?)),
         Reached::Working(done) => Ok(Some(work_on(alloc, disk, one, done)?)),
         Reached::Staged(ticket) => {
             let next = rename_staged_record(alloc, disk, &one.name, ticket, synced)?;
             Ok(Some(Reached::Stored(next)))
         }
         Reached::Kept(ticket) => {
-            let next = rename_staged_stamp(alloc, disk, one.folder.as_str(), ticket, synced)?;
+            let next = put_stamp(alloc, disk, one.folder.as_str(), ticket, synced)?;
             Ok(Some(Reached::Stamped(next)))
         }
         Reached::Stored(ticket) => {
-            let next = rename_staged_stamp(alloc, disk, one.folder.as_str(), ticket, synced)?;
+            let next = put_stamp(alloc, disk, one.folder.as_str(), ticket, synced)?;
             Ok(Some(Reached::Stamped(next)))
         }
         Reached::Stamped(ticket) => {

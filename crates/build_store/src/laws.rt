@@ -1,9 +1,8 @@
 // What follows from what the store's calls do, each law the contract of a function that does nothing.
 ghost use Rattle.build_store.specs.Ending.{NowIsTicket, PhasesEnd, PhasesStay, RecordGoesOn, StagedAtFirst, StampGoesOn};
 ghost use Rattle.build_store.specs.Laws.{OthersInWorkStay, OthersObjectsStay, OthersStay, OthersUntouched, PublishedIsValid};
-ghost use Rattle.build_store.specs.Noting.{NotedIsHalf};
 ghost use Rattle.build_store.specs.OpenTasks.{OpenTasksStay};
-ghost use Rattle.build_store.specs.Pieces.{FinishesIsPublishing, HalvesStay, InARow, MayBeWritten, OpenOnesStay, OpensIsPublishing, OthersKeepPut, PublicationStays, StepGoesOn, WholeAtLast, WorksIsPublishing};
+ghost use Rattle.build_store.specs.Pieces.{FinishesIsPublishing, HalvesStay, InARow, MayBeWritten, NotedIsHalf, OpenOnesStay, OpensIsPublishing, OthersKeepPut, PublicationStays, StepGoesOn, WholeAtLast, WorksIsPublishing};
 
 /// At each moment of a publication a valid store is valid, with the same book or with the publication's line behind it.
 pub fn published_is_valid()

@@ -6,10 +6,11 @@
 //! `specs/Publication` what publishing and restoring do, `specs/Openings` what the calls of open publications do to the store, and
 //! `specs/Faults` why a call is refused.
 //!
-//! What a task gave is published in pieces, and several publications may be open at once. `publish_open` takes the task's stamp away and
-//! notes what is to be done by two listings, with a sync only where a stamp is held; `publish_step` does 64 items (and writes no entry that
-//! is held already), or stages record and stamp, or ends a ticket and renames one of them, or ends the last ticket. No step syncs where the
-//! system has synced since the step that said `Wait`. A step finds the publication by the task's folder and its signature, so no task is
+//! What a task gave is published in pieces, and several publications may be open at once. `publish_open` notes what is to be done by two
+//! listings, and puts the task's stamp aside, if one is held. `publish_step` takes that out behind a wait, where no crash leaves it in its
+//! place: till then nothing in the folders changes. It does 64 items (and writes no entry that is held already), or stages record and stamp,
+//! or ends a ticket and renames one of them, or ends the last ticket. No step syncs where the system has synced since the step that said
+//! `Wait`, and opening never does. A step finds the publication by the task's folder and its signature, so no task is
 //! kept. With `Done` the folders hold exactly the tree, in every image, and the stamp names the record; the row is added then.
 //!
 //! Promised of each call, whatever it answers, want of memory and a failed disk included: what it did to each image that a crash left
@@ -28,7 +29,7 @@
 //! (`opened_is_valid`), all that is available (`opened_stays`), and what a plan may reuse (`reuse_again`). The records that are stored
 //! can be read. Opening makes way for folders, and leaves nothing under `tmp/` (`opened_has_way`).
 //!
-//! Opening reads each file under `rec/` and `stamp/`. What the files under `rec/` say another thread may have worked out before (`Known`,
+//! Opening a store reads each file under `rec/`, and none under `stamp/`. What the files under `rec/` say another thread may have worked out before (`Known`,
 //! `Ahead`): that counts only where opening reads just these files, so whatever was left there, no clause is another.
 //!
 //! What is kept of one that is open is defined in `specs/Halves` and `Standing`, what each of its calls does in `Calls`, and what follows in
@@ -48,6 +49,7 @@ mod drafting;
 mod ending;
 mod fault;
 mod finding;
+mod freeing;
 mod going;
 mod keeping;
 mod kept;

@@ -1,5 +1,6 @@
 // Opening a publication that is put in pieces.
-ghost use Rattle.std.specs.Prelude.{◌≡◌, ◌≤◌, ◌<◌, ◌+◌, ◌^◌, ◌++◌, ◌∷◌, [], List, ℕ, All, IfOk, IsTrue, None, OnOk, Some, if◌then◌else◌, is_none, length};
+ghost use Rattle.std.specs.Bool.{OnFalse};
+ghost use Rattle.std.specs.Prelude.{◌≡◌, ◌⊎◌, ◌≤◌, ◌<◌, ◌+◌, ◌^◌, ◌++◌, ◌∷◌, [], List, ℕ, All, IfOk, IsTrue, None, OnOk, Some, if◌then◌else◌, is_none, length};
 ghost use Rattle.tree_model.specs.Path.{BeginsWith, inside};
 ghost use Rattle.tree_model.specs.Tree.{IsTree, entry_at};
 ghost use Rattle.tree_model.specs.declared.entry.Entry.{Entry as AnEntry};
@@ -15,73 +16,49 @@ ghost use Rattle.store_opening.specs.Named.{IsName};
 ghost use Rattle.store_opening.specs.Paths.{IsLaidOut};
 ghost use Rattle.build_store.specs.Calls.{Opens};
 ghost use Rattle.build_store.specs.Drafts.{file_of};
-ghost use Rattle.build_store.specs.Halves.{IsHalf, IsOn};
-ghost use Rattle.build_store.specs.OpenOnes.{AreNoted, IsFit, MakesRoom, NotesIn, extras, items_by, items_of, opened_by, progress_of, put_by};
+ghost use Rattle.build_store.specs.Halves.{IsAside, IsHalf, IsOn};
+ghost use Rattle.build_store.specs.declared.pieces.Reached.{Reached as AReached};
+ghost use Rattle.build_store.specs.Items.{Item as AnItem};
+ghost use Rattle.build_store.specs.Noting.{AreNoted};
+ghost use Rattle.build_store.specs.OpenOnes.{AddsOwn, IsAsideAt, IsFirst, IsFit, MakesRoom, NotesIn, extras, items_by, items_of, opened_by, progress_at, progress_of, put_by};
 ghost use Rattle.build_store.specs.Phases.{put_of};
 ghost use Rattle.build_store.specs.Pieces.{IsPublishing};
 ghost use Rattle.build_store.specs.Publication.{AreShort};
 
 use crate::drafting::Draft;
+use crate::ending::take_ticket;
 use crate::pieces::{OpenPublication, Reached, place_in};
 use crate::places::{old_path, stamp_at};
 use outside_traits::{Disk, DiskFault, clear_above};
 use sstate_objects::object_folder;
-use stamp_store::invalidate;
 use std::alloc::Global;
 use store_opening::work_at;
 use tree_model::{Hash, Mem, Text, Texts, Tree};
 
-/// Takes the stamp of a folder away, where one is held and each crash leaves it as it is held. After Ok no crash leaves one.
+/// Puts the stamp of a folder aside, if one is held; each crash leaves it as it is held. Says whether one was.
 ///
-/// One sync: between the rename to `tmp/old/` and the removal there.
-fn take_away<D: Disk>(alloc: Global, disk: &mut D, folder: &str) -> Result<(), DiskFault>
+/// No sync: a crash may leave the stamp in its place, until the rename to `tmp/old/` is durable.
+fn put_aside<D: Disk>(alloc: Global, disk: &mut D, folder: &str) -> Result<bool, DiskFault>
     requires reach { 3600 ≤ D.reach }
     requires folder { IsFolder folder.now }
     requires parts { slashes folder.now ≡ 1 }
     requires laid_out { D.tells → IsLaidOut (D.story disk.old).held }
     requires settled { D.tells → EachNow (D.story disk.old)
         (λ image. image (stamp_at folder.now) ≡ (D.story disk.old).held (stamp_at folder.now)) }
-    ensures gone { D.tells → OnOk result (EachNow (D.story disk.new) (λ image. image (stamp_at folder.now) ≡ None)) }
-    ensures swept { D.tells → OnOk result ((D.story disk.old).held (old_path folder.now) ≡ None
-        → (D.story disk.new).held (old_path folder.now) ≡ None) }
+    ensures none { D.tells → IfOk result (λ put. OnFalse put (EachNow (D.story disk.new)
+        (λ image. image (stamp_at folder.now) ≡ None))) }
+    ensures same { D.tells → IfOk result (λ put. OnFalse put (Passes (D.story disk.old) (D.story disk.new) Same)) }
+    ensures gone { D.tells → OnOk result ((D.story disk.new).held (stamp_at folder.now) ≡ None) }
     ensures images { D.tells → Passes (D.story disk.old) (D.story disk.new) (TakesAway folder.now) }
     ensures cause { Counts (D.faults disk.old) (D.faults disk.new) (disk_failed result) }
 {
     let path = stamp_at(alloc, folder)?;
     let aside = old_path(alloc, folder)?;
     if disk.read(alloc, path.as_str())?.is_none() {
-        return Ok(());
+        return Ok(false);
     }
     disk.rename(path.as_str(), aside.as_str())?;
-    disk.sync()?;
-    disk.remove(aside.as_str())
-}
-
-/// Takes the stamp of a folder away, where one is held. It syncs first, unless the stamp is known to be settled: each crash leaves it as it
-/// is held.
-fn put_aside<D: Disk>(
-    alloc: Global,
-    disk: &mut D,
-    folder: &str,
-    settled: bool,
-) -> Result<(), DiskFault>
-    requires reach { 3600 ≤ D.reach }
-    requires folder { IsFolder folder.now }
-    requires parts { slashes folder.now ≡ 1 }
-    requires laid_out { D.tells → IsLaidOut (D.story disk.old).held }
-    requires settled { D.tells → IsTrue settled → EachNow (D.story disk.old)
-        (λ image. image (stamp_at folder.now) ≡ (D.story disk.old).held (stamp_at folder.now)) }
-    ensures gone { D.tells → OnOk result (EachNow (D.story disk.new) (λ image. image (stamp_at folder.now) ≡ None)) }
-    ensures swept { D.tells → OnOk result ((D.story disk.old).held (old_path folder.now) ≡ None
-        → (D.story disk.new).held (old_path folder.now) ≡ None) }
-    ensures images { D.tells → Passes (D.story disk.old) (D.story disk.new) (TakesAway folder.now) }
-    ensures cause { Counts (D.faults disk.old) (D.faults disk.new) (disk_failed result) }
-{
-    if settled {
-        take_away(alloc, disk, folder)
-    } else {
-        invalidate(alloc, disk, folder)
-    }
+    Ok(true)
 }
 
 /// Removes what stands at the object's folder or above it, if there is an object.
@@ -126,32 +103,65 @@ fn make_way<D: Disk>(
     make_way_of_object(alloc, disk, object)
 }
 
-/// Takes the stamp away, and what is in the way of the two folders.
-fn prepare<D: Disk>(
+/// Puts the stamp aside, or, where none is held, removes what is in the way of the two folders.
+fn begin<D: Disk>(
     alloc: Global,
     disk: &mut D,
     folder: &str,
     object: &Option<Hash>,
-    settled: bool,
-) -> Result<(), DiskFault>
+) -> Result<Reached, DiskFault>
     requires reach { 3600 ≤ D.reach }
     requires folder { IsFolder folder.now }
     requires parts { slashes folder.now ≡ 1 }
     requires laid_out { D.tells → IsLaidOut (D.story disk.old).held }
-    requires settled { D.tells → IsTrue settled → EachNow (D.story disk.old)
+    requires settled { D.tells → EachNow (D.story disk.old)
         (λ image. image (stamp_at folder.now) ≡ (D.story disk.old).held (stamp_at folder.now)) }
-    ensures gone { D.tells → OnOk result (EachNow (D.story disk.new) (λ image. image (stamp_at folder.now) ≡ None)) }
-    ensures swept { D.tells → OnOk result ((D.story disk.old).held (old_path folder.now) ≡ None
-        → (D.story disk.new).held (old_path folder.now) ≡ None) }
-    ensures work { D.tells → OnOk result (IsOpen (work_at folder.now) (D.story disk.new).held) }
-    ensures shared { D.tells → OnOk result ((unihash : AHash) → object.now ≡ Some unihash
-        → IsOpen (object_folder unihash) (D.story disk.new).held) }
+    ensures first { IfOk result IsFirst }
+    ensures on { D.tells → IfOk result (λ now. (p : Publication) → p.folder ≡ folder.now → p.object ≡ object.now
+        → IsTree p.tree → (items : List AnItem) → AreNoted p items (D.story disk.old).held
+        → IsOn p (progress_at items now) (D.story disk.new)) }
+    ensures noted { D.tells → (p : Publication) → p.folder ≡ folder.now → p.object ≡ object.now
+        → (items : List AnItem) → AreNoted p items (D.story disk.old).held → AreNoted p items (D.story disk.new).held }
+    ensures swept { D.tells → IfOk result (λ now. (D.story disk.old).held (old_path folder.now) ≡ None
+        → IsAsideAt now ⊎ ((D.story disk.new).held (old_path folder.now) ≡ None)) }
     ensures opens { D.tells → (p : Publication) → p.folder ≡ folder.now → p.object ≡ object.now
         → Passes (D.story disk.old) (D.story disk.new) (Opens p (D.story disk.old).held) }
     ensures laid_out { D.tells → IsLaidOut (D.story disk.new).held }
     ensures cause { Counts (D.faults disk.old) (D.faults disk.new) (disk_failed result) }
 {
-    put_aside(alloc, disk, folder, settled)?;
+    if put_aside(alloc, disk, folder)? {
+        return Ok(Reached::Aside(take_ticket(disk)?));
+    }
+    make_way(alloc, disk, folder, object)?;
+    Ok(Reached::Working(0))
+}
+
+/// Ends the ticket of a publication whose stamp was put aside: then no crash leaves it. Removes it there, and what is in the way of the two folders.
+pub(crate) fn take_out<D: Disk>(
+    alloc: Global,
+    disk: &mut D,
+    folder: &str,
+    object: &Option<Hash>,
+    ticket: u64,
+    synced: bool,
+) -> Result<(), DiskFault>
+    requires parts { slashes folder.now ≡ 1 }
+    requires laid_out { D.tells → IsLaidOut (D.story disk.old).held }
+    requires at { D.tells → (p : Publication) × ((items : List AnItem) × (p.folder ≡ folder.now)
+        × IsAside p ticket items (D.story disk.old)) }
+    ensures half { D.tells → OnOk result ((p : Publication) → p.folder ≡ folder.now → p.object ≡ object.now
+        → IsTree p.tree → (items : List AnItem) → IsAside p ticket items (D.story disk.old)
+        → IsHalf p items (D.story disk.new)) }
+    ensures swept { D.tells → OnOk result ((D.story disk.new).held (old_path folder.now) ≡ None) }
+    ensures opens { D.tells → (p : Publication) → p.folder ≡ folder.now → p.object ≡ object.now
+        → (items : List AnItem) → IsAside p ticket items (D.story disk.old)
+        → Passes (D.story disk.old) (D.story disk.new) (Opens p (D.story disk.old).held) }
+    ensures laid_out { D.tells → IsLaidOut (D.story disk.new).held }
+    ensures cause { Counts (D.faults disk.old) (D.faults disk.new) (disk_failed result) }
+{
+    let aside = old_path(alloc, folder)?;
+    disk.end_sync(ticket, synced)?;
+    disk.remove(aside.as_str())?;
     make_way(alloc, disk, folder, object)
 }
 
@@ -258,34 +268,20 @@ fn are_few(paths: usize, entries: usize) -> bool
     }
 }
 
-/// What is to be removed of the folders of a publication, whose stamp is taken away first, and what is in the way of its folders.
-fn begin<D: Disk>(
+/// The paths that are held under the two folders and that the tree hasn't, where a machine's number counts all items.
+fn note_few<D: Disk>(
     alloc: Global,
     disk: &mut D,
     folder: &str,
     object: &Option<Hash>,
     tree: &Tree,
-    settled: bool,
 ) -> Result<Texts, DiskFault>
-    requires reach { 3600 ≤ D.reach }
-    requires folder { IsFolder folder.now }
-    requires parts { slashes folder.now ≡ 1 }
-    requires laid_out { D.tells → IsLaidOut (D.story disk.old).held }
-    requires settled { D.tells → IsTrue settled → EachNow (D.story disk.old)
-        (λ image. image (stamp_at folder.now) ≡ (D.story disk.old).held (stamp_at folder.now)) }
     ensures few { IfOk result (λ extra. length extra + (length tree.now + length tree.now) < 2 ^ 64) }
     ensures noted { D.tells → IfOk result (λ extra. (p : Publication) → p.folder ≡ folder.now → p.object ≡ object.now
         → p.tree ≡ tree.now → AreNoted p (items_by p extra) (D.story disk.new).held) }
-    ensures half { D.tells → IfOk result (λ extra. (p : Publication) → p.folder ≡ folder.now → p.object ≡ object.now
-        → p.tree ≡ tree.now → IsHalf p (items_by p extra) (D.story disk.new)) }
-    ensures swept { D.tells → OnOk result ((D.story disk.old).held (old_path folder.now) ≡ None
-        → (D.story disk.new).held (old_path folder.now) ≡ None) }
-    ensures opens { D.tells → (p : Publication) → p.folder ≡ folder.now → p.object ≡ object.now
-        → Passes (D.story disk.old) (D.story disk.new) (Opens p (D.story disk.old).held) }
-    ensures laid_out { D.tells → IsLaidOut (D.story disk.new).held }
+    ensures same { D.tells → Passes (D.story disk.old) (D.story disk.new) Same }
     ensures cause { Counts (D.faults disk.old) (D.faults disk.new) (disk_failed result) }
 {
-    prepare(alloc, disk, folder, object, settled)?;
     let extra = note(alloc, disk, folder, object, tree)?;
     if are_few(extra.len(), tree.entries().len()) {
         return Ok(extra);
@@ -300,8 +296,9 @@ fn opened_by(
     draft: Draft,
     tree: Tree,
     extra: Texts,
+    reached: Reached,
 ) -> OpenPublication
-    ensures { result ≡ opened_by folder object draft tree extra }
+    ensures { result ≡ opened_by folder object draft tree extra reached }
 {
     let Draft {
         name,
@@ -318,14 +315,14 @@ fn opened_by(
         object,
         new,
         extra,
-        reached: Reached::Working(0),
+        reached,
     }
 }
 
-/// Opens a publication: its stamp is taken away, and what is in the way of its two folders, and its items are noted, by what is listed of
-/// these.
+/// Opens a publication: its items are noted, by what is listed of its two folders, and its stamp is put aside; where none is held, what is in the way of
+/// the folders goes. No sync.
 ///
-/// Where each crash is known to leave the folder's stamp as it is held (`settled`), it syncs only where there is one, once.
+/// Each crash is known to leave the folder's stamp as it is held.
 pub(crate) fn open_publication<D: Disk>(
     alloc: Global,
     disk: &mut D,
@@ -333,7 +330,6 @@ pub(crate) fn open_publication<D: Disk>(
     object: Option<Hash>,
     draft: Draft,
     tree: Tree,
-    settled: bool,
 ) -> Result<OpenPublication, DiskFault>
     requires reach { 3600 ≤ D.reach }
     requires folder { IsFolder folder }
@@ -342,14 +338,14 @@ pub(crate) fn open_publication<D: Disk>(
     requires object { (unihash : AHash) → object ≡ Some unihash → IsName unihash }
     requires short { AreShort tree }
     requires laid_out { D.tells → IsLaidOut (D.story disk.old).held }
-    requires settled { D.tells → IsTrue settled → EachNow (D.story disk.old)
+    requires settled { D.tells → EachNow (D.story disk.old)
         (λ image. image (stamp_at folder) ≡ (D.story disk.old).held (stamp_at folder)) }
-    ensures parts { IfOk result (λ one. (extra : List (List ℕ)) × (one ≡ opened_by folder object draft tree extra)) }
+    ensures parts { IfOk result (λ one. (extra : List (List ℕ)) × ((now : AReached) × IsFirst now
+        × (one ≡ opened_by folder object draft tree extra now))) }
     ensures fit { IfOk result IsFit }
     ensures noted { D.tells → IfOk result (λ one. (f : AnEntry) → AreNoted (put_by one f) (items_of one) (D.story disk.new).held) }
     ensures opened { D.tells → IfOk result (λ one. (f : AnEntry) → IsOn (put_by one f) (progress_of one) (D.story disk.new)) }
-    ensures swept { D.tells → OnOk result ((D.story disk.old).held (old_path folder) ≡ None
-        → (D.story disk.new).held (old_path folder) ≡ None) }
+    ensures swept { D.tells → IfOk result (λ one. AddsOwn one (D.story disk.old).held (D.story disk.new).held) }
     ensures opens { D.tells → (f : AnEntry) → Passes (D.story disk.old) (D.story disk.new)
         (Opens (put_of folder draft.name tree object (file_of draft.new) f) (D.story disk.old).held) }
     ensures publishing { D.tells → (f : AnEntry) → Passes (D.story disk.old) (D.story disk.new)
@@ -358,6 +354,7 @@ pub(crate) fn open_publication<D: Disk>(
     ensures cause { Counts (D.faults disk.old) (D.faults disk.new) (disk_failed result) }
 {
     let _entries = tree.entries();
-    let extra = begin(alloc, disk, folder.as_str(), &object, &tree, settled)?;
-    Ok(opened_by(folder, object, draft, tree, extra))
+    let extra = note_few(alloc, disk, folder.as_str(), &object, &tree)?;
+    let reached = begin(alloc, disk, folder.as_str(), &object)?;
+    Ok(opened_by(folder, object, draft, tree, extra, reached))
 }

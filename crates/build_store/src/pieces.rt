@@ -13,6 +13,10 @@ use tree_model::{Bytes, Entry, Hash, Mem, Text, Texts, Tree};
 /// How far an open publication is. A number is the moment of its last ticket.
 #[derive(Clone, Copy)]
 pub(crate) enum Reached {
+    /// Its stamp was put aside, and nothing else is changed. A wait is to be asked for.
+    Aside(u64),
+    /// The same, and one was asked for.
+    Taken(u64),
     /// Of its items so many are done.
     Working(usize),
     /// All is written, and record and stamp are staged.

@@ -14,6 +14,7 @@ ghost use Rattle.build_store.specs.Standing.{AddsNoLitter};
 ghost use Rattle.store_model.specs.Publication.{stamp_file, work_at};
 ghost use Rattle.store_opening.specs.Named.{IsName};
 
+use crate::freeing::free_stamp;
 use crate::places::staged_record_path;
 use outside_traits::{Disk, DiskFault, put_entry, put_tree};
 use stamp_store::{invalidate, stage, stamp};
@@ -83,7 +84,8 @@ fn stage_synced<D: Disk>(
     disk.sync()
 }
 
-/// Puts a tree whose record is stored: its work folder, and last the stamp, which names the record.
+/// Puts a tree whose record is stored: what is in the way of its stamp goes, its work folder becomes the tree, and last comes the stamp, which names
+/// the record.
 ///
 /// At each moment the stamp is gone, or all that it tells of is there, or nothing was touched yet. What is held of the tree already isn't
 /// written again.
@@ -112,6 +114,7 @@ pub(crate) fn put<D: Disk>(
     ensures cause { Counts (D.faults disk.old) (D.faults disk.new) (disk_failed result) }
 {
     invalidate(alloc, disk, folder)?;
+    free_stamp(alloc, disk, folder)?;
     lay_work(alloc, disk, folder, tree)?;
     stage_synced(alloc, disk, folder, name)?;
     stamp(alloc, disk, folder)

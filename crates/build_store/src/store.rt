@@ -18,8 +18,8 @@ ghost use Rattle.store_opening.specs.Opening.{Clears};
 ghost use Rattle.store_model.specs.Opened.{HasNoLitter, IsOpened};
 ghost use Rattle.build_store.specs.Outcome.{disk_of, open_failed};
 ghost use Rattle.store_opening.specs.Paths.{HasPlace};
-ghost use Rattle.build_store.specs.Publication.{AreShort, HasNoObject, IsRestored, KeepsCopied, KeepsOthers, Restores, line_for, publication};
-ghost use Rattle.build_store.specs.Openings.{IsOpen, LandsOn, OpensTask, SomeOpen, NoneNamed, StepsTo};
+ghost use Rattle.build_store.specs.Publication.{AreShort, HasNoObject, IsRestored, KeepsCopied, KeepsOthers, Restores, line_for, object_for, publication};
+ghost use Rattle.build_store.specs.Openings.{IsOpen, LandsOn, Meets, NoneNamed, OpensTask, StepsTo};
 ghost use Rattle.build_store.specs.OpenOnes.{KeepsEntries};
 ghost use Rattle.build_store.specs.Pieces.{IsPublishing};
 ghost use Rattle.meta_model.specs.CleanBuild.{Entries};
@@ -229,8 +229,8 @@ impl<D: Disk> Store<D> {
         }
     }
 
-    /// Opens the publication of what a task gave, a tree with its manifest: the task's stamp is taken away, and what is to be done is noted by two listings.
-    /// `publish_step` does that, piece by piece: the work folder becomes the tree, and for a task of the shared state so does the object of its unihash; the
+    /// Opens the publication of what a task gave, a tree with its manifest: what is to be done is noted by two listings, and the task's old stamp is put
+    /// aside, if one is held. `publish_step` does that, piece by piece: the old stamp goes, once no crash leaves it; the work folder becomes the tree, and for a task of the shared state so does the object of its unihash; the
     /// record is stored, unless it is, and the stamp names it. No publication of the task may be open. (Own rule.)
     ///
     /// `false`: another one is open which has the same record or the same object, that is, digests meet; nothing was changed, and it may be tried again.
@@ -255,7 +255,9 @@ impl<D: Disk> Store<D> {
         requires listed { manifest.now ≡ manifest_lines tree }
         requires closed { opened_at self.old.opened (task_folder task.now) ≡ None }
         ensures opens { IfOk result (λ is_open. OnTrue is_open (OpensTask self.old self.new (signed_by task.now sig.now) tree)) }
-        ensures busy { IfOk result (λ is_open. OnFalse is_open ((self.new ≡ self.old) × SomeOpen self.old.opened)) }
+        ensures busy { IfOk result (λ is_open. OnFalse is_open ((self.new ≡ self.old)
+            × Meets self.old.rows self.old.opened (name_of sig.now)
+            (object_for self.old.rows (signed_by task.now sig.now) tree))) }
         ensures refused { IfErr result (IsRefusal self.old.rows (signed_by task.now sig.now) tree) }
         ensures refused_open { OnErr result (self.new.opened ≡ self.old.opened) }
         ensures unchanged { IfErr result (λ fault. OnDifference fault (self.new ≡ self.old)) }

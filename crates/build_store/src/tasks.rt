@@ -11,21 +11,20 @@ ghost use Rattle.store_model.specs.Available.{task_folder};
 ghost use Rattle.store_model.specs.Publication.{stamp_at};
 ghost use Rattle.store_model.specs.Readable.{IsReadable, IsRow};
 ghost use Rattle.store_model.specs.Spelled.{IsSpelled};
-ghost use Rattle.store_model.specs.Spelling.{signature_bytes};
+ghost use Rattle.store_model.specs.Spelling.{name_of, signature_bytes};
 ghost use Rattle.store_opening.specs.Paths.{HasPlace};
 ghost use Rattle.store_opening.specs.Sound.{IsKept};
 ghost use Rattle.sig_gen.specs.Sound.{Spells};
 ghost use Rattle.build_store.specs.declared.pieces.OpenPublication.{OpenPublication as AOne};
-ghost use Rattle.build_store.specs.declared.pieces.Reached.TheVariants as reached;
 ghost use Rattle.build_store.specs.Drafts.{IsDraft};
 ghost use Rattle.build_store.specs.Faults.{IsOutside, IsRefusal, store_failed};
 ghost use Rattle.build_store.specs.Halves.{IsOn};
-ghost use Rattle.build_store.specs.OpenOnes.{IsOnOrDone, KeepsEntries, LeadsTo, Sweeps, at_next, items_of, progress_of};
+ghost use Rattle.build_store.specs.OpenOnes.{AddsOwn, IsOnOrDone, KeepsEntries, LeadsTo, Sweeps, at_next, items_of, progress_of};
 ghost use Rattle.build_store.specs.OpenTasks.{IsOpenOf};
-ghost use Rattle.build_store.specs.Openings.{IsGoing, IsOpen, LandsOn, OpensOne, SomeOpen, StepsTo, open_view};
+ghost use Rattle.build_store.specs.Openings.{IsGoing, IsOpen, LandsOn, Meets, OpensOne, StepsTo, open_view};
 ghost use Rattle.build_store.specs.Pieces.{IsPublishing};
 ghost use Rattle.build_store.specs.Publication.{AreShort, IsAgreed, IsPublished, line_for, object_for, publication, rows_with, unihash_for};
-ghost use Rattle.build_store.specs.Standing.{AddsNoLitter, AreOn, AreOpen, IsClearOf, IsTidy, StandsAt};
+ghost use Rattle.build_store.specs.Standing.{AreOn, AreOpen, IsClearOf, IsTidy, StandsAt};
 ghost use Rattle.build_store.specs.View.{IsSignatureOf, kept_with, kept_without, open_in, opened_at, signed_by, view_of};
 
 use crate::drafting::{Draft, draft_of};
@@ -59,6 +58,7 @@ pub(crate) fn prepare(
 ) -> Result<Option<Draft>, StoreFault>
     requires spelled { IsSpelled sig.now }
     requires rows { AllByRecursion IsRow index.now }
+    requires stand { AreOpen index.now open_ones.old.items }
     ensures bytes { IfOk result (λ found. IfSome found (λ draft. draft.bytes ≡ signature_bytes sig.now)) }
     ensures draft { IfOk result (λ found. IfSome found (λ draft. (tree : Entries) → manifest.now ≡ manifest_lines tree
         → IsDraft index.now (signed_by task.now sig.now) tree draft)) }
@@ -68,7 +68,9 @@ pub(crate) fn prepare(
     ensures kept { IfOk result (λ found. MatchOption found (kept.new.items ≡ kept.old.items)
         (λ draft. kept.new.items ≡ kept_with (signed_by task.now sig.now) kept.old.items)) }
     ensures room { IfOk result (λ found. IfSome found (λ draft. vec_len open_ones.new < vec_capacity open_ones.new)) }
-    ensures busy { IfOk result (λ found. IfNone found (SomeOpen (open_in open_ones.old.items))) }
+    ensures busy { IfOk result (λ found. IfNone found ((tree : Entries) → manifest.now ≡ manifest_lines tree
+        → Meets index.now (open_in open_ones.old.items) (name_of sig.now)
+        (object_for index.now (signed_by task.now sig.now) tree))) }
     ensures listed { open_ones.new.items ≡ open_ones.old.items }
     ensures unkept { OnErr result (kept.new.items ≡ kept.old.items) }
     ensures refused { IfErr result (λ fault. (tree : Entries) → manifest.now ≡ manifest_lines tree
@@ -106,11 +108,10 @@ fn open_task<D: Disk>(
     requires settled { D.tells → EachNow (D.story disk.old)
         (λ image. image (stamp_at (task_folder task.now)) ≡ (D.story disk.old).held (stamp_at (task_folder task.now))) }
     ensures of { IfOk result (IsOpenOf index.now (signed_by task.now sig.now) tree) }
-    ensures reached { IfOk result (λ one. one.reached ≡ reached.Working 0) }
     ensures opened { D.tells → IfOk result (λ one. IsOn (publication index.now (signed_by task.now sig.now) tree)
         (progress_of one) (D.story disk.new)) }
     ensures refused { IfErr result IsOutside }
-    ensures swept { D.tells → OnOk result (AddsNoLitter (D.story disk.old).held (D.story disk.new).held) }
+    ensures swept { D.tells → IfOk result (λ one. AddsOwn one (D.story disk.old).held (D.story disk.new).held) }
     ensures publishing { D.tells → Passes (D.story disk.old) (D.story disk.new)
         (IsPublishing (publication index.now (signed_by task.now sig.now) tree) (D.story disk.old).held) }
     ensures line { OnOk result (IsReadable (line_for index.now (signed_by task.now sig.now) tree)) }
@@ -121,7 +122,7 @@ fn open_task<D: Disk>(
     let _entries = tree.entries();
     let folder = task_folder(alloc, task)?;
     let object = object_of(task, draft.unihash);
-    Ok(open_publication(alloc, disk, folder, object, draft, tree, true)?)
+    Ok(open_publication(alloc, disk, folder, object, draft, tree)?)
 }
 
 /// Opens the publication of what a task gave, beside those that are open. There is room for it.
@@ -248,9 +249,12 @@ fn step_of(next: Reached) -> Step
 {
     match next {
         Reached::Working(_) => Step::More,
-        Reached::Staged(_) | Reached::Kept(_) | Reached::Stored(_) | Reached::Stamped(_) => {
-            Step::Wait
-        }
+        Reached::Aside(_)
+        | Reached::Taken(_)
+        | Reached::Staged(_)
+        | Reached::Kept(_)
+        | Reached::Stored(_)
+        | Reached::Stamped(_) => Step::Wait,
     }
 }
 

@@ -1,5 +1,5 @@
 // The system's files, where each sync of a file or folder is written down.
-use host_files::{Locking, Syncing};
+use host_files::{Locking, Syncer, Syncing};
 use std::alloc::{Allocator, Global};
 use std::cell::RefCell;
 use std::fs::{File, Metadata, OpenFile, OpenOptions, Permissions};
@@ -188,6 +188,10 @@ impl<'a> Clock for Watch<'a> {
 }
 
 impl<'a> Syncing for Watch<'a> {
+    fn start_syncer(&self, _folder: &str) -> io::Result<Option<Syncer>> {
+        Ok(None)
+    }
+
     fn sync_all_of(&self, folder: &str) -> io::Result<bool> {
         if self.rt.symlink_metadata("no-sync").is_ok() {
             return Ok(false);

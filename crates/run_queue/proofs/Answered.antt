@@ -1,12 +1,22 @@
 -- What a store answers now of the tasks of a plan is what was so when the run began.
 use Rattle.std.proofs.Common.{◌≡◌, ◌≢◌, ◌∙◌, sym, ap, subst, refl, ℕ, Bool, List, [], ◌∷◌, ◌++◌, get_or, Option, Some, None, slice_get, inl, inr}
-use Rattle.std.specs.Prelude.{◌⊎◌, All, IsSome}
+use Rattle.std.specs.Prelude.{◌⊎◌, All, IsSome, codes}
+use Rattle.std.specs.List.{AllByRecursion}
+use Rattle.std.specs.Option.{is_some}
 use Rattle.std.proofs.lemmas.Option.{none-some, same_Some, slice_get-get_or, slice_get_within}
+use Rattle.tree_model.specs.declared.entry.Entry.{Entry}
 use Rattle.tree_model.specs.declared.hash.Hash.{Hash}
+use Rattle.tree_model.specs.Hash.{hash_text}
+use Rattle.tree_model.specs.Manifest.{manifest_lines}
+use Rattle.tree_model.specs.Tree.{entry_at}
 use Rattle.tree_model.specs.Path.{IsAtOrBelow, IsBelow, inside}
 use Rattle.outside_traits.specs.Store.{Store}
 use Rattle.outside_traits.specs.Story.{IsSound, moment}
+use Rattle.outside_traits.proofs.Held.{none_unless}
 use Rattle.outside_traits.proofs.Images.{held-image, now-since}
+use Rattle.meta_model.proofs.Bools.{text_itself}
+use Rattle.meta_model.specs.CleanBuild.{Entries}
+use Rattle.meta_model.specs.declared.plan.Plan.{Plan}
 use Rattle.meta_model.specs.declared.event.Avail.{Avail}
 use Rattle.meta_model.specs.declared.event.Avail.TheVariants as avail
 use Rattle.meta_model.specs.declared.plan.PlanTask.{PlanTask}
@@ -22,7 +32,12 @@ use Rattle.store_model.specs.Rows.{row_at, IsClear}
 use Rattle.store_model.specs.Signatures.{Signed, signatures}
 use Rattle.store_model.specs.Spelling.{name_of, signature_bytes}
 use Rattle.store_model.specs.OneSpelling.{SignatureFits}
-use Rattle.store_model.specs.Valid.{IsValidBook, StandsIn}
+use Rattle.store_model.specs.Publication.{stamp_at, work_at}
+use Rattle.store_model.specs.Readable.{IsReadable}
+use Rattle.store_model.specs.Valid.{IsValidBook, StandsIn, stored_of}
+use Rattle.store_model.proofs.Ordered.{each_middle}
+use Rattle.store_opening.proofs.SameLines.{entry_there}
+use Rattle.build_store.proofs.Apart.{below_again}
 use Rattle.store_model.proofs.Standing.{row_found, stands_behind}
 use Rattle.store_model.specs.Lines.{HasLine}
 use Rattle.store_opening.specs.Named.{IsName}
@@ -33,6 +48,8 @@ use Rattle.setscene_plan.specs.View.{Says, View}
 use Rattle.setscene_plan.specs.Replans.{IsCurrent, avail_in, names_in, need_in, unihashes_in}
 use Rattle.run_queue.specs.Asking.{Means, answered_of, flat, if_row, meant}
 use Rattle.run_model.specs.Opening.{Opening}
+use Rattle.run_queue.specs.Opening.{MayRun}
+use Rattle.run_queue.proofs.Aside.{above_parts, above_top}
 use Rattle.run_queue.specs.Keeps.{IsRun, IsUpToDate, WasThere, nobody}
 use Rattle.run_queue.specs.Seen.{IsBegun, Known, Seen, known_in}
 use Rattle.run_model.specs.Stands.{HasEnded}
@@ -46,11 +63,12 @@ use Rattle.run_queue.proofs.Placing.{has_place}
 
 -- ---- a task of which nothing changed
 
--- The stores agree on all that a task's availability depends on: what is above its work folder counts where it has a stamp.
+-- The stores agree on all that a task's availability depends on: what is above its work folder counts where it has a stamp and the folder matches.
 pub record AgreesOn (one other : Store) (rows : List EquivRow) (s : Signed) : Type 0 where
   pub stamp : one (stamp_path s.task) ≡ other (stamp_path s.task)
   pub work : (q : List ℕ) → IsAtOrBelow (work_folder s.task) q → one q ≡ other q
-  pub above : IsSome (one (stamp_path s.task)) → (q : List ℕ) → IsBelow q (work_folder s.task) → one q ≡ other q
+  pub above : (row : EquivRow) → row_at rows (name_of s.sig) ≡ Some row → IsSome (one (stamp_path s.task)) → Matches one (work_folder s.task) row.manifest → (q : List ℕ) → IsBelow q (work_folder s.task) → other q ≡ None
+  pub back : (row : EquivRow) → row_at rows (name_of s.sig) ≡ Some row → IsSome (other (stamp_path s.task)) → Matches other (work_folder s.task) row.manifest → (q : List ℕ) → IsBelow q (work_folder s.task) → one q ≡ None
   pub object : (row : EquivRow) → row_at rows (name_of s.sig) ≡ Some row → (q : List ℕ) → IsAtOrBelow (object_folder row.unihash) q → one q ≡ other q
   pub above_object : (row : EquivRow) → row_at rows (name_of s.sig) ≡ Some row → (q : List ℕ) → IsBelow q (object_folder row.unihash) → one q ≡ other q
 
@@ -58,7 +76,8 @@ pub agrees_back : (one other : Store) (rows : List EquivRow) (s : Signed) → Ag
 agrees_back one other rows s a = record {
   stamp = sym a.stamp;
   work = λ q below. sym (a.work q below);
-  above = λ stamped q below. sym (a.above (subst IsSome (sym a.stamp) stamped) q below);
+  above = a.back;
+  back = a.above;
   object = λ row at q below. sym (a.object row at q below);
   above_object = λ row at q below. sym (a.above_object row at q below);
 }
@@ -83,7 +102,7 @@ work_on one other rows s a is = record {
   row = is.row;
   stored = is.stored;
   stamp = sym a.stamp ∙ is.stamp;
-  folder = matches_on one other (work_folder s.task) is.row.manifest a.work (a.above (subst IsSome (sym is.stamp) refl)) is.folder;
+  folder = matches_on one other (work_folder s.task) is.row.manifest a.work (λ q below. is.folder.holds.outside.above q below ∙ sym (a.above is.row is.stored.is_row (subst IsSome (sym is.stamp) refl) is.folder q below)) is.folder;
 }
 
 object_on : (one other : Store) (rows : List EquivRow) (setscene : Bool) (s : Signed) → AgreesOn one other rows s → IsInObject one rows setscene s → IsInObject other rows setscene s
@@ -145,6 +164,30 @@ pub own_name : (tasks : List PlanTask) (us : List Hash) (task : PlanTask) → (s
 unfolding signature_by
 own_name tasks us task = refl
 
+-- ---- a task that gave nothing
+
+-- the first entry of a list is found at its path
+first_there : (x : List ℕ × Entry) (more : Entries) → entry_at (x ∷ more) x.0 ≡ Some x.1
+first_there x more = let t = text_itself x.0 in rw t refl
+
+-- opening has made way for the folder of a line that has no output, where its task has a stamp
+way_of : (o : Opening) (plan : Plan) → MayRun o plan → (line : Line) → HasLine o.book line → line.manifest ≡ [] → IsSome (o.story.held (stamp_at (inside line.sig.pn line.sig.task))) → (o.story.held (codes "work") ≡ None) × (o.story.held (work_at line.sig.pn) ≡ None)
+way_of o plan may line has empty stamped =
+    let read = each_middle IsReadable has.0 line has.1.rest (subst (λ (b : Book). AllByRecursion IsReadable b) has.1.is may.readable) in
+    may.way.stamps (record { name = name_of line.sig; stored = stored_of line }) (record {
+      file = may.valid.records (hash_text (name_of line.sig)) ∙ entry_there o.gives o.reading o.book has.0 line may.valid.lines has.1;
+      name = refl;
+      spelled = read.spelled;
+      short = read.short;
+    }) empty stamped
+
+-- nothing is held above the work folder of a task
+above_open : (held : Store) (task : PlanTask) → HasPlace task → held (codes "work") ≡ None → held (inside (codes "work") task.id.pn) ≡ None → (q : List ℕ) → IsBelow q (work_folder task) → held q ≡ None
+above_open held task place top recipe q below = elim (above_top (codes "work") (task_folder task) q refl below) [
+  | inl same ↦ ap held same ∙ top
+  | inr in_it ↦ ap held (in_it.1 ∙ ap (inside (codes "work")) (above_parts task.id.pn task.id.task in_it.0 place.pn.alone place.task.alone in_it.2)) ∙ recipe
+]
+
 -- ---- a run
 
 module _ (o : Opening) (s : Seen) (run : IsRun o s) (sound : IsSound s.story) where
@@ -159,9 +202,8 @@ module _ (o : Opening) (s : Seen) (run : IsRun o s) (sound : IsSound s.story) wh
   unbegun image left t sg none at fresh pn name one = record {
     stamp = kept.stamp;
     work = kept.work;
-    above = λ stamped q below.
-        let none = run.may.way.stamps (task_folder sg.task) (subst IsSome kept.stamp stamped) q below in
-        above_work o.story.held image sg.task q left.folders place below none ∙ sym none;
+    above = λ row is stamped m q below. was_open row is (subst IsSome kept.stamp stamped) m q below;
+    back = λ row is stamped m q below. above_work o.story.held image sg.task q left.folders place below (m.holds.outside.above q below);
     object = λ row is q below. let l = line_of row is in kept.objects l.0 l.1 l.2 l.3 q (subst (λ (h : _). IsAtOrBelow (object_folder h) q) (sym l.4) below);
     above_object = λ row is q below. let name = unihash_name row is in above_object image row.unihash q (left.folders.objects run.may.way.objects) name below ∙ sym (above_object o.story.held row.unihash q run.may.way.objects name below);
   }
@@ -177,16 +219,33 @@ module _ (o : Opening) (s : Seen) (run : IsRun o s) (sound : IsSound s.story) wh
       kept : IsAsBegun o.book o.story.held image sg.task
       kept = left.others t sg.task at fresh
 
-      line_of : (row : EquivRow) → row_at s.rows (name_of sg.sig) ≡ Some row → (line : Line) × HasLine o.book line × (line.sig.pn ≡ sg.task.id.pn) × (line.sig.task ≡ sg.task.id.task) × (line.unihash ≡ row.unihash)
+      line_of : (row : EquivRow) → row_at s.rows (name_of sg.sig) ≡ Some row → (line : Line) × HasLine o.book line × (line.sig.pn ≡ sg.task.id.pn) × (line.sig.task ≡ sg.task.id.task) × (line.unihash ≡ row.unihash) × (line.manifest ≡ row.manifest)
       line_of row is =
           let f = row_found (o.book ++ run.lines) (name_of sg.sig) row (ap (λ (r : List EquivRow). row_at r (name_of sg.sig)) (sym rows_are) ∙ is) in
           let same : f.1.sig ≡ sg.sig = one f.0 f.1 f.2 f.4 in
           let own_pn : f.1.sig.pn ≡ sg.task.id.pn = ap (λ (g : SigRecord). g.pn) same ∙ pn in
           let own_name : f.1.sig.task ≡ sg.task.id.task = ap (λ (g : SigRecord). g.task) same ∙ name in
           elim (has_either o.book run.lines f.0 f.1 f.2) [
-            | inl h ↦ (f.1, h, own_pn, own_name, ap (λ (r : EquivRow). r.unihash) f.3)
+            | inl h ↦ (f.1, h, own_pn, own_name, ap (λ (r : EquivRow). r.unihash) f.3, ap (λ (r : EquivRow). r.manifest) f.3)
             | inr h ↦ absurd (fresh (run.own f.1 h t sg.task at own_pn own_name))
           ]
+
+      -- what is above the work folder of a task with a stamp, where its folder matches: an entry in it has nothing above, and opening has made way for one
+      -- that gave nothing
+      was_open : (row : EquivRow) → row_at s.rows (name_of sg.sig) ≡ Some row → IsSome (o.story.held (stamp_path sg.task)) → Matches image (work_folder sg.task) row.manifest → (q : List ℕ) → IsBelow q (work_folder sg.task) → o.story.held q ≡ None
+      was_open row is stamped m = by m.tree refl
+        where
+          by : (tree : Entries) → m.tree ≡ tree → (q : List ℕ) → IsBelow q (work_folder sg.task) → o.story.held q ≡ None
+          by [] e q below =
+              let l = line_of row is in
+              let folder : inside l.0.sig.pn l.0.sig.task ≡ task_folder sg.task = (λ i. inside (l.2 i) (l.3 i)) in
+              let empty : l.0.manifest ≡ [] = l.5 ∙ m.manifest ∙ ap manifest_lines e in
+              let way = way_of o s.plan run.may l.0 l.1 empty (subst (λ (f : List ℕ). IsSome (o.story.held (stamp_at f))) (sym folder) stamped) in
+              above_open o.story.held sg.task place way.0 (subst (λ (pn : List ℕ). o.story.held (inside (codes "work") pn) ≡ None) l.2 way.1) q below
+          by (x ∷ more) e q below = none_unless (o.story.held q) (λ some.
+              let at : o.story.held (inside (work_folder sg.task) x.0) ≡ entry_at m.tree x.0 = sym (kept.work (inside (work_folder sg.task) x.0) (inr (x.0, refl))) ∙ m.holds.entries x.0 in
+              let there : entry_at m.tree x.0 ≡ Some x.1 = ap (λ (t : Entries). entry_at t x.0) e ∙ first_there x more in
+              run.may.treelike q (inside (work_folder sg.task) x.0) (below_again q (work_folder sg.task) (inside (work_folder sg.task) x.0) below (x.0, refl)) some (ap is_some (at ∙ there)))
 
   -- what the store answers now of such a task
   pub was_there : (t : ℕ) (sg : Signed) (there : Avail) → s.fault ≡ None → slice_get s.plan.tasks t ≡ Some sg.task → (IsBegun s t → ⊥) → sg.sig.pn ≡ sg.task.id.pn → sg.sig.task ≡ sg.task.id.task → HasOneSignature (o.book ++ run.lines) sg

@@ -1,9 +1,10 @@
 -- What a publication, or a restoring, leaves of other tasks, and of records.
 use Rattle.std.proofs.Common.{◌≡◌, ◌≢◌, ◌∙◌, sym, ap, subst, refl, ℕ, ◌⊎◌, inl, inr, true, List, [], ◌∷◌, ◌++◌, Some, None, append_assoc, arith}
 use Rattle.std.specs.Prelude.{codes, Option}
+use Rattle.std.proofs.lemmas.Bool.{cases_eq}
 use Rattle.tree_model.specs.declared.hash.Hash.{Hash}
 use Rattle.tree_model.specs.Hash.{hash_text}
-use Rattle.tree_model.specs.Path.{IsAtOrBelow, IsBelow, inside}
+use Rattle.tree_model.specs.Path.{BeginsWith, IsAtOrBelow, IsBelow, inside}
 use Rattle.outside_traits.specs.Store.{HoldsTree, IsApart, IsOpen, Store}
 use Rattle.outside_traits.proofs.Folders.{above_under, under_same}
 use Rattle.outside_traits.proofs.Puts.{path_cases}
@@ -18,10 +19,13 @@ use Rattle.store_model.specs.Paths.{record_path, slashes}
 use Rattle.build_store.specs.Publication.{IsForeign, IsUntouched, Publishes, KeepsOthers}
 use Rattle.store_model.specs.Publication.{Publication, stamp_at, work_at}
 use Rattle.store_opening.proofs.Areas.{apart_by_first, differ, heads_differ}
+use Rattle.store_opening.proofs.Clean.{folder_slashes}
+use Rattle.store_opening.proofs.Opened.{begins_or}
+use Rattle.build_store.proofs.Apart.{apart_by_count, apart_under}
 use Rattle.build_store.proofs.Others.{others_untouched}
 use Rattle.store_opening.proofs.Slashes.{slashes_inside}
 use Rattle.run_model.specs.Own.{IsOfFolder}
-use Rattle.run_queue.specs.Stands.{KeepsFolders}
+use Rattle.run_queue.specs.Stands.{IsClearOfStamps, KeepsFolders}
 
 -- ---- paths above folders
 
@@ -30,7 +34,7 @@ one_part : (path q : List ℕ) → slashes path ≡ 0 → IsBelow q path → ⊥
 one_part path q none below = let m = ap slashes below.1 ∙ slashes_inside q below.0 in omega (arith, m, none)
 
 -- above `PN/TASK` stands `PN` alone
-above_parts : (pn task q : List ℕ) → slashes pn ≡ 0 → slashes task ≡ 0 → IsBelow q (inside pn task) → q ≡ pn
+pub above_parts : (pn task q : List ℕ) → slashes pn ≡ 0 → slashes task ≡ 0 → IsBelow q (inside pn task) → q ≡ pn
 above_parts pn task q a b below = by (above_under pn task q below)
   where
     by : IsBelow q pn ⊎ ((q ≡ pn) ⊎ ((r : List ℕ) × (q ≡ inside pn r) × IsBelow r task)) → q ≡ pn
@@ -39,7 +43,7 @@ above_parts pn task q a b below = by (above_under pn task q below)
     by (inr (inr in_it)) = absurd (one_part task in_it.0 b in_it.2)
 
 -- above a folder of one part stands nothing else than that part, or what is under it
-above_top : (top folder q : List ℕ) → slashes top ≡ 0 → IsBelow q (inside top folder) → (q ≡ top) ⊎ ((r : List ℕ) × (q ≡ inside top r) × IsBelow r folder)
+pub above_top : (top folder q : List ℕ) → slashes top ≡ 0 → IsBelow q (inside top folder) → (q ≡ top) ⊎ ((r : List ℕ) × (q ≡ inside top r) × IsBelow r folder)
 above_top top folder q a below = by (above_under top folder q below)
   where
     by : IsBelow q top ⊎ ((q ≡ top) ⊎ ((r : List ℕ) × (q ≡ inside top r) × IsBelow r folder)) → (q ≡ top) ⊎ ((r : List ℕ) × (q ≡ inside top r) × IsBelow r folder)
@@ -52,7 +56,7 @@ foreign_record : (p : Publication) (path : List ℕ) → (p.is_new ≡ true → 
 foreign_record p path other = record {
   temporary = λ below. heads_differ (differ 114 116 refl) below.1;
   work = apart_by_first (101 ∷ 99 ∷ 47 ∷ path) (111 ∷ 114 ∷ 107 ∷ 47 ∷ p.folder) (differ 114 119 refl);
-  stamp = heads_differ (differ 114 115 refl);
+  stamp = apart_by_first (101 ∷ 99 ∷ 47 ∷ path) (116 ∷ 97 ∷ 109 ∷ 112 ∷ 47 ∷ p.folder) (differ 114 115 refl);
   stored = other;
   shared = λ unihash is. apart_by_first (101 ∷ 99 ∷ 47 ∷ path) (98 ∷ 106 ∷ 47 ∷ hash_text unihash) (differ 114 111 refl);
 }
@@ -61,7 +65,7 @@ foreign_work : (p : Publication) (ps : List ℕ) → IsApart (work_at p.folder) 
 foreign_work p ps apart = record {
   temporary = λ below. heads_differ (differ 119 116 refl) below.1;
   work = apart;
-  stamp = heads_differ (differ 119 115 refl);
+  stamp = apart_by_first ps (116 ∷ 97 ∷ 109 ∷ 112 ∷ 47 ∷ p.folder) (differ 119 115 refl);
   stored = λ new. heads_differ (differ 119 114 refl);
   shared = λ unihash is. apart_by_first ps (98 ∷ 106 ∷ 47 ∷ hash_text unihash) (differ 119 111 refl);
 }
@@ -71,7 +75,7 @@ foreign_objects : (p : Publication) (ps : List ℕ) → p.object ≡ None → Is
 foreign_objects p ps none = record {
   temporary = λ below. heads_differ (differ 111 116 refl) below.1;
   work = apart_by_first ps (111 ∷ 114 ∷ 107 ∷ 47 ∷ p.folder) (differ 111 119 refl);
-  stamp = heads_differ (differ 111 115 refl);
+  stamp = apart_by_first ps (116 ∷ 97 ∷ 109 ∷ 112 ∷ 47 ∷ p.folder) (differ 111 115 refl);
   stored = λ new. heads_differ (differ 111 114 refl);
   shared = λ unihash is. absurd (let n : None ≡ Some unihash = sym none ∙ is in cc);
 }
@@ -158,6 +162,8 @@ folders_on p first held earlier new task place folder keeps h e = record {
   work = λ none. keeps.above_work (codes "work") (p.folder, refl) (h.work none) ∙ e.work none;
   objects = λ none. at_objects none p.object refl;
   parts = λ part plain none. at_part part plain none (path_cases part task.id.pn);
+  top = λ none. keeps.top (h.top none) ∙ e.top none;
+  stamps = λ path ne none. keeps.stamps path (inr (λ same. ne (ap slashes (same ∙ folder) ∙ folder_slashes task place), h.stamps path ne none)) ∙ e.stamps path ne none;
 }
   where
     at_objects : first (codes "obj") ≡ None → (o : Option Hash) → p.object ≡ o → new (codes "obj") ≡ None
@@ -176,10 +182,10 @@ folders_on p first held earlier new task place folder keeps h e = record {
 -- ---- paths that are none of a publication's own
 
 -- What a publication leaves of a path that isn't under `tmp/`, at or under the work folder or the object, the stamp or a new record, nor above
--- the work folder, unless nothing was held there at first; nor was anything at `obj`.
+-- the work folder, or in the way of stamps, unless nothing was held there at first; nor was anything at `obj`.
 pub aside_stays : (p : Publication) (task : PlanTask) (first old new : Store) (q : List ℕ) → HasPlace task → p.folder ≡ task_folder task → Publishes p old new → KeepsFolders first old → KeepsFolders first new → first (codes "obj") ≡ None
-    → (IsBelow (codes "tmp") q → ⊥) → (IsOfFolder task q → ⊥) → (IsBelow q (work_folder task) → first q ≡ None) → (p.is_new ≡ true → q ≢ record_path p.name) → ((unihash : Hash) → p.object ≡ Some unihash → (slashes (hash_text unihash) ≡ 0) × (IsAtOrBelow (object_folder unihash) q → ⊥)) → new q ≡ old q
-aside_stays p task first old new q place folder publishes before after no_object temporary own above stored shared = by (path_cases q (codes "work")) (path_cases q (inside (codes "work") task.id.pn)) (path_cases q (codes "obj"))
+    → (IsBelow (codes "tmp") q → ⊥) → (IsOfFolder task q → ⊥) → (IsBelow q (work_folder task) → first q ≡ None) → (p.is_new ≡ true → q ≢ record_path p.name) → ((unihash : Hash) → p.object ≡ Some unihash → (slashes (hash_text unihash) ≡ 0) × (IsAtOrBelow (object_folder unihash) q → ⊥)) → IsClearOfStamps first q → new q ≡ old q
+aside_stays p task first old new q place folder publishes before after no_object temporary own above stored shared clear = by_top (path_cases q (codes "stamp"))
   where
     work : q ≢ codes "work" → q ≢ inside (codes "work") task.id.pn → IsApart (work_folder task) q
     work a b = record {
@@ -201,11 +207,24 @@ aside_stays p task first old new q place folder publishes before after no_object
       not_under = λ under. (shared unihash is).1 (inr under);
     }
 
-    foreign : q ≢ codes "work" → q ≢ inside (codes "work") task.id.pn → q ≢ codes "obj" → IsForeign p q
-    foreign a b c = record {
+    -- the path is apart from the stamp, or nothing is held there
+    stamp : q ≢ codes "stamp" → BeginsWith (codes "stamp/") q ⊎ (BeginsWith (codes "stamp/") q → ⊥) → IsApart (stamp_at (task_folder task)) q ⊎ ((path : List ℕ) × (q ≡ stamp_at path) × (slashes path ≢ 1) × (first q ≡ None))
+    stamp top (inl b) = elim (cases_eq (slashes b.0) 1) [
+      | inl one ↦ inl (subst (IsApart (stamp_at (task_folder task))) (sym b.1)
+          (apart_under (codes "stamp") (task_folder task) b.0 (apart_by_count (task_folder task) b.0 (folder_slashes task place ∙ sym one) (λ same. own (inr (b.1 ∙ ap stamp_at same))))))
+      | inr ne ↦ inr (b.0, b.1, ne, elim (clear.under b.0 b.1) [ inl one ↦ absurd (ne one) | inr none ↦ none ])
+    ]
+    stamp top (inr never) = inl (record {
+      not_folder = λ same. never (task_folder task, same);
+      not_above = λ up. elim (above_top (codes "stamp") (task_folder task) q refl up) [ inl e ↦ top e | inr in_it ↦ never (in_it.0, in_it.1) ];
+      not_under = λ under. never (inside (task_folder task) under.0, under.1 ∙ append_assoc (codes "stamp") (47 ∷ task_folder task) (47 ∷ under.0));
+    })
+
+    foreign : IsApart (stamp_at (task_folder task)) q → q ≢ codes "work" → q ≢ inside (codes "work") task.id.pn → q ≢ codes "obj" → IsForeign p q
+    foreign apart a b c = record {
       temporary = temporary;
       work = subst (λ (f : List ℕ). IsApart (work_at f) q) (sym folder) (work a b);
-      stamp = λ same. own (inr (same ∙ ap stamp_at folder));
+      stamp = subst (λ (f : List ℕ). IsApart (stamp_at f) q) (sym folder) apart;
       stored = stored;
       shared = object c;
     }
@@ -217,11 +236,19 @@ aside_stays p task first old new q place folder publishes before after no_object
     at_recipe : q ≡ inside (codes "work") task.id.pn → first (inside (codes "work") task.id.pn) ≡ None
     at_recipe same = sym (ap first same) ∙ above (subst (λ (l : List ℕ). IsBelow l (work_folder task)) (sym same) (task.id.task, sym (append_assoc (codes "work") (47 ∷ task.id.pn) (47 ∷ task.id.task))))
 
-    by : (q ≡ codes "work") ⊎ (q ≢ codes "work") → (q ≡ inside (codes "work") task.id.pn) ⊎ (q ≢ inside (codes "work") task.id.pn) → (q ≡ codes "obj") ⊎ (q ≢ codes "obj") → new q ≡ old q
-    by (inl same) b c = let none = at_top same in ap new same ∙ after.work none ∙ sym (ap old same ∙ before.work none)
-    by (inr a) (inl same) c = let none = at_recipe same in ap new same ∙ after.parts task.id.pn place.pn.alone none ∙ sym (ap old same ∙ before.parts task.id.pn place.pn.alone none)
-    by (inr a) (inr b) (inl same) = ap new same ∙ after.objects no_object ∙ sym (ap old same ∙ before.objects no_object)
-    by (inr a) (inr b) (inr c) = publishes.others q (foreign a b c)
+    by : IsApart (stamp_at (task_folder task)) q → (q ≡ codes "work") ⊎ (q ≢ codes "work") → (q ≡ inside (codes "work") task.id.pn) ⊎ (q ≢ inside (codes "work") task.id.pn) → (q ≡ codes "obj") ⊎ (q ≢ codes "obj") → new q ≡ old q
+    by apart (inl same) b c = let none = at_top same in ap new same ∙ after.work none ∙ sym (ap old same ∙ before.work none)
+    by apart (inr a) (inl same) c = let none = at_recipe same in ap new same ∙ after.parts task.id.pn place.pn.alone none ∙ sym (ap old same ∙ before.parts task.id.pn place.pn.alone none)
+    by apart (inr a) (inr b) (inl same) = ap new same ∙ after.objects no_object ∙ sym (ap old same ∙ before.objects no_object)
+    by apart (inr a) (inr b) (inr c) = publishes.others q (foreign apart a b c)
+
+    by_stamp : IsApart (stamp_at (task_folder task)) q ⊎ ((path : List ℕ) × (q ≡ stamp_at path) × (slashes path ≢ 1) × (first q ≡ None)) → new q ≡ old q
+    by_stamp (inl apart) = by apart (path_cases q (codes "work")) (path_cases q (inside (codes "work") task.id.pn)) (path_cases q (codes "obj"))
+    by_stamp (inr w) = let none = sym (ap first w.1) ∙ w.3 in ap new w.1 ∙ after.stamps w.0 w.2 none ∙ sym (ap old w.1 ∙ before.stamps w.0 w.2 none)
+
+    by_top : (q ≡ codes "stamp") ⊎ (q ≢ codes "stamp") → new q ≡ old q
+    by_top (inl same) = let none = sym (ap first same) ∙ clear.top same in ap new same ∙ after.top none ∙ sym (ap old same ∙ before.top none)
+    by_top (inr other) = by_stamp (stamp other (begins_or (codes "stamp/") q))
 
 -- `obj` isn't at or below an object
 pub not_top : (unihash : Hash) → IsAtOrBelow (object_folder unihash) (codes "obj") → ⊥
@@ -240,7 +267,7 @@ object_stays p old new unihash q publishes apart below = by below
     foreign rest is = subst (IsForeign p) (sym is) (record {
       temporary = λ under. heads_differ (differ 111 116 refl) under.1;
       work = apart_by_first rest (111 ∷ 114 ∷ 107 ∷ 47 ∷ p.folder) (differ 111 119 refl);
-      stamp = heads_differ (differ 111 115 refl);
+      stamp = apart_by_first rest (116 ∷ 97 ∷ 109 ∷ 112 ∷ 47 ∷ p.folder) (differ 111 115 refl);
       stored = λ new_one. heads_differ (differ 111 114 refl);
       shared = λ own some. subst (IsApart (object_folder own)) is (apart own some);
     })

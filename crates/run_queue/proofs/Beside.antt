@@ -30,7 +30,7 @@ use Rattle.run_model.specs.Stands.{AllStand}
 use Rattle.run_queue.specs.FlightLaws.{RestoringLeaves}
 use Rattle.run_queue.specs.Flights.{AreLeft, IsUnderWay, IsValidWith, KeepOtherObjects, OpenTasks, StandTo}
 use Rattle.run_queue.specs.Seen.{IsBegunIn}
-use Rattle.run_queue.specs.Stands.{IsAsBegun, IsLeft, IsPublishing, KeepsFolders}
+use Rattle.run_queue.specs.Stands.{IsAsBegun, IsClearOfStamps, IsLeft, IsPublishing, KeepsFolders}
 use Rattle.run_queue.proofs.Aside.{aside_stays, folders_on, in_objects, object_stays}
 use Rattle.run_queue.proofs.Enduring.{differ_at, front_book, keeps_object, standing_on}
 use Rattle.run_queue.proofs.Flights.{with_is_read}
@@ -85,13 +85,14 @@ module _ (o : Opening) (plan : Plan) (tale : List Logged) (opened : OpenTasks) (
               (has.0, stands_further Now o.book w.lines has.0 x w.grown has.1) pn name old new r.publishes).object q below ∙ past.objects x has pn name q below;
         }
 
-    paths_stay : (old new : Store) (q : List ℕ) → Puts old new → KeepsFolders o.story.held old → KeepsFolders o.story.held new → IsAside o.story.held plan (IsBegunIn begun) (IsPublishing begun tale) q → new q ≡ old q
-    paths_stay old new q r before folders is =
+    paths_stay : (old new : Store) (q : List ℕ) → Puts old new → KeepsFolders o.story.held old → KeepsFolders o.story.held new → IsAside o.story.held plan (IsBegunIn begun) (IsPublishing begun tale) q → IsClearOfStamps o.story.held q → new q ≡ old q
+    paths_stay old new q r before folders is clear =
         aside_stays (restoration s r.row r.tree) s.task o.story.held old new q (has_place plan t s.task w.may.sound at) refl r.publishes before folders w.may.way.objects is.temporary
         (is.folder t s.task at is_begun)
         (is.above t s.task at is_begun)
         (λ new_one. absurd (false≢true new_one))
         (λ unihash some. absurd (let n : None ≡ Some unihash = some in cc))
+        clear
 
     left_put : (old new : Store) → IsLeft o plan begun tale old → IsValidWith o plan tale opened old → KeepsFolders o.story.held new → Puts old new → IsLeft o plan begun tale new
     left_put old new was v folders r = record {
@@ -100,7 +101,7 @@ module _ (o : Opening) (plan : Plan) (tale : List Logged) (opened : OpenTasks) (
       honest = λ u other at_u. honest_stays (restoration s r.row r.tree) o.story.held old new s.task other (has_place plan t s.task w.may.sound at) (has_place plan u other w.may.sound at_u) refl (either_or u other at_u) r.publishes
           (λ new_one. absurd (false≢true new_one)) (was.honest u other at_u);
       others = λ u other at_u not_begun. as_begun old new r u other at_u (was_not u not_begun) (was.others u other at_u not_begun);
-      paths = λ q is. paths_stay old new q r was.folders folders is ∙ was.paths q is;
+      paths = λ q is clear. paths_stay old new q r was.folders folders is clear ∙ was.paths q is clear;
       objects = λ l has free q below. object_stays (restoration s r.row r.tree) old new l.unihash q r.publishes (λ own some. absurd (let n : None ≡ Some own = some in cc)) below ∙ was.objects l has free q below;
       folders = folders;
     }

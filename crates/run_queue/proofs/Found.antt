@@ -146,7 +146,7 @@ module _ (o : Opening) (s : Seen) (run : IsRun o s) (sound : IsSound s.story) (n
       built = built.0;
       is_built = built.1;
       stored = λ x at. subst (λ (r : List EquivRow). HasOwnRow r x) (sym rows_next) (subst (λ (y : Signed). HasOwnRow s.rows y) (one_signed x at) own_row);
-      work = record { tree = clean.clean.tree; clean = clean.clean.clean; holds = holds_on o.story.held image (work_folder signed.0.task) clean.clean.tree (agrees image is).work ((agrees image is).above (subst IsSome (sym held.stamp) refl)) clean.clean.holds };
+      work = record { tree = clean.clean.tree; clean = clean.clean.clean; holds = holds_on o.story.held image (work_folder signed.0.task) clean.clean.tree (agrees image is).work (λ q below. held.folder.holds.outside.above q below ∙ sym ((agrees image is).above held.row held.stored.is_row (subst IsSome (sym held.stamp) refl) held.folder q below)) clean.clean.holds };
       tree = clean.tree;
       stays = λ kept x at. subst (λ (r : List EquivRow). IsInWork image r x) (sym rows_next) (subst (λ (y : Signed). IsInWork image s.rows y) (one_signed x at) (work_on o.story.held image s.rows signed.0 (agrees image is) held));
       shared = λ sstate ended x at. absurd (let n : fate.Found ≡ fate.Ended = sym is_found ∙ ended in cc);

@@ -28,7 +28,7 @@ pub foreign_record : (p : Publication) (path : List ℕ) → (p.is_new ≡ true 
 foreign_record p path other = record {
   temporary = λ below. heads_differ (differ 114 116 refl) below.1;
   work = apart_by_first (101 ∷ 99 ∷ 47 ∷ path) (111 ∷ 114 ∷ 107 ∷ 47 ∷ p.folder) (differ 114 119 refl);
-  stamp = heads_differ (differ 114 115 refl);
+  stamp = apart_by_first (101 ∷ 99 ∷ 47 ∷ path) (116 ∷ 97 ∷ 109 ∷ 112 ∷ 47 ∷ p.folder) (differ 114 115 refl);
   stored = other;
   shared = λ unihash is. apart_by_first (101 ∷ 99 ∷ 47 ∷ path) (98 ∷ 106 ∷ 47 ∷ hash_text unihash) (differ 114 111 refl);
 }

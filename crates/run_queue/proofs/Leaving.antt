@@ -42,7 +42,7 @@ use Rattle.run_model.specs.Stands.{AllStand, HasStarted, IsSettledIn}
 use Rattle.run_queue.specs.Flights.{AreLeft, FliesAs, IsFlight, IsUnderWay, IsValidWith, KeepOtherObjects, OpenTask, OpenTasks, StandTo}
 use Rattle.run_queue.specs.Opening.{MayRun}
 use Rattle.run_queue.specs.Seen.{IsBegunIn}
-use Rattle.run_queue.specs.Stands.{IsAsBegun, IsLeft, IsPublishing, KeepsFolders}
+use Rattle.run_queue.specs.Stands.{IsAsBegun, IsClearOfStamps, IsLeft, IsPublishing, KeepsFolders}
 use Rattle.run_queue.proofs.Aside.{aside_stays, folders_on, in_objects, not_top, object_stays}
 use Rattle.run_queue.proofs.Enduring.{differ_at, front_book, keeps_object, standing_on}
 use Rattle.run_queue.proofs.Flights.{flight_of, in_hand, runs_now, with_is_read}
@@ -62,9 +62,9 @@ left_at_opening o plan begun tale may = record {
   after = ended_alone o plan [] o.story.held may.valid may.readable;
   honest = λ t task at. inl (record { stamp = refl; work = λ q below. refl });
   others = λ t task at none. record { stamp = refl; work = λ q below. refl; objects = λ line has pn name q below. refl };
-  paths = λ q aside. refl;
+  paths = λ q aside clear. refl;
   objects = λ line has none q below. refl;
-  folders = record { work = λ none. none; objects = λ none. none; parts = λ part plain none. none };
+  folders = record { work = λ none. none; objects = λ none. none; parts = λ part plain none. none; top = λ none. none; stamps = λ path ne none. none };
 }
 
 -- so is whatever a crash may leave now
@@ -143,8 +143,8 @@ module _ (o : Opening) (plan : Plan) (tale : List Logged) (opened : OpenTasks) (
         }
 
     -- what is at a path that is no own one of tasks that are begun
-    paths_stay : (old new : Store) (q : List ℕ) → KeepsFolders o.story.held old → KeepsFolders o.story.held new → Publishes p old new → IsAside o.story.held plan (IsBegunIn begun) (IsPublishing begun tale) q → new q ≡ old q
-    paths_stay old new q before folders publishes is =
+    paths_stay : (old new : Store) (q : List ℕ) → KeepsFolders o.story.held old → KeepsFolders o.story.held new → Publishes p old new → IsAside o.story.held plan (IsBegunIn begun) (IsPublishing begun tale) q → IsClearOfStamps o.story.held q → new q ≡ old q
+    paths_stay old new q before folders publishes is clear =
         aside_stays p one.signed.task o.story.held old new q (has_place plan t one.signed.task w.may.sound fl.0) refl publishes before folders w.may.way.objects is.temporary
         (is.folder t one.signed.task fl.0 is_begun)
         (is.above t one.signed.task fl.0 is_begun)
@@ -153,6 +153,7 @@ module _ (o : Opening) (plan : Plan) (tale : List Logged) (opened : OpenTasks) (
           name_slashes unihash (subst IsName (sym (line.of_task.object unihash some)) own_name),
           λ below. let at = is.output t (is_begun, started) (inr (in_objects unihash q below)) in not_top unihash (subst (IsAtOrBelow (object_folder unihash)) at.0 below),
         ))
+        clear
 
     -- the object of a line that none put
     objects_stay : (old new : Store) (l : Line) (q : List ℕ) → Publishes p old new → HasLine o.book l → IsObjectOfNone o.gives plan o.book tale (IsPublishing begun tale) l → IsAtOrBelow (object_folder l.unihash) q → new q ≡ old q
@@ -205,7 +206,7 @@ module _ (o : Opening) (plan : Plan) (tale : List Logged) (opened : OpenTasks) (
       honest = λ u other at_u. honest_stays p o.story.held old new one.signed.task other (has_place plan t one.signed.task w.may.sound fl.0) (has_place plan u other w.may.sound at_u) refl (either_or u other at_u) publishes
           (λ is_new. own_record o plan tale opened w t one fl old v) (was.honest u other at_u);
       others = λ u other at_u not_begun. as_begun u other at_u (was_not u not_begun) old new publishes (was.others u other at_u not_begun);
-      paths = λ q aside. paths_stay old new q was.folders folders publishes aside ∙ was.paths q aside;
+      paths = λ q aside clear. paths_stay old new q was.folders folders publishes aside clear ∙ was.paths q aside clear;
       objects = λ l has none q below. objects_stay old new l q publishes has none below ∙ was.objects l has none q below;
       folders = folders;
     }

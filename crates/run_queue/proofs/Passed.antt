@@ -95,7 +95,7 @@ left_since o s run image since = elim (run.images (moment o.story) image (omega 
       after = ended_alone o s.plan [] o.story.held run.may.valid run.may.readable;
       honest = λ t task at. inl (record { stamp = refl; work = λ q below. refl });
       others = λ t task at none. record { stamp = refl; work = λ q below. refl; objects = λ line has pn name q below. refl };
-      paths = λ q aside. refl;
+      paths = λ q aside clear. refl;
       objects = λ line has none q below. refl;
-      folders = record { work = λ none. none; objects = λ none. none; parts = λ part plain none. none };
+      folders = record { work = λ none. none; objects = λ none. none; parts = λ part plain none. none; top = λ none. none; stamps = λ path ne none. none };
     }

@@ -123,7 +123,7 @@ left_more o plan begun more tale longer image also starts fronts left = record {
   after = subst (λ (l : List Logged). IsReadAfter o plan l image) (sym (fronts left.count).1) left.after;
   honest = left.honest;
   others = λ t task at none. left.others t task at (λ b. none (also t b));
-  paths = λ q aside. left.paths q (aside_less o.story.held plan (IsBegunIn begun) (IsBegunIn more) (IsPublishing begun tale) (IsPublishing more longer) q also publishes aside);
+  paths = λ q aside clear. left.paths q (aside_less o.story.held plan (IsBegunIn begun) (IsBegunIn more) (IsPublishing begun tale) (IsPublishing more longer) q also publishes aside) clear;
   objects = λ line has none. left.objects line has (none_less o.gives plan o.book tale longer (IsPublishing begun tale) (IsPublishing more longer) line publishes fronts none);
   folders = left.folders;
 }

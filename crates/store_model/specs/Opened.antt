@@ -1,9 +1,9 @@
 -- What opening a store leaves of a disk.
-use Rattle.std.specs.Prelude.{◌≡◌, ◌≢◌, ◌⊎◌, ℕ, List, codes, filter_map, map, slice_get, Some, None, IsSome}
+use Rattle.std.specs.Prelude.{◌≡◌, ◌≢◌, ◌⊎◌, ℕ, List, [], codes, filter_map, map, slice_get, Some, None, IsSome}
 use Rattle.std.specs.List.{AllByRecursion}
 use Rattle.tree_model.specs.declared.hash.Hash.{Hash}
 use Rattle.tree_model.specs.Hash.{IsHash}
-use Rattle.tree_model.specs.Path.{IsAtOrBelow, IsBelow}
+use Rattle.tree_model.specs.Path.{IsAtOrBelow, IsBelow, inside}
 use Rattle.outside_traits.specs.Store.{Store}
 use Rattle.store_model.specs.declared.signature.EquivRow.{EquivRow}
 use Rattle.store_model.specs.Spelling.{name_of, record_bytes}
@@ -57,11 +57,21 @@ IsLeft held q =
     ⊎ (((path : List ℕ) × IsStamp held path × (q ≡ stamp_at path))
     ⊎ (held q ≡ None)))
 
+-- A stamp that opening takes away: a record tells of its task that it gave nothing, and something is held at `work` or `work/PN`, so that no folder
+-- can be at `work/PN/TASK`. The task isn't available there, and would be once what is in the way is gone.
+pub record IsBlocked (held : Store) (q : List ℕ) : Type 0 where
+  pub candidate : Candidate
+  pub file : IsRecordFile held candidate
+  pub empty : candidate.stored.manifest ≡ []
+  pub stamp : q ≡ stamp_at (inside candidate.stored.sig.pn candidate.stored.sig.task)
+  pub way : IsSome (held (codes "work")) ⊎ IsSome (held (work_at candidate.stored.sig.pn))
+
 -- the rows of the candidates at these places
 abbrev pub rows_at : List Candidate → List ℕ → List EquivRow
 rows_at candidates places = map (λ c. row_of_stored c.stored) (filter_map (slice_get candidates) places)
 
--- An opened store: what is held is what opening leaves alone, and the rows are those of the believed records, by depth, then by name.
+-- An opened store: what is held is what opening leaves alone, and what is under `stamp/`, which is as it was but for the stamps that are blocked; and
+-- the rows are those of the believed records, by depth, then by name.
 pub record IsOpened (before after : Store) (rows : List EquivRow) : Type 0 where
   pub candidates : List Candidate
   pub found : AreFound before candidates
@@ -69,12 +79,14 @@ pub record IsOpened (before after : Store) (rows : List EquivRow) : Type 0 where
   pub believed : AreBelieved candidates places
   pub rows_are : rows ≡ rows_at candidates places
   pub left : (q : List ℕ) → IsLeft before q → after q ≡ before q
-  pub only : (q : List ℕ) → IsSome (after q) → IsLeft before q
+  pub only : (q : List ℕ) → IsSome (after q) → IsLeft before q ⊎ IsBelow (codes "stamp") q
+  pub stamps : (q : List ℕ) → IsBelow (codes "stamp") q → (after q ≡ before q) ⊎ (IsBlocked before q × (after q ≡ None))
+  pub blocked : (q : List ℕ) → IsBlocked before q → after q ≡ None
 
--- Opening made way: nothing is held at `obj`, nor above the work folder of which something under `stamp/` tells.
+-- Opening made way: nothing is held at `obj`, nor, for a task that gave nothing by its record and has a stamp, at `work` or `work/PN`.
 pub record HasWay (held : Store) : Type 0 where
   pub objects : held (codes "obj") ≡ None
-  pub stamps : (path : List ℕ) → IsSome (held (stamp_at path)) → (q : List ℕ) → IsBelow q (work_at path) → held q ≡ None
+  pub stamps : (c : Candidate) → IsRecordFile held c → c.stored.manifest ≡ [] → IsSome (held (stamp_at (inside c.stored.sig.pn c.stored.sig.task))) → (held (codes "work") ≡ None) × (held (work_at c.stored.sig.pn) ≡ None)
 
 -- nothing is held under `tmp/`
 abbrev pub HasNoLitter : Store → Type 0

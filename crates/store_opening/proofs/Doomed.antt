@@ -1,26 +1,27 @@
 -- What opening takes away.
-use Rattle.std.proofs.Common.{◌≡◌, ◌∙◌, sym, ap, subst, refl, ℕ, ◌+◌, ◌<◌, ◌⊎◌, inl, inr, List, [], ◌∷◌, ◌++◌, arith, get_or, length, take, Some, None, Ok}
+use Rattle.std.proofs.Common.{◌≡◌, ◌∙◌, sym, ap, subst, refl, ℕ, ◌+◌, ◌<◌, ◌⊎◌, inl, inr, List, [], ◌∷◌, ◌++◌, arith, append_assoc, get_or, length, length-append, take, None, Ok}
 use Rattle.std.specs.Prelude.{codes, Contains, IsSome}
 use Rattle.std.specs.Option.{is_some}
 use Rattle.std.proofs.lemmas.Bool.{false≢true}
 use Rattle.std.proofs.lemmas.List.{take_more}
 use Rattle.std.proofs.lemmas.List.Elements.{Contains-append_left, Contains-append_right, Contains-append_cases, Contains-push, Contains-push_cases}
-use Rattle.tree_model.specs.declared.entry.Entry.{Entry}
+use Rattle.std.proofs.lemmas.Option.{get_or_from_slice_get}
+use Rattle.tree_model.specs.Hash.{hash_text}
 use Rattle.tree_model.specs.Path.{BeginsWith, IsBelow, inside}
 use Rattle.outside_traits.specs.Store.{ChangesAt, IsListing, Store}
 use Rattle.outside_traits.specs.Story.{Story}
 use Rattle.outside_traits.specs.Answers.{Removes}
-use Rattle.outside_traits.proofs.Held.{none_unless, removed_none, removes_ok}
+use Rattle.outside_traits.proofs.Held.{removed_none, removes_ok}
 use Rattle.outside_traits.proofs.Folders.{under_same}
 use Rattle.store_model.specs.declared.candidate.Candidate.{Candidate}
-use Rattle.store_model.specs.Opened.{IsElsewhere, IsLeft, IsRecordFile, IsStamp}
-use Rattle.store_model.specs.Paths.{record_path, slashes}
-use Rattle.store_model.specs.Publication.{stamp_at, stamp_file, work_at}
-use Rattle.store_opening.specs.Survey.{AreClosed, Dooms, IsOneOf, IsPnOf, IsStampBeside, NotesStamp, TakesOut, VisitsStamp}
+use Rattle.store_model.specs.Opened.{IsBlocked, IsElsewhere, IsLeft, IsRecordFile, IsStamp}
+use Rattle.store_model.specs.Paths.{record_path}
+use Rattle.store_model.specs.Publication.{stamp_at, work_at}
+use Rattle.store_opening.specs.declared.bare.Bare.{Bare}
+use Rattle.store_opening.specs.Survey.{AreBare, AreBareIn, Dooms, HasNoWay, IsAt, IsBareOf, IsBlockedOf, IsTop, NotesBare, NotesBlocked, NotesHeld, TakesOut, stamp_of}
 use Rattle.store_opening.proofs.Areas.{differ, heads_differ}
-use Rattle.store_opening.proofs.Slashes.{slashes_inside}
-use Rattle.store_opening.proofs.Surveyed.{believed_file}
-use Rattle.store_opening.proofs.PnOfPath.{way_above, work_of_pn}
+use Rattle.store_opening.proofs.Indexed.{in_range}
+use Rattle.store_opening.proofs.Surveyed.{believed_file, each_of}
 
 held_none : (held : Store) (q : List ℕ) → held q ≡ None → IsSome (held q) → ⊥
 held_none held q none some = false≢true (sym (ap is_some none) ∙ some)
@@ -32,117 +33,182 @@ not_left_by held q some elsewhere records stamps (inr (inl b)) = records b.0 (be
 not_left_by held q some elsewhere records stamps (inr (inr (inl t))) = stamps t.0 t.1 t.2
 not_left_by held q some elsewhere records stamps (inr (inr (inr n))) = held_none held q n some
 
--- a file under `stamp/` is a stamp just where it is such a file
-stamp_two : (rest : List ℕ) → slashes (inside (codes "stamp") rest) ≡ 2 → slashes rest ≡ 1
-stamp_two rest two = let e = slashes_inside (codes "stamp") rest in omega (arith, e, two)
+-- ---- one of the four folders itself
 
-left_stamp : (held : Store) (closed : List (List ℕ)) (rest : List ℕ) (entry : Entry) → held (codes "work") ≡ None → ((pn : List ℕ) → IsPnOf (inside (codes "stamp") rest) pn → IsSome (held (work_at pn)) → Contains closed pn)
-    → held (inside (codes "stamp") rest) ≡ Some entry → IsStampBeside closed (inside (codes "stamp") rest) entry → IsLeft held (inside (codes "stamp") rest)
-left_stamp held closed rest entry none whole at is =
-    let two = stamp_two rest is.file.two in
-    inr (inr (inl (rest, record { name = is.file.says.name; is_hash = is.file.says.is_hash; two = two; file = at ∙ ap (λ e. Some e) is.file.says.is; way = way_above held rest none two way }, refl)))
+pub no_slash : (top rest : List ℕ) → top ≡ inside top rest → ⊥
+no_slash top rest is = let long = ap length is in omega (arith, long, length-append top (47 ∷ rest))
+
+never_at : (held : Store) (top q : List ℕ) → q ≡ top → IsSome (held q) → (IsElsewhere top → ⊥) → ((rest : List ℕ) → top ≡ inside (codes "rec") rest → ⊥) → ((rest : List ℕ) → top ≡ inside (codes "stamp") rest → ⊥) → IsLeft held q → ⊥
+never_at held top q same some elsewhere no_record no_stamp = not_left_by held q some (λ e. elsewhere (subst IsElsewhere same e)) (λ c file is. no_record (hash_text c.name) (sym same ∙ is)) (λ path t is. no_stamp path (sym same ∙ is))
+
+top_never : (held : Store) (path q : List ℕ) → IsTop path → q ≡ path → IsSome (held q) → IsLeft held q → ⊥
+top_never held path q (inl e) same some = never_at held (codes "rec") q (same ∙ e) some (λ x. x.records (inl refl)) (λ rest is. no_slash (codes "rec") rest is) (λ rest is. heads_differ (differ 114 115 refl) is)
+top_never held path q (inr (inl e)) same some = never_at held (codes "stamp") q (same ∙ e) some (λ x. x.stamps (inl refl)) (λ rest is. heads_differ (differ 115 114 refl) is) (λ rest is. no_slash (codes "stamp") rest is)
+top_never held path q (inr (inr (inl e))) same some = never_at held (codes "tmp") q (same ∙ e) some (λ x. x.temporary (inl refl)) (λ rest is. heads_differ (differ 116 114 refl) is) (λ rest is. heads_differ (differ 116 115 refl) is)
+top_never held path q (inr (inr (inr e))) same some = never_at held (codes "obj") q (same ∙ e) some (λ x. x.objects refl) (λ rest is. heads_differ (differ 111 114 refl) is) (λ rest is. heads_differ (differ 111 115 refl) is)
+
+pub dooms_at : (held : Store) (path : List ℕ) (old new : List (List ℕ)) → IsTop path → NotesHeld held path old new → Dooms held (IsAt path) old new
+dooms_at held path old new top (inl n) = record {
+  kept = λ q has. subst (λ (l : List (List ℕ)). Contains l q) (sym n.1) (Contains-append_left old (path ∷ []) q has);
+  sound = λ q has. by q (Contains-push_cases old path q (subst (λ (l : List (List ℕ)). Contains l q) n.1 has));
+  whole = λ q at some. inl (subst (λ (l : List (List ℕ)). Contains l q) (sym n.1) (subst (Contains (old ++ path ∷ [])) (sym at) (Contains-push old path)));
+}
   where
-    way : (pn : List ℕ) → IsPnOf (inside (codes "stamp") rest) pn → held (work_at pn) ≡ None
-    way pn of = none_unless (held (work_at pn)) (λ some. is.beside (record { pn = pn; is_pn = of; among = whole pn of some }))
+    by : (q : List ℕ) → Contains old q ⊎ (path ≡ q) → Contains old q ⊎ (IsAt path q × (IsLeft held q → ⊥))
+    by q (inl has) = inl has
+    by q (inr e) = inr (sym e, top_never held path q top (sym e) (subst (λ (p : List ℕ). IsSome (held p)) e n.0))
+dooms_at held path old new top (inr n) = record {
+  kept = λ q has. subst (λ (l : List (List ℕ)). Contains l q) (sym n.1) has;
+  sound = λ q has. inl (subst (λ (l : List (List ℕ)). Contains l q) n.1 has);
+  whole = λ q at some. absurd (held_none held q (ap held at ∙ n.0) some);
+}
 
-not_stamp : (held : Store) (closed : List (List ℕ)) (rest : List ℕ) (entry : Entry) → ((pn : List ℕ) → Contains closed pn → IsSome (held (work_at pn))) → held (inside (codes "stamp") rest) ≡ Some entry → (IsStampBeside closed (inside (codes "stamp") rest) entry → ⊥) → IsLeft held (inside (codes "stamp") rest) → ⊥
-not_stamp held closed rest entry sound at never = not_left_by held (inside (codes "stamp") rest) (subst IsSome (sym at) refl)
-    (λ e. e.stamps (inr (rest, refl)))
-    (λ c file same. heads_differ (differ 115 114 refl) same)
-    (λ path t same.
-    let e : rest ≡ path = under_same (codes "stamp") rest path same in
-    let file : Some entry ≡ Some (stamp_file t.name) = sym at ∙ ap held same ∙ t.file in
-    let is : entry ≡ stamp_file t.name = cc in
-    never (record {
-      file = record { two = slashes_inside (codes "stamp") rest ∙ (let n = ap slashes e ∙ t.two in omega (arith, n)); says = record { name = t.name; is_hash = t.is_hash; is = is } };
-      beside = λ has. held_none held (work_at has.pn) (t.way (work_at has.pn) (subst (λ (p : List ℕ). IsBelow (work_at has.pn) (work_at p)) e (work_of_pn rest has.pn has.is_pn))) (sound has.pn has.among);
-    }))
+-- ---- tasks that gave nothing
 
--- no stamp has a way where something is held at `work`
-no_stamp : (held : Store) (q : List ℕ) → IsSome (held (codes "work")) → BeginsWith (codes "stamp/") q → IsSome (held q) → IsLeft held q → ⊥
-no_stamp held q work begins some = not_left_by held q some
-    (λ e. e.stamps (inr (begins.0, begins.1)))
-    (λ c file same. heads_differ (differ 115 114 refl) (sym begins.1 ∙ same))
-    (λ path t same. held_none held (codes "work") (t.way (codes "work") (path, refl)) work)
-
--- one stamp more
-pub dooms_stamp : (held : Store) (paths closed : List (List ℕ)) (n : ℕ) (path : List ℕ) (start old new : List (List ℕ)) → n < length paths → path ≡ get_or paths n path → BeginsWith (codes "stamp/") path → IsSome (held path) → held (codes "work") ≡ None
-    → AreClosed held paths closed → Dooms held (IsOneOf (take n paths)) start old → VisitsStamp held closed path old new → Dooms held (IsOneOf (take (n + 1) paths)) start new
-dooms_stamp held paths closed n path start old new lt is begins some none are was visits =
-    let grown : take (n + 1) paths ≡ take n paths ++ path ∷ [] = take_more paths n path lt ∙ ap (λ (p : List ℕ). take n paths ++ p ∷ []) (sym is) in
-    let P : List (List ℕ) → Type 0 = λ l. Dooms held (IsOneOf l) start new in
-    subst P (sym grown) (by visits)
+-- one record more
+pub bare_more : (cs : List Candidate) (n : ℕ) (c : Candidate) (old new : List Bare) → n < length cs → c ≡ get_or cs n c → AreBare (take n cs) old → NotesBare c old new → AreBare (take (n + 1) cs) new
+bare_more cs n c old new lt is was notes = subst (λ (l : List Candidate). AreBare l new) (sym (take_more cs n c lt ∙ ap (λ (x : Candidate). take n cs ++ x ∷ []) (sym is))) (by notes)
   where
-    at : path ≡ inside (codes "stamp") begins.0
-    at = begins.1
+    More : List Candidate
+    More = take n cs ++ c ∷ []
 
-    by : VisitsStamp held closed path old new → Dooms held (IsOneOf (take n paths ++ path ∷ [])) start new
-    by (inr n') = absurd (held_none held path n'.0 some)
-    by (inl v) = noted v.2
+    further : (one : Bare) → (d : Candidate) × Contains (take n cs) d × IsBareOf d one → (d : Candidate) × Contains (take n cs ++ c ∷ []) d × IsBareOf d one
+    further one w = (w.0, Contains-append_left (take n cs) (c ∷ []) w.0 w.1, w.2)
+
+    by : NotesBare c old new → AreBare (take n cs ++ c ∷ []) new
+    by (inl w) = record {
+      sound = λ one has. of one (Contains-push_cases old w.0 one (subst (λ (l : List Bare). Contains l one) w.2 has));
+      whole = λ d has empty. all d empty (Contains-push_cases (take n cs) c d has);
+    }
       where
-        entry_at : held (inside (codes "stamp") begins.0) ≡ Some v.0
-        entry_at = ap held (sym at) ∙ v.1
+        of : (one : Bare) → Contains old one ⊎ (w.0 ≡ one) → (d : Candidate) × Contains (take n cs ++ c ∷ []) d × IsBareOf d one
+        of one (inl has) = further one (was.sound one has)
+        of one (inr e) = (c, Contains-push (take n cs) c, subst (IsBareOf c) e w.1)
 
-        whole : (pn : List ℕ) → IsPnOf (inside (codes "stamp") begins.0) pn → IsSome (held (work_at pn)) → Contains closed pn
-        whole pn of some' = are.whole path pn (n, lt, sym is) (subst (λ (p : List ℕ). IsPnOf p pn) (sym at) of) some'
+        all : (d : Candidate) → d.stored.manifest ≡ [] → Contains (take n cs) d ⊎ (c ≡ d) → (one : Bare) × Contains new one × IsBareOf d one
+        all d empty (inl has) = let o = was.whole d has empty in (o.0, subst (λ (l : List Bare). Contains l o.0) (sym w.2) (Contains-append_left old (w.0 ∷ []) o.0 o.1), o.2)
+        all d empty (inr e) = (w.0, subst (λ (l : List Bare). Contains l w.0) (sym w.2) (Contains-push old w.0), subst (λ (x : Candidate). IsBareOf x w.0) e w.1)
+    by (inr w) = record {
+      sound = λ one has. further one (was.sound one (subst (λ (l : List Bare). Contains l one) w.1 has));
+      whole = λ d has empty. all d empty (Contains-push_cases (take n cs) c d has);
+    }
+      where
+        all : (d : Candidate) → d.stored.manifest ≡ [] → Contains (take n cs) d ⊎ (c ≡ d) → (one : Bare) × Contains new one × IsBareOf d one
+        all d empty (inl has) = let o = was.whole d has empty in (o.0, subst (λ (l : List Bare). Contains l o.0) (sym w.1) o.1, o.2)
+        all d empty (inr e) = absurd (w.0 (ap (λ (x : Candidate). x.stored.manifest) e ∙ empty))
 
-        noted : NotesStamp closed path v.0 old new → Dooms held (IsOneOf (take n paths ++ path ∷ [])) start new
-        noted (inl k) = record {
-          kept = λ q has. subst (λ (l : List (List ℕ)). Contains l q) (sym k.1) (was.kept q has);
-          sound = λ q has. was.sound q (subst (λ (l : List (List ℕ)). Contains l q) k.1 has);
-          whole = λ q has some'. of q some' (Contains-push_cases (take n paths) path q has);
+-- a stamp is none where no folder can be at its work folder
+pub blocked_never : (held : Store) (one : Bare) (q : List ℕ) → HasNoWay held one.pn → q ≡ stamp_of one → IsSome (held q) → IsLeft held q → ⊥
+blocked_never held one q no_way is some = not_left_by held q some
+    (λ e. e.stamps (inr (inside one.pn one.task, is)))
+    (λ c file same. heads_differ (differ 115 114 refl) (sym is ∙ same))
+    (λ path t same. by path t.way (under_same (codes "stamp") (inside one.pn one.task) path (sym is ∙ same)) no_way)
+  where
+    by : (path : List ℕ) → ((p : List ℕ) → IsBelow p (work_at path) → held p ≡ None) → inside one.pn one.task ≡ path → HasNoWay held one.pn → ⊥
+    by path way same (inl work) = held_none held (codes "work") (way (codes "work") (path, refl)) work
+    by path way same (inr at) = held_none held (work_at one.pn) (way (work_at one.pn) (subst (λ (p : List ℕ). IsBelow (work_at one.pn) (work_at p)) same (one.task, sym (append_assoc (codes "work") (47 ∷ one.pn) (47 ∷ one.task))))) at
+
+-- one task more is looked at
+pub blocked_more : (held : Store) (bare : List Bare) (n : ℕ) (one : Bare) (start old new : List (List ℕ)) → n < length bare → one ≡ get_or bare n one → Dooms held (IsBlockedOf held (take n bare)) start old → NotesBlocked held one old new → Dooms held (IsBlockedOf held (take (n + 1) bare)) start new
+blocked_more held bare n one start old new lt is was notes = subst (λ (l : List Bare). Dooms held (IsBlockedOf held l) start new) (sym (take_more bare n one lt ∙ ap (λ (x : Bare). take n bare ++ x ∷ []) (sym is))) (by notes)
+  where
+    More : List Bare
+    More = take n bare ++ one ∷ []
+
+    further : (q : List ℕ) → IsBlockedOf held (take n bare) q → IsBlockedOf held More q
+    further q b = record { one = b.one; among = Contains-append_left (take n bare) (one ∷ []) b.one b.among; stamp = b.stamp; way = b.way }
+
+    was_sound : (q : List ℕ) → Contains old q → Contains start q ⊎ (IsBlockedOf held More q × (IsLeft held q → ⊥))
+    was_sound q has = elim (was.sound q has) [
+      | inl first ↦ inl first
+      | inr w ↦ inr (further q w.0, w.1)
+    ]
+
+    -- which of the tasks it is
+    earlier : (q : List ℕ) (b : IsBlockedOf held More q) → Contains (take n bare) b.one → IsSome (held q) → Contains old q ⊎ IsLeft held q
+    earlier q b has some = was.whole q (record { one = b.one; among = has; stamp = b.stamp; way = b.way }) some
+
+    -- nothing more goes
+    same : new ≡ old → (HasNoWay held one.pn → IsSome (held (stamp_of one)) → ⊥) → Dooms held (IsBlockedOf held More) start new
+    same e never = record {
+      kept = λ q has. subst (λ (l : List (List ℕ)). Contains l q) (sym e) (was.kept q has);
+      sound = λ q has. was_sound q (subst (λ (l : List (List ℕ)). Contains l q) e has);
+      whole = λ q b some. of q b some (Contains-push_cases (take n bare) one b.one b.among);
+    }
+      where
+        of : (q : List ℕ) (b : IsBlockedOf held More q) → IsSome (held q) → Contains (take n bare) b.one ⊎ (one ≡ b.one) → Contains new q ⊎ IsLeft held q
+        of q b some (inl has) = elim (earlier q b has some) [
+          | inl c ↦ inl (subst (λ (l : List (List ℕ)). Contains l q) (sym e) c)
+          | inr l ↦ inr l
+        ]
+        of q b some (inr i) = absurd (never (subst (λ (x : Bare). HasNoWay held x.pn) (sym i) b.way) (subst (λ (p : List ℕ). IsSome (held p)) (b.stamp ∙ ap stamp_of (sym i)) some))
+
+    by : NotesBlocked held one old new → Dooms held (IsBlockedOf held More) start new
+    by (inr w) = same w.1 (λ way some. w.0 way)
+    by (inl (way, inr w)) = same w.1 (λ way' some. held_none held (stamp_of one) w.0 some)
+    by (inl (way, inl w)) = record {
+      kept = λ q has. subst (λ (l : List (List ℕ)). Contains l q) (sym w.1) (Contains-append_left old (stamp_of one ∷ []) q (was.kept q has));
+      sound = λ q has. new_of q (Contains-push_cases old (stamp_of one) q (subst (λ (l : List (List ℕ)). Contains l q) w.1 has));
+      whole = λ q b some. of q b some (Contains-push_cases (take n bare) one b.one b.among);
+    }
+      where
+        new_of : (q : List ℕ) → Contains old q ⊎ (stamp_of one ≡ q) → Contains start q ⊎ (IsBlockedOf held More q × (IsLeft held q → ⊥))
+        new_of q (inl has) = was_sound q has
+        new_of q (inr e) = inr (record { one = one; among = Contains-push (take n bare) one; stamp = sym e; way = way }, blocked_never held one q way (sym e) (subst (λ (p : List ℕ). IsSome (held p)) e w.0))
+
+        of : (q : List ℕ) (b : IsBlockedOf held More q) → IsSome (held q) → Contains (take n bare) b.one ⊎ (one ≡ b.one) → Contains new q ⊎ IsLeft held q
+        of q b some (inl has) = elim (earlier q b has some) [
+          | inl c ↦ inl (subst (λ (l : List (List ℕ)). Contains l q) (sym w.1) (Contains-append_left old (stamp_of one ∷ []) q c))
+          | inr l ↦ inr l
+        ]
+        of q b some (inr i) = inl (subst (λ (l : List (List ℕ)). Contains l q) (sym w.1) (subst (Contains (old ++ stamp_of one ∷ [])) (sym (b.stamp ∙ ap stamp_of (sym i))) (Contains-push old (stamp_of one))))
+
+pub blocked_none : (held : Store) (old : List (List ℕ)) → Dooms held (IsBlockedOf held []) old old
+blocked_none held old = record { kept = λ q has. has; sound = λ q has. inl has; whole = λ q b some. (let lt = b.among.1 in absurd (omega (arith, lt))) }
+
+-- the blocked stamps of what is held
+pub dooms_blocked : (held : Store) (bare : List Bare) (old new : List (List ℕ)) → AreBareIn held bare → Dooms held (IsBlockedOf held bare) old new → Dooms held (IsBlocked held) old new
+dooms_blocked held bare old new are was = record {
+  kept = was.kept;
+  sound = λ q has. elim (was.sound q has) [
+    | inl first ↦ inl first
+    | inr w ↦ inr (is_blocked q w.0, w.1)
+  ];
+  whole = λ q b some. was.whole q (blocked_is q b) some;
+}
+  where
+    is_blocked : (q : List ℕ) → IsBlockedOf held bare q → IsBlocked held q
+    is_blocked q b =
+        let w = are.are.sound b.one b.among in
+        record {
+          candidate = w.0;
+          file = each_of (IsRecordFile held) are.candidates w.0 are.found.each w.1;
+          empty = w.2.empty;
+          stamp = b.stamp ∙ (λ i. stamp_at (inside (w.2.pn i) (w.2.task i)));
+          way = subst (HasNoWay held) w.2.pn b.way;
         }
-          where
-            of : (q : List ℕ) → IsSome (held q) → Contains (take n paths) q ⊎ (path ≡ q) → Contains new q ⊎ IsLeft held q
-            of q some' (inl h) = old_of (was.whole q h some')
-              where
-                old_of : Contains old q ⊎ IsLeft held q → Contains new q ⊎ IsLeft held q
-                old_of (inl c) = inl (subst (λ (l : List (List ℕ)). Contains l q) (sym k.1) c)
-                old_of (inr l) = inr l
-            of q some' (inr e) = inr (subst (IsLeft held) (sym at ∙ e) (left_stamp held closed begins.0 v.0 none whole entry_at (subst (λ (p : List ℕ). IsStampBeside closed p v.0) at k.0)))
-        noted (inr k) = record {
-          kept = λ q has. subst (λ (l : List (List ℕ)). Contains l q) (sym k.1) (Contains-append_left old (path ∷ []) q (was.kept q has));
-          sound = λ q has. new_of q (Contains-push_cases old path q (subst (λ (l : List (List ℕ)). Contains l q) k.1 has));
-          whole = λ q has some'. of q some' (Contains-push_cases (take n paths) path q has);
-        }
-          where
-            new_of : (q : List ℕ) → Contains old q ⊎ (path ≡ q) → Contains start q ⊎ (IsLeft held q → ⊥)
-            new_of q (inl h) = was.sound q h
-            new_of q (inr e) = inr (λ left. not_stamp held closed begins.0 v.0 are.sound entry_at (λ file. k.0 (subst (λ (p : List ℕ). IsStampBeside closed p v.0) (sym at) file)) (subst (IsLeft held) (sym e ∙ at) left))
 
-            of : (q : List ℕ) → IsSome (held q) → Contains (take n paths) q ⊎ (path ≡ q) → Contains new q ⊎ IsLeft held q
-            of q some' (inl h) = old_of (was.whole q h some')
-              where
-                old_of : Contains old q ⊎ IsLeft held q → Contains new q ⊎ IsLeft held q
-                old_of (inl c) = inl (subst (λ (l : List (List ℕ)). Contains l q) (sym k.1) (Contains-append_left old (path ∷ []) q c))
-                old_of (inr l) = inr l
-            of q some' (inr e) = inl (subst (λ (l : List (List ℕ)). Contains l q) (sym k.1) (subst (Contains (old ++ path ∷ [])) e (Contains-push old path)))
+    blocked_is : (q : List ℕ) → IsBlocked held q → IsBlockedOf held bare q
+    blocked_is q b =
+        let among = are.found.whole b.candidate b.file in
+        let w = are.are.whole b.candidate (among.0, in_range are.candidates among.0 b.candidate among.1, get_or_from_slice_get are.candidates among.0 b.candidate b.candidate among.1) b.empty in
+        record { one = w.0; among = w.1; stamp = b.stamp ∙ sym (λ i. stamp_at (inside (w.2.pn i) (w.2.task i))); way = subst (HasNoWay held) (sym w.2.pn) b.way }
 
 -- all of these go, none of which is left
-dooms_these : (held : Store) (area : List ℕ → Type 0) (paths old new : List (List ℕ)) → ((q : List ℕ) → area q → IsSome (held q) → Contains paths q) → ((q : List ℕ) → Contains paths q → IsLeft held q → ⊥) → new ≡ old ++ paths → Dooms held area old new
-dooms_these held area paths old new all never is = record {
+dooms_these : (held : Store) (area : List ℕ → Type 0) (paths old new : List (List ℕ)) → ((q : List ℕ) → area q → IsSome (held q) → Contains paths q) → ((q : List ℕ) → Contains paths q → area q) → ((q : List ℕ) → Contains paths q → IsLeft held q → ⊥) → new ≡ old ++ paths → Dooms held area old new
+dooms_these held area paths old new all within never is = record {
   kept = λ q has. subst (λ (l : List (List ℕ)). Contains l q) (sym is) (Contains-append_left old paths q has);
   sound = λ q has. by q (Contains-append_cases old paths q (subst (λ (l : List (List ℕ)). Contains l q) is has));
   whole = λ q at some. inl (subst (λ (l : List (List ℕ)). Contains l q) (sym is) (Contains-append_right old paths q (all q at some)));
 }
   where
-    by : (q : List ℕ) → Contains old q ⊎ Contains paths q → Contains old q ⊎ (IsLeft held q → ⊥)
+    by : (q : List ℕ) → Contains old q ⊎ Contains paths q → Contains old q ⊎ (area q × (IsLeft held q → ⊥))
     by q (inl has) = inl has
-    by q (inr has) = inr (never q has)
-
--- what is listed under `stamp/`, where something is held at `work`
-pub dooms_closed : (held : Store) (paths old new : List (List ℕ)) → IsSome (held (codes "work")) → ((q : List ℕ) → Contains paths q → BeginsWith (codes "stamp/") q × IsSome (held q)) → new ≡ old ++ paths → Dooms held (IsOneOf paths) old new
-dooms_closed held paths old new work listed is = dooms_these held (IsOneOf paths) paths old new (λ q has some. has) (λ q has. let at = listed q has in no_stamp held q work at.0 at.1) is
-
--- what stands under `stamp/`
-pub dooms_listed : (held now : Store) (paths old new : List (List ℕ)) → now ≡ held → IsListing (codes "stamp/") held paths → Dooms now (IsOneOf paths) old new → Dooms held (BeginsWith (codes "stamp/")) old new
-dooms_listed held now paths old new same listing was =
-    let at : Dooms held (IsOneOf paths) old new = subst (λ (h : Store). Dooms h (IsOneOf paths) old new) same was in
-    record { kept = at.kept; sound = at.sound; whole = λ q begins some. at.whole q (listing.all q begins some) some }
+    by q (inr has) = inr (within q has, never q has)
 
 -- what stands under `tmp/`
 pub dooms_temporary : (held : Store) (paths old new : List (List ℕ)) → IsListing (codes "tmp/") held paths → new ≡ old ++ paths → Dooms held (BeginsWith (codes "tmp/")) old new
-dooms_temporary held paths old new listing is = dooms_these held (BeginsWith (codes "tmp/")) paths old new listing.all never is
+dooms_temporary held paths old new listing is = dooms_these held (BeginsWith (codes "tmp/")) paths old new listing.all (λ q has. (listing.are_held q has).0) never is
   where
     never : (q : List ℕ) → Contains paths q → IsLeft held q → ⊥
     never q has =

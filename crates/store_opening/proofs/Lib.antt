@@ -5,7 +5,6 @@ pub mod Hexed
 pub mod Indexed
 pub mod Marked
 pub mod Opened
-pub mod PnOfPath
 pub mod Reopened
 pub mod Reused
 pub mod SameLines

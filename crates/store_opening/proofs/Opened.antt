@@ -1,5 +1,5 @@
 -- An opened disk is what its survey says.
-use Rattle.std.proofs.Common.{◌≡◌, ◌≢◌, ◌∙◌, sym, ap, subst, refl, ℕ, zero, suc, ◌⊎◌, inl, inr, Bool, true, false, List, [], ◌∷◌, Option, Some, None, arith, get_or, length, length-append}
+use Rattle.std.proofs.Common.{◌≡◌, ◌≢◌, ◌∙◌, sym, ap, subst, refl, ℕ, zero, suc, ◌⊎◌, inl, inr, Bool, true, false, List, [], ◌∷◌, Option, Some, None, arith, get_or, length}
 use Rattle.std.specs.Prelude.{codes, Contains, IsSome, slice_get}
 use Rattle.std.specs.Option.{is_some}
 use Rattle.std.specs.List.{AllByRecursion}
@@ -11,14 +11,13 @@ use Rattle.outside_traits.specs.Store.{Store}
 use Rattle.outside_traits.specs.Story.{IsImage, Story}
 use Rattle.outside_traits.specs.Passes.{Passes, Same}
 use Rattle.outside_traits.proofs.Calls.{same_then}
-use Rattle.outside_traits.proofs.Folders.{under_same}
 use Rattle.outside_traits.proofs.Runs.{passes_so}
 use Rattle.outside_traits.proofs.Held.{none_unless}
 use Rattle.outside_traits.proofs.Puts.{bool_cases, path_cases}
 use Rattle.store_model.specs.declared.signature.EquivRow.{EquivRow}
 use Rattle.store_model.specs.declared.candidate.Candidate.{Candidate}
 use Rattle.store_model.specs.Believed.{AreBelieved, IsAmong, IsBelieved, IsBelievedWithin, IsShared}
-use Rattle.store_model.specs.Opened.{AreFound, HasNoLitter, HasWay, IsBelievedRecord, IsElsewhere, IsLeft, IsOpened, IsRecordFile, rows_at}
+use Rattle.store_model.specs.Opened.{AreFound, HasNoLitter, HasWay, IsBelievedRecord, IsBlocked, IsElsewhere, IsLeft, IsOpened, IsRecordFile, rows_at}
 use Rattle.store_model.specs.Publication.{stamp_at, work_at}
 use Rattle.store_opening.specs.Opening.{Clears}
 use Rattle.store_opening.specs.Named.{IsName}
@@ -26,9 +25,11 @@ use Rattle.store_opening.specs.Paths.{IsLaidOut}
 use Rattle.store_model.specs.Paths.{record_path, slashes}
 use Rattle.store_model.specs.Readable.{IsHeld, row_of_stored}
 use Rattle.store_opening.specs.Sound.{IsKept}
-use Rattle.store_opening.specs.Survey.{AreMarks, Dooms, DoomsUnbelieved, DoomsUnmarked, IsAt, IsFoundIn, IsOtherArea, IsRecordSurvey, TakesOut}
+use Rattle.store_opening.specs.declared.bare.Bare.{Bare}
+use Rattle.store_opening.specs.Survey.{AreBare, AreMarks, Dooms, DoomsUnbelieved, DoomsUnmarked, IsAt, IsFoundIn, IsOtherArea, IsRecordSurvey, TakesOut}
 use Rattle.store_opening.proofs.Areas.{differ, heads_differ}
 use Rattle.store_opening.proofs.Clean.{name_is_name, name_slashes}
+use Rattle.store_opening.proofs.Doomed.{blocked_never, no_slash}
 use Rattle.store_opening.proofs.Hexed.{ways}
 use Rattle.store_opening.proofs.Indexed.{in_range, names_differ}
 use Rattle.store_opening.proofs.Surveyed.{among_of, believed_file, each_of, one_record}
@@ -38,6 +39,10 @@ some_one x y o p q = cc
 
 held_none : (held : Store) (q : List ℕ) → held q ≡ None → IsSome (held q) → ⊥
 held_none held q none some = false≢true (sym (ap is_some none) ∙ some)
+
+-- a blocked stamp is none that opening leaves alone
+not_blocked : (held : Store) (q : List ℕ) → IsBlocked held q → IsSome (held q) → IsLeft held q → ⊥
+not_blocked held q b some = blocked_never held (record { pn = b.candidate.stored.sig.pn; task = b.candidate.stored.sig.task }) q b.way b.stamp some
 
 -- ---- which candidates go
 
@@ -92,14 +97,18 @@ module _ (held : Store) (candidates : List Candidate) (places : List ℕ) (found
       let one : w.0 ≡ c = some_one w.0 c (slice_get candidates k) w.1 at in
       record { candidates = candidates; found = found; believed = subst (IsBelieved candidates) one w.2 }
 
-pub record_survey : (held : Store) (candidates : List Candidate) (places : List ℕ) (rejected new : List (List ℕ)) (rows : List EquivRow) → IsFoundIn held candidates rejected → AreBelieved candidates places → DoomsUnbelieved candidates places rejected new → rows ≡ rows_at candidates places → IsRecordSurvey held rows new
-record_survey held candidates places rejected new rows f believed dooms is = record { candidates = candidates; found = f.found; places = places; believed = believed; rows_are = is; not_left = λ q has. by q (dooms.sound q has); whole = λ path some. of path (f.whole path some) }
+pub record_survey : (held : Store) (candidates : List Candidate) (places : List ℕ) (rejected new : List (List ℕ)) (rows : List EquivRow) (bare : List Bare) → IsFoundIn held candidates rejected → AreBelieved candidates places → DoomsUnbelieved candidates places rejected new → rows ≡ rows_at candidates places → AreBare candidates bare → IsRecordSurvey held rows new bare
+record_survey held candidates places rejected new rows bare f believed dooms is are = record { candidates = candidates; found = f.found; places = places; believed = believed; rows_are = is; within = λ q has. in_it q (dooms.sound q has); bare_are = are; not_left = λ q has. by q (dooms.sound q has); whole = λ path some. of path (f.whole path some) }
   where
     gone : (k : ℕ) (c : Candidate) (q : List ℕ) → slice_get candidates k ≡ Some c → (Contains places k → ⊥) → q ≡ record_path c.name → IsLeft held q → ⊥
     gone k c q at never is (inl e) = e.records (inr (hash_text c.name, is))
     gone k c q at never is (inr (inl b)) = never (listed held candidates places f.found believed k c b.0 at b.1 (sym is ∙ b.2))
     gone k c q at never is (inr (inr (inl t))) = heads_differ (differ 114 115 refl) (sym is ∙ t.2)
     gone k c q at never is (inr (inr (inr n))) = held_none held q n (subst IsSome (sym (ap held is ∙ (files_of held candidates c f.found (k, at)).file)) refl)
+
+    in_it : (q : List ℕ) → Contains rejected q ⊎ ((k : ℕ) × (c : Candidate) × (slice_get candidates k ≡ Some c) × (Contains places k → ⊥) × (q ≡ record_path c.name)) → BeginsWith (codes "rec/") q
+    in_it q (inl has) = f.within q has
+    in_it q (inr w) = (hash_text w.1.name, w.4)
 
     by : (q : List ℕ) → Contains rejected q ⊎ ((k : ℕ) × (c : Candidate) × (slice_get candidates k ≡ Some c) × (Contains places k → ⊥) × (q ≡ record_path c.name)) → IsLeft held q → ⊥
     by q (inl has) = f.not_left q has
@@ -122,9 +131,12 @@ dooms_then held A B old mid new first second = record {
   whole = λ q area some. of q some area;
 }
   where
-    by : (q : List ℕ) → Contains mid q ⊎ (IsLeft held q → ⊥) → Contains old q ⊎ (IsLeft held q → ⊥)
-    by q (inl has) = first.sound q has
-    by q (inr never) = inr never
+    by : (q : List ℕ) → Contains mid q ⊎ (B q × (IsLeft held q → ⊥)) → Contains old q ⊎ ((A q ⊎ B q) × (IsLeft held q → ⊥))
+    by q (inl has) = elim (first.sound q has) [
+      | inl was ↦ inl was
+      | inr w ↦ inr (inl w.0, w.1)
+    ]
+    by q (inr w) = inr (inr w.0, w.1)
 
     of : (q : List ℕ) → IsSome (held q) → A q ⊎ B q → Contains new q ⊎ IsLeft held q
     of q some (inl a) = a_of (first.whole q a some)
@@ -135,9 +147,9 @@ dooms_then held A B old mid new first second = record {
     of q some (inr b) = second.whole q b some
 
 -- the six areas besides `rec/`
-pub dooms_areas : (held : Store) (a b c d e f g : List (List ℕ)) → Dooms held (BeginsWith (codes "stamp/")) a b → Dooms held (BeginsWith (codes "tmp/")) b c → Dooms held (IsAt (codes "rec")) c d → Dooms held (IsAt (codes "stamp")) d e → Dooms held (IsAt (codes "tmp")) e f → Dooms held (IsAt (codes "obj")) f g → Dooms held IsOtherArea a g
+pub dooms_areas : (held : Store) (a b c d e f g : List (List ℕ)) → Dooms held (IsBlocked held) a b → Dooms held (BeginsWith (codes "tmp/")) b c → Dooms held (IsAt (codes "rec")) c d → Dooms held (IsAt (codes "stamp")) d e → Dooms held (IsAt (codes "tmp")) e f → Dooms held (IsAt (codes "obj")) f g → Dooms held (IsOtherArea held) a g
 dooms_areas held a b c d e f g stamps temporary rec stamp tmp obj =
-    dooms_then held (BeginsWith (codes "stamp/")) (λ q. BeginsWith (codes "tmp/") q ⊎ (IsAt (codes "rec") q ⊎ (IsAt (codes "stamp") q ⊎ (IsAt (codes "tmp") q ⊎ IsAt (codes "obj") q)))) a b g stamps
+    dooms_then held (IsBlocked held) (λ q. BeginsWith (codes "tmp/") q ⊎ (IsAt (codes "rec") q ⊎ (IsAt (codes "stamp") q ⊎ (IsAt (codes "tmp") q ⊎ IsAt (codes "obj") q)))) a b g stamps
     (dooms_then held (BeginsWith (codes "tmp/")) (λ q. IsAt (codes "rec") q ⊎ (IsAt (codes "stamp") q ⊎ (IsAt (codes "tmp") q ⊎ IsAt (codes "obj") q))) b c g temporary
     (dooms_then held (IsAt (codes "rec")) (λ q. IsAt (codes "stamp") q ⊎ (IsAt (codes "tmp") q ⊎ IsAt (codes "obj") q)) c d g rec
     (dooms_then held (IsAt (codes "stamp")) (λ q. IsAt (codes "tmp") q ⊎ IsAt (codes "obj") q) d e g stamp
@@ -158,7 +170,7 @@ contains_or (x ∷ xs) q = by (path_cases x q) (contains_or xs q)
         no' (zero, lt, is) = ne is
         no' (suc k, lt, is) = never (k, omega (arith, lt), is)
 
-begins_or : (prefix q : List ℕ) → BeginsWith prefix q ⊎ (BeginsWith prefix q → ⊥)
+pub begins_or : (prefix q : List ℕ) → BeginsWith prefix q ⊎ (BeginsWith prefix q → ⊥)
 begins_or [] q = inl (q, refl)
 begins_or (p ∷ prefix) [] = inr (λ b. let e = b.1 in cc)
 begins_or (p ∷ prefix) (x ∷ q) = by (cases_eq p x) (begins_or prefix q)
@@ -168,113 +180,147 @@ begins_or (p ∷ prefix) (x ∷ q) = by (cases_eq p x) (begins_or prefix q)
     by (inl same) (inr never) = inr (λ b. let e = b.1 in never (b.0, cc))
     by (inr ne) rest = inr (λ b. let e = b.1 in ne cc)
 
-module _ (held now : Store) (rows : List EquivRow) (first doomed : List (List ℕ)) (survey : IsRecordSurvey held rows first) (others : Dooms held IsOtherArea first doomed) (takes : TakesOut doomed held now) where
+-- what stands under `stamp/` is in none of the other areas
+stamps_alone : (held : Store) (q : List ℕ) → IsBelow (codes "stamp") q → IsOtherArea held q → IsBlocked held q
+stamps_alone held q below (inl b) = b
+stamps_alone held q below (inr (inl t)) = absurd (heads_differ (differ 115 116 refl) (sym below.1 ∙ t.1))
+stamps_alone held q below (inr (inr (inl e))) = absurd (heads_differ (differ 115 114 refl) (sym below.1 ∙ e))
+stamps_alone held q below (inr (inr (inr (inl e)))) = absurd (no_slash (codes "stamp") below.0 (sym e ∙ below.1))
+stamps_alone held q below (inr (inr (inr (inr (inl e))))) = absurd (heads_differ (differ 115 116 refl) (sym below.1 ∙ e))
+stamps_alone held q below (inr (inr (inr (inr (inr e))))) = absurd (heads_differ (differ 115 111 refl) (sym below.1 ∙ e))
+
+module _ (held now : Store) (rows : List EquivRow) (first doomed : List (List ℕ)) (bare : List Bare) (survey : IsRecordSurvey held rows first bare) (others : Dooms held (IsOtherArea held) first doomed) (takes : TakesOut doomed held now) where
   not_left : (q : List ℕ) → Contains doomed q → IsLeft held q → ⊥
   not_left q has = by (others.sound q has)
     where
-      by : Contains first q ⊎ (IsLeft held q → ⊥) → IsLeft held q → ⊥
+      by : Contains first q ⊎ (IsOtherArea held q × (IsLeft held q → ⊥)) → IsLeft held q → ⊥
       by (inl h) = survey.not_left q h
-      by (inr never) = never
+      by (inr w) = w.1
 
   pub left_stays : (q : List ℕ) → IsLeft held q → now q ≡ held q
   left_stays q left = takes.others q (λ has. not_left q has left)
 
-  only_left : ((q : List ℕ) → Contains doomed q → now q ≡ None) → (q : List ℕ) → IsSome (now q) → IsLeft held q
-  only_left gone q some = by (contains_or doomed q)
-    where
-      by : Contains doomed q ⊎ (Contains doomed q → ⊥) → IsLeft held q
-      by (inl has) = absurd (held_none now q (gone q has) some)
-      by (inr never) = area (subst IsSome (takes.others q never) some)
-        where
-          in_area : IsSome (held q) → IsOtherArea q → IsLeft held q
-          in_area s a = of (others.whole q a s)
-            where
-              of : Contains doomed q ⊎ IsLeft held q → IsLeft held q
-              of (inl has) = absurd (never has)
-              of (inr left) = left
+  -- of what is under `stamp/` just the blocked stamps go
+  module _ (gone : (q : List ℕ) → Contains doomed q → now q ≡ None) where
+    doomed_stamp : (q : List ℕ) → IsBelow (codes "stamp") q → Contains first q ⊎ (IsOtherArea held q × (IsLeft held q → ⊥)) → IsBlocked held q
+    doomed_stamp q below (inl h) = absurd (heads_differ (differ 115 114 refl) (sym below.1 ∙ (survey.within q h).1))
+    doomed_stamp q below (inr w) = stamps_alone held q below w.0
 
-          in_records : (path : List ℕ) → q ≡ inside (codes "rec") path → IsSome (held q) → IsLeft held q
-          in_records path is s = of (survey.whole path (subst (λ (p : List ℕ). IsSome (held p)) is s))
-            where
-              of : Contains first (inside (codes "rec") path) ⊎ IsLeft held (inside (codes "rec") path) → IsLeft held q
-              of (inl has) = absurd (never (others.kept q (subst (Contains first) (sym is) has)))
-              of (inr left) = subst (IsLeft held) (sym is) left
+    stamps_are : (q : List ℕ) → IsBelow (codes "stamp") q → (now q ≡ held q) ⊎ (IsBlocked held q × (now q ≡ None))
+    stamps_are q below = elim (contains_or doomed q) [
+      | inl has ↦ inr (doomed_stamp q below (others.sound q has), gone q has)
+      | inr never ↦ inl (takes.others q never)
+    ]
 
-          area : IsSome (held q) → IsLeft held q
-          area s = elim (begins_or (codes "rec/") q) [
-            | inl r ↦ in_records r.0 r.1 s
-            | inr nr ↦ elim (begins_or (codes "stamp/") q) [
-              | inl st ↦ in_area s (inl st)
-              | inr ns ↦ elim (begins_or (codes "tmp/") q) [
-                | inl t ↦ in_area s (inr (inl t))
-                | inr nt ↦ elim (path_cases q (codes "rec")) [
-                  | inl ar ↦ in_area s (inr (inr (inl ar)))
-                  | inr nar ↦ elim (path_cases q (codes "stamp")) [
-                    | inl as' ↦ in_area s (inr (inr (inr (inl as'))))
-                    | inr nas ↦ elim (path_cases q (codes "tmp")) [
-                      | inl at ↦ in_area s (inr (inr (inr (inr (inl at)))))
-                      | inr nat' ↦ elim (path_cases q (codes "obj")) [
-                        | inl ao ↦ in_area s (inr (inr (inr (inr (inr ao)))))
-                        | inr nao ↦ inl (record { records = none_of (codes "rec") nar nr; stamps = none_of (codes "stamp") nas ns; temporary = none_of (codes "tmp") nat' nt; objects = nao })
+    blocked_goes : (q : List ℕ) → IsBlocked held q → now q ≡ None
+    blocked_goes q b = elim (contains_or doomed q) [
+      | inl has ↦ gone q has
+      | inr never ↦ takes.others q never ∙ none_unless (held q) (λ some. elim (others.whole q (inl b) some) [
+        | inl has ↦ never has
+        | inr left ↦ not_blocked held q b some left
+      ])
+    ]
+
+    only_left : (q : List ℕ) → IsSome (now q) → IsLeft held q ⊎ IsBelow (codes "stamp") q
+    only_left q some = by (contains_or doomed q)
+      where
+        by : Contains doomed q ⊎ (Contains doomed q → ⊥) → IsLeft held q ⊎ IsBelow (codes "stamp") q
+        by (inl has) = absurd (held_none now q (gone q has) some)
+        by (inr never) = area (subst IsSome (takes.others q never) some)
+          where
+            in_area : IsSome (held q) → IsOtherArea held q → IsLeft held q ⊎ IsBelow (codes "stamp") q
+            in_area s a = of (others.whole q a s)
+              where
+                of : Contains doomed q ⊎ IsLeft held q → IsLeft held q ⊎ IsBelow (codes "stamp") q
+                of (inl has) = absurd (never has)
+                of (inr left) = inl left
+
+            in_records : (path : List ℕ) → q ≡ inside (codes "rec") path → IsSome (held q) → IsLeft held q ⊎ IsBelow (codes "stamp") q
+            in_records path is s = of (survey.whole path (subst (λ (p : List ℕ). IsSome (held p)) is s))
+              where
+                of : Contains first (inside (codes "rec") path) ⊎ IsLeft held (inside (codes "rec") path) → IsLeft held q ⊎ IsBelow (codes "stamp") q
+                of (inl has) = absurd (never (others.kept q (subst (Contains first) (sym is) has)))
+                of (inr left) = inl (subst (IsLeft held) (sym is) left)
+
+            area : IsSome (held q) → IsLeft held q ⊎ IsBelow (codes "stamp") q
+            area s = elim (begins_or (codes "rec/") q) [
+              | inl r ↦ in_records r.0 r.1 s
+              | inr nr ↦ elim (begins_or (codes "stamp/") q) [
+                | inl st ↦ inr (st.0, st.1)
+                | inr ns ↦ elim (begins_or (codes "tmp/") q) [
+                  | inl t ↦ in_area s (inr (inl t))
+                  | inr nt ↦ elim (path_cases q (codes "rec")) [
+                    | inl ar ↦ in_area s (inr (inr (inl ar)))
+                    | inr nar ↦ elim (path_cases q (codes "stamp")) [
+                      | inl as' ↦ in_area s (inr (inr (inr (inl as'))))
+                      | inr nas ↦ elim (path_cases q (codes "tmp")) [
+                        | inl at ↦ in_area s (inr (inr (inr (inr (inl at)))))
+                        | inr nat' ↦ elim (path_cases q (codes "obj")) [
+                          | inl ao ↦ in_area s (inr (inr (inr (inr (inr ao)))))
+                          | inr nao ↦ inl (inl (record { records = none_of (codes "rec") nar nr; stamps = none_of (codes "stamp") nas ns; temporary = none_of (codes "tmp") nat' nt; objects = nao }))
+                        ]
                       ]
                     ]
                   ]
                 ]
               ]
             ]
-          ]
-            where
-              none_of : (top : List ℕ) → (q ≡ top → ⊥) → (((rest : List ℕ) × (q ≡ inside top rest)) → ⊥) → IsAtOrBelow top q → ⊥
-              none_of top at below (inl e) = at e
-              none_of top at below (inr b) = below b
+              where
+                none_of : (top : List ℕ) → (q ≡ top → ⊥) → (((rest : List ℕ) × (q ≡ inside top rest)) → ⊥) → IsAtOrBelow top q → ⊥
+                none_of top at below (inl e) = at e
+                none_of top at below (inr b) = below b
 
-  pub opened_is : ((q : List ℕ) → Contains doomed q → now q ≡ None) → IsOpened held now rows
-  opened_is gone = record { candidates = survey.candidates; found = survey.found; places = survey.places; believed = survey.believed; rows_are = survey.rows_are; left = left_stays; only = only_left gone }
+    pub opened_is : IsOpened held now rows
+    opened_is = record { candidates = survey.candidates; found = survey.found; places = survey.places; believed = survey.believed; rows_are = survey.rows_are; left = left_stays; only = only_left; stamps = stamps_are; blocked = blocked_goes }
 
 -- at each moment
-pub clears_by : (held : Store) (rows : List EquivRow) (first doomed : List (List ℕ)) (i j : Store) → IsRecordSurvey held rows first → Dooms held IsOtherArea first doomed → TakesOut doomed i j → Clears held i j
-clears_by held rows first doomed i j survey others takes = record { left = λ q left. takes.others q (λ has. by q (others.sound q has) left) }
+pub clears_by : (held : Store) (rows : List EquivRow) (first doomed : List (List ℕ)) (bare : List Bare) (i j : Store) → IsRecordSurvey held rows first bare → Dooms held (IsOtherArea held) first doomed → TakesOut doomed i j → Clears held i j
+clears_by held rows first doomed bare i j survey others takes = record { left = λ q left. takes.others q (λ has. by q (others.sound q has) left) }
   where
-    by : (q : List ℕ) → Contains first q ⊎ (IsLeft held q → ⊥) → IsLeft held q → ⊥
+    by : (q : List ℕ) → Contains first q ⊎ (IsOtherArea held q × (IsLeft held q → ⊥)) → IsLeft held q → ⊥
     by q (inl h) = survey.not_left q h
-    by q (inr never) = never
+    by q (inr w) = w.1
 
 -- ---- the run of an opening
 
-module _ {a b m z : Story} (rows : List EquivRow) (first doomed paths : List (List ℕ)) (survey : IsRecordSurvey a.held rows first) (reads : Passes a b Same) (others : Dooms b.held IsOtherArea first doomed) (looks : Passes b m Same) (same : paths ≡ doomed) (takes : Passes m z (TakesOut paths)) where
-  dooms_here : Dooms a.held IsOtherArea first doomed
-  dooms_here = subst (λ (h : Store). Dooms h IsOtherArea first doomed) reads.held others
+module _ {a b m z : Story} (rows : List EquivRow) (first doomed paths : List (List ℕ)) (bare : List Bare) (survey : IsRecordSurvey a.held rows first bare) (reads : Passes a b Same) (others : Dooms b.held (IsOtherArea b.held) first doomed) (looks : Passes b m Same) (same : paths ≡ doomed) (takes : Passes m z (TakesOut paths)) where
+  dooms_here : Dooms a.held (IsOtherArea a.held) first doomed
+  dooms_here = subst (λ (h : Store). Dooms h (IsOtherArea h) first doomed) reads.held others
 
   pub clears_run : Passes a z (Clears a.held)
-  clears_run = same_then (λ i. record { left = λ q left. refl }) reads (same_then (λ i. record { left = λ q left. refl }) looks (passes_so (Clears a.held) takes (λ i j t. clears_by a.held rows first doomed i j survey dooms_here (subst (λ (l : List (List ℕ)). TakesOut l i j) same t))))
+  clears_run = same_then (λ i. record { left = λ q left. refl }) reads (same_then (λ i. record { left = λ q left. refl }) looks (passes_so (Clears a.held) takes (λ i j t. clears_by a.held rows first doomed bare i j survey dooms_here (subst (λ (l : List (List ℕ)). TakesOut l i j) same t))))
 
   pub opened_run : (y : Story) → ((q : List ℕ) → Contains paths q → z.held q ≡ None) → y.held ≡ z.held → IsOpened a.held y.held rows
   opened_run y gone last =
       let here : m.held ≡ a.held = looks.held ∙ reads.held in
       let out : TakesOut doomed a.held z.held = subst (λ (h : Store). TakesOut doomed h z.held) here (subst (λ (l : List (List ℕ)). TakesOut l m.held z.held) same takes.held) in
-      let at : IsOpened a.held z.held rows = opened_is a.held z.held rows first doomed survey dooms_here out (λ q has. gone q (subst (λ (l : List (List ℕ)). Contains l q) (sym same) has)) in
+      let at : IsOpened a.held z.held rows = opened_is a.held z.held rows first doomed bare survey dooms_here out (λ q has. gone q (subst (λ (l : List (List ℕ)). Contains l q) (sym same) has)) in
       subst (λ (h : Store). IsOpened a.held h rows) (sym last) at
 
 -- ---- an opened store keeps what every store does
 
-no_slash : (top rest : List ℕ) → top ≡ inside top rest → ⊥
-no_slash top rest is = let long = ap length is in omega (arith, long, length-append top (47 ∷ rest))
-
 module _ (before after : Store) (rows : List EquivRow) (o : IsOpened before after rows) where
   not_none : (q : List ℕ) → IsSome (after q) → before q ≡ None → ⊥
   not_none q some n = held_none after q (o.left q (inr (inr (inr n))) ∙ n) some
+
+  -- what isn't under `stamp/` is left
+  only_other : (c : ℕ) (rest : List ℕ) → c ≢ 115 → IsSome (after (c ∷ rest)) → IsLeft before (c ∷ rest)
+  only_other c rest ne some = elim (o.only (c ∷ rest) some) [
+    | inl left ↦ left
+    | inr below ↦ absurd (heads_differ ne below.1)
+  ]
+
+  only_stamp : IsSome (after (codes "stamp")) → IsLeft before (codes "stamp")
+  only_stamp some = elim (o.only (codes "stamp") some) [
+    | inl left ↦ left
+    | inr below ↦ absurd (no_slash (codes "stamp") below.0 below.1)
+  ]
 
   record_of : (path : List ℕ) → IsSome (after (inside (codes "rec") path)) → IsLeft before (inside (codes "rec") path) → slashes path ≡ 0
   record_of path some (inl e) = absurd (e.records (inr (path, refl)))
   record_of path some (inr (inl b)) = let same : path ≡ hash_text b.0.name = (let e = b.2 in cc) in ap slashes same ∙ name_slashes b.0.name (subst IsName (sym (believed_file before b.0 b.1).name) (name_is_name b.0.stored.sig))
   record_of path some (inr (inr (inl t))) = absurd (heads_differ (differ 114 115 refl) t.2)
   record_of path some (inr (inr (inr n))) = absurd (not_none (inside (codes "rec") path) some n)
-
-  stamp_of : (path : List ℕ) → IsSome (after (inside (codes "stamp") path)) → IsLeft before (inside (codes "stamp") path) → slashes path ≡ 1
-  stamp_of path some (inl e) = absurd (e.stamps (inr (path, refl)))
-  stamp_of path some (inr (inl b)) = absurd (heads_differ (differ 115 114 refl) b.2)
-  stamp_of path some (inr (inr (inl t))) = let same : path ≡ t.0 = (let e = t.2 in cc) in ap slashes same ∙ t.1.two
-  stamp_of path some (inr (inr (inr n))) = absurd (not_none (inside (codes "stamp") path) some n)
 
   temporary_of : (path : List ℕ) → IsSome (after (inside (codes "tmp") path)) → IsLeft before (inside (codes "tmp") path) → ⊥
   temporary_of path some (inl e) = e.temporary (inr (path, refl))
@@ -290,33 +336,51 @@ module _ (before after : Store) (rows : List EquivRow) (o : IsOpened before afte
 
   pub laid_out_is : IsLaidOut after
   laid_out_is = record {
-    records = λ path some. record_of path some (o.only (inside (codes "rec") path) some);
-    stamps = λ path some. stamp_of path some (o.only (inside (codes "stamp") path) some);
-    temporary = λ path some. absurd (temporary_of path some (o.only (inside (codes "tmp") path) some));
-    at_records = none_unless (after (codes "rec")) (λ some. at_of (codes "rec") (λ e. e.records (inl refl)) (λ rest is. no_slash (codes "rec") rest is) (λ rest is. heads_differ (differ 114 115 refl) is) some (o.only (codes "rec") some));
-    at_stamps = none_unless (after (codes "stamp")) (λ some. at_of (codes "stamp") (λ e. e.stamps (inl refl)) (λ rest is. heads_differ (differ 115 114 refl) is) (λ rest is. no_slash (codes "stamp") rest is) some (o.only (codes "stamp") some));
-    at_temporary = none_unless (after (codes "tmp")) (λ some. at_of (codes "tmp") (λ e. e.temporary (inl refl)) (λ rest is. heads_differ (differ 116 114 refl) is) (λ rest is. heads_differ (differ 116 115 refl) is) some (o.only (codes "tmp") some));
+    records = λ path some. record_of path some (only_other 114 (101 ∷ 99 ∷ 47 ∷ path) (differ 114 115 refl) some);
+    temporary = λ path some. absurd (temporary_of path some (only_other 116 (109 ∷ 112 ∷ 47 ∷ path) (differ 116 115 refl) some));
+    at_records = none_unless (after (codes "rec")) (λ some. at_of (codes "rec") (λ e. e.records (inl refl)) (λ rest is. no_slash (codes "rec") rest is) (λ rest is. heads_differ (differ 114 115 refl) is) some (only_other 114 (101 ∷ 99 ∷ []) (differ 114 115 refl) some));
+    at_stamps = none_unless (after (codes "stamp")) (λ some. at_of (codes "stamp") (λ e. e.stamps (inl refl)) (λ rest is. heads_differ (differ 115 114 refl) is) (λ rest is. no_slash (codes "stamp") rest is) some (only_stamp some));
+    at_temporary = none_unless (after (codes "tmp")) (λ some. at_of (codes "tmp") (λ e. e.temporary (inl refl)) (λ rest is. heads_differ (differ 116 114 refl) is) (λ rest is. heads_differ (differ 116 115 refl) is) some (only_other 116 (109 ∷ 112 ∷ []) (differ 116 115 refl) some));
   }
 
   none_after : (q : List ℕ) → before q ≡ None → after q ≡ None
   none_after q none = o.left q (inr (inr (inr none))) ∙ none
 
-  -- what is held under `stamp/` is a stamp
-  way_of : (path : List ℕ) → IsSome (after (stamp_at path)) → IsLeft before (stamp_at path) → (q : List ℕ) → IsBelow q (work_at path) → after q ≡ None
-  way_of path some (inl e) q up = absurd (e.stamps (inr (path, refl)))
-  way_of path some (inr (inl b)) q up = absurd (heads_differ (differ 115 114 refl) b.2)
-  way_of path some (inr (inr (inl t))) q up = none_after q (t.1.way q (subst (λ (p : List ℕ). IsBelow q (work_at p)) (under_same (codes "stamp") path t.0 t.2) up))
-  way_of path some (inr (inr (inr n))) q up = absurd (not_none (stamp_at path) some n)
+  -- a record that stands behind the opening stood before it
+  record_was : (c : Candidate) → IsRecordFile after c → IsRecordFile before c
+  record_was c f =
+      let some : IsSome (after (record_path c.name)) = subst IsSome (sym f.file) refl in
+      let left = only_other 114 (101 ∷ 99 ∷ 47 ∷ hash_text c.name) (differ 114 115 refl) some in
+      record { file = sym (o.left (record_path c.name) left) ∙ f.file; name = f.name; spelled = f.spelled; short = f.short }
+
+  -- what begins as `work` does stays
+  work_stays : (rest : List ℕ) → after (119 ∷ rest) ≡ before (119 ∷ rest)
+  work_stays rest = o.left (119 ∷ rest) (inl (record {
+    records = λ at. elim at [ inl same ↦ heads_differ (differ 119 114 refl) same | inr below ↦ heads_differ (differ 119 114 refl) below.1 ];
+    stamps = λ at. elim at [ inl same ↦ heads_differ (differ 119 115 refl) same | inr below ↦ heads_differ (differ 119 115 refl) below.1 ];
+    temporary = λ at. elim at [ inl same ↦ heads_differ (differ 119 116 refl) same | inr below ↦ heads_differ (differ 119 116 refl) below.1 ];
+    objects = heads_differ (differ 119 111 refl);
+  }))
+
+  -- a stamp of a task that gave nothing has a way
+  way_of : (c : Candidate) → IsRecordFile after c → c.stored.manifest ≡ [] → IsSome (after (stamp_at (inside c.stored.sig.pn c.stored.sig.task))) → (after (codes "work") ≡ None) × (after (work_at c.stored.sig.pn) ≡ None)
+  way_of c f empty stamped = (
+    none_unless (after (codes "work")) (λ some. never (inl (subst IsSome (work_stays (111 ∷ 114 ∷ 107 ∷ [])) some))),
+    none_unless (after (work_at c.stored.sig.pn)) (λ some. never (inr (subst IsSome (work_stays (111 ∷ 114 ∷ 107 ∷ 47 ∷ c.stored.sig.pn)) some))),
+  )
+    where
+      never : IsSome (before (codes "work")) ⊎ IsSome (before (work_at c.stored.sig.pn)) → ⊥
+      never way = held_none after (stamp_at (inside c.stored.sig.pn c.stored.sig.task)) (o.blocked (stamp_at (inside c.stored.sig.pn c.stored.sig.task)) (record { candidate = c; file = record_was c f; empty = empty; stamp = refl; way = way })) stamped
 
   pub has_way : HasWay after × HasNoLitter after
   has_way = (
     record {
-      objects = none_unless (after (codes "obj")) (λ some. at_of (codes "obj") (λ e. e.objects refl) (λ rest is. heads_differ (differ 111 114 refl) is) (λ rest is. heads_differ (differ 111 115 refl) is) some (o.only (codes "obj") some));
-      stamps = λ path some. way_of path some (o.only (stamp_at path) some);
+      objects = none_unless (after (codes "obj")) (λ some. at_of (codes "obj") (λ e. e.objects refl) (λ rest is. heads_differ (differ 111 114 refl) is) (λ rest is. heads_differ (differ 111 115 refl) is) some (only_other 111 (98 ∷ 106 ∷ []) (differ 111 115 refl) some));
+      stamps = way_of;
     },
     λ q below. none_unless (after q) (λ some.
         let at : IsSome (after (inside (codes "tmp") below.0)) = subst (λ (p : List ℕ). IsSome (after p)) below.1 some in
-        temporary_of below.0 at (o.only (inside (codes "tmp") below.0) at)),
+        temporary_of below.0 at (only_other 116 (109 ∷ 112 ∷ 47 ∷ below.0) (differ 116 115 refl) at)),
   )
 
   row_held : (d : Candidate) → IsBelievedRecord before d → IsHeld after (row_of_stored d.stored)

@@ -1,12 +1,13 @@
 -- What was valid is so once it is opened.
 use Rattle.std.proofs.Common.{◌≡◌, ◌≢◌, ◌∙◌, sym, ap, subst, refl, ℕ, zero, suc, inl, inr, false, List, [], ◌∷◌, length, Option, Some, None}
-use Rattle.std.specs.Prelude.{codes, map, slice_get}
+use Rattle.std.specs.Prelude.{◌⊎◌, codes, map, slice_get}
 use Rattle.std.specs.Option.{is_some}
 use Rattle.std.specs.List.{AllByRecursion}
+use Rattle.std.proofs.lemmas.Option.{none-some}
 use Rattle.tree_model.specs.declared.entry.Entry.{Entry}
 use Rattle.tree_model.specs.declared.entry.Entry.TheVariants.{File}
 use Rattle.tree_model.specs.Hash.{hash_text}
-use Rattle.tree_model.specs.Path.{inside}
+use Rattle.tree_model.specs.Path.{IsBelow, inside}
 use Rattle.outside_traits.specs.Store.{Store}
 use Rattle.meta_model.specs.CleanBuild.{Gives}
 use Rattle.meta_model.specs.InOrder.{in_order}
@@ -24,7 +25,7 @@ use Rattle.record_belief.specs.Books.{AreOfBook, IsInOrder, IsOfLine, IsLineAt}
 use Rattle.record_belief.proofs.Again.{again_valid, again_whole, line_at}
 use Rattle.record_belief.proofs.Bookish.{lines_believed}
 use Rattle.record_belief.proofs.Lasting.{order_is_one}
-use Rattle.store_model.specs.Opened.{AreFound, IsLeft, IsRecordFile, rows_at}
+use Rattle.store_model.specs.Opened.{AreFound, IsBlocked, IsLeft, IsRecordFile, rows_at}
 use Rattle.store_model.specs.Publication.{record_file}
 use Rattle.store_opening.specs.Reopened.{ClearedIsValid, OpenedHoldsNoMore, OpenedIsValid, OpenedOneWay}
 use Rattle.store_model.specs.Lines.{HaveSameLines}
@@ -193,4 +194,12 @@ opened_one_way before after other rows others one two =
     one.rows_are ∙ ap (rows_at one.candidates) places ∙ ap (λ cs. rows_at cs two.places) same ∙ sym two.rows_are
 
 pub opened_holds_no_more : OpenedHoldsNoMore
-opened_holds_no_more before after rows opened q entry is = sym (opened.left q (opened.only q (ap is_some is))) ∙ is
+opened_holds_no_more before after rows opened q entry is = by (opened.only q (ap is_some is))
+  where
+    stamp : (after q ≡ before q) ⊎ (IsBlocked before q × (after q ≡ None)) → before q ≡ Some entry
+    stamp (inl same) = sym same ∙ is
+    stamp (inr gone) = let no : None ≡ Some entry = sym gone.1 ∙ is in absurd (none-some entry no)
+
+    by : IsLeft before q ⊎ IsBelow (codes "stamp") q → before q ≡ Some entry
+    by (inl left) = sym (opened.left q left) ∙ is
+    by (inr below) = stamp (opened.stamps q below)

@@ -205,7 +205,7 @@ pub among_of : (xs : List Candidate) (x : Candidate) → Contains xs x → IsAmo
 among_of xs x has = (has.0, slice_get-get_or xs has.0 x has.1 ∙ ap (λ y. Some y) has.2)
 
 pub found_in : (held : Store) (paths : List (List ℕ)) (found : Found) → IsListing (codes "rec/") held paths → IsSurveyed held paths found → IsFoundIn held found.candidates.items found.rejected.items
-found_in held paths found listing s = record { found = record { ascend = s.ascend; each = each_weaker (StandsAmong held paths) (IsRecordFile held) (λ c x. x.file) found.candidates.items s.each; whole = whole }; not_left = not_left; whole = all }
+found_in held paths found listing s = record { found = record { ascend = s.ascend; each = each_weaker (StandsAmong held paths) (IsRecordFile held) (λ c x. x.file) found.candidates.items s.each; whole = whole }; within = λ q r. (listing.are_held q (s.rejected q r).0).0; not_left = not_left; whole = all }
   where
     files : AllByRecursion (IsRecordFile held) found.candidates.items
     files = each_weaker (StandsAmong held paths) (IsRecordFile held) (λ c x. x.file) found.candidates.items s.each

@@ -28,11 +28,9 @@ IsTemporary path =
     ⊎ (((rest : List ℕ) × (path ≡ inside (codes "stamp") rest) × (slashes rest ≡ 1))
     ⊎ ((rest : List ℕ) × (path ≡ inside (codes "old") rest) × (slashes rest ≡ 1)))
 
--- What is held under `rec/`, `stamp/` and `tmp/` stands where records, stamps and temporary files do, and nothing is held at these
--- three.
+-- What is held under `rec/` and `tmp/` stands where records and temporary files do, and nothing is held at these two, nor at `stamp`.
 pub record IsLaidOut (held : Store) : Type 0 where
   pub records : (path : List ℕ) → IsSome (held (inside (codes "rec") path)) → slashes path ≡ 0
-  pub stamps : (path : List ℕ) → IsSome (held (inside (codes "stamp") path)) → slashes path ≡ 1
   pub temporary : (path : List ℕ) → IsSome (held (inside (codes "tmp") path)) → IsTemporary path
   pub at_records : held (codes "rec") ≡ None
   pub at_stamps : held (codes "stamp") ≡ None

@@ -1,5 +1,5 @@
 -- What opening finds, step by step.
-use Rattle.std.specs.Prelude.{◌≡◌, ◌⊎◌, ◌<◌, ℕ, Bool, true, false, List, [], ◌∷◌, ◌++◌, codes, length, map, Contains, IsSome, None, Some, slice_get, slice_index_or}
+use Rattle.std.specs.Prelude.{◌≡◌, ◌≢◌, ◌⊎◌, ◌<◌, ℕ, Bool, true, false, List, [], ◌∷◌, ◌++◌, codes, length, map, Contains, IsSome, None, Some, slice_get, slice_index_or}
 use Rattle.std.specs.List.{AllByRecursion}
 use Rattle.tree_model.specs.Path.{BeginsWith, inside}
 use Rattle.tree_model.specs.declared.entry.Entry.{Entry}
@@ -9,12 +9,11 @@ use Rattle.store_model.specs.Spelling.{name_of, record_bytes}
 use Rattle.store_model.specs.Stored.{SpellsStored}
 use Rattle.store_model.specs.declared.candidate.Candidate.{Candidate}
 use Rattle.store_model.specs.Believed.{Ascend, AreBelieved}
+use Rattle.store_opening.specs.declared.bare.Bare.{Bare}
 use Rattle.store_opening.specs.declared.records.Found.{Found}
-use Rattle.store_model.specs.Opened.{AreFound, IsLeft, IsRecordFile, rows_at}
-use Rattle.store_model.specs.Paths.{record_path, slashes}
-use Rattle.store_model.specs.Publication.{record_file, stamp_file, stamp_text, work_at}
-use Rattle.tree_model.specs.declared.hash.Hash.{Hash}
-use Rattle.tree_model.specs.Hash.{IsHash, hash_text}
+use Rattle.store_model.specs.Opened.{AreFound, IsBlocked, IsLeft, IsRecordFile, rows_at}
+use Rattle.store_model.specs.Paths.{record_path}
+use Rattle.store_model.specs.Publication.{record_file, stamp_at, work_at}
 use Rattle.store_model.specs.Readable.{HasShortPaths, IsRow}
 
 -- a candidate, but for where it stands
@@ -87,81 +86,56 @@ pub record IsSurveyed (held : Store) (paths : List (List ℕ)) (found : Found) :
 -- Just the candidates of what is held, and the paths of all else under `rec/`.
 pub record IsFoundIn (held : Store) (candidates : List Candidate) (rejected : List (List ℕ)) : Type 0 where
   pub found : AreFound held candidates
+  pub within : (q : List ℕ) → Contains rejected q → BeginsWith (codes "rec/") q
   pub not_left : (q : List ℕ) → Contains rejected q → IsLeft held q → ⊥
   pub whole : (path : List ℕ) → IsSome (held (inside (codes "rec") path)) → Contains rejected (inside (codes "rec") path) ⊎ ((c : Candidate) × Contains candidates c × (inside (codes "rec") path ≡ record_path c.name))
 
--- ---- stamps
+-- ---- stamps of tasks that gave nothing
 
--- the text of a digest
-pub record HasNameText (text : List ℕ) : Type 0 where
-  pub name : Hash
-  pub is_hash : IsHash name
-  pub is : text ≡ hash_text name
+-- the task of the record: it gave nothing
+pub record IsBareOf (c : Candidate) (one : Bare) : Type 0 where
+  pub empty : c.stored.manifest ≡ []
+  pub pn : one.pn ≡ c.stored.sig.pn
+  pub task : one.task ≡ c.stored.sig.task
 
--- ... and a newline
-pub record HasStampText (text : List ℕ) : Type 0 where
-  pub name : Hash
-  pub is_hash : IsHash name
-  pub is : text ≡ stamp_text name
+-- one task more, if the record's task gave nothing
+abbrev pub NotesBare : Candidate → List Bare → List Bare → Type 0
+NotesBare c old new = ((one : Bare) × IsBareOf c one × (new ≡ old ++ one ∷ [])) ⊎ ((c.stored.manifest ≢ []) × (new ≡ old))
 
--- a file that can't be executed and says a digest
-pub record IsStampEntry (entry : Entry) : Type 0 where
-  pub name : Hash
-  pub is_hash : IsHash name
-  pub is : entry ≡ stamp_file name
+-- just the tasks of these records that gave nothing
+pub record AreBare (candidates : List Candidate) (bare : List Bare) : Type 0 where
+  pub sound : (one : Bare) → Contains bare one → (c : Candidate) × Contains candidates c × IsBareOf c one
+  pub whole : (c : Candidate) → Contains candidates c → c.stored.manifest ≡ [] → (one : Bare) × Contains bare one × IsBareOf c one
 
--- such a file at a path with two slashes
-pub record IsStampFile (path : List ℕ) (entry : Entry) : Type 0 where
-  pub two : slashes path ≡ 2
-  pub says : IsStampEntry entry
+-- just those of what is held
+pub record AreBareIn (held : Store) (bare : List Bare) : Type 0 where
+  pub candidates : List Candidate
+  pub found : AreFound held candidates
+  pub are : AreBare candidates bare
 
--- what stands between the first two slashes of a path: the PN of a stamp
-pub record IsPnOf (path pn : List ℕ) : Type 0 where
-  pub front : List ℕ
-  pub task : List ℕ
-  pub is : path ≡ inside front (inside pn task)
-  pub front_plain : slashes front ≡ 0
-  pub plain : slashes pn ≡ 0
+-- where the task's stamp stands
+abbrev pub stamp_of : Bare → List ℕ
+stamp_of one = stamp_at (inside one.pn one.task)
 
--- the path's PN is one of these
-pub record HasPnAmong (pns : List (List ℕ)) (path : List ℕ) : Type 0 where
-  pub pn : List ℕ
-  pub is_pn : IsPnOf path pn
-  pub among : Contains pns pn
+-- something is held at `work` or `work/PN`
+abbrev pub HasNoWay : Store → List ℕ → Type 0
+HasNoWay held pn = IsSome (held (codes "work")) ⊎ IsSome (held (work_at pn))
 
--- a stamp's file, whose PN is none of these
-pub record IsStampBeside (closed : List (List ℕ)) (path : List ℕ) (entry : Entry) : Type 0 where
-  pub file : IsStampFile path entry
-  pub beside : HasPnAmong closed path → ⊥
-
--- the PNs of these paths at which something is held under `work/`, where no folder can be
-pub record AreClosed (held : Store) (paths closed : List (List ℕ)) : Type 0 where
-  pub sound : (pn : List ℕ) → Contains closed pn → IsSome (held (work_at pn))
-  pub whole : (path pn : List ℕ) → Contains paths path → IsPnOf path pn → IsSome (held (work_at pn)) → Contains closed pn
-
--- the PN is put to the closed ones, if something is held there
-pub record NotesPn (held : Store) (pn : List ℕ) (old new : List (List ℕ)) : Type 0 where
-  pub kept : (q : List ℕ) → Contains old q → Contains new q
-  pub sound : (q : List ℕ) → Contains new q → Contains old q ⊎ IsSome (held (work_at q))
-  pub whole : IsSome (held (work_at pn)) → Contains new pn
-
--- so is the path's, if it has one
-pub record NotesPnOf (held : Store) (path : List ℕ) (old new : List (List ℕ)) : Type 0 where
-  pub kept : (q : List ℕ) → Contains old q → Contains new q
-  pub sound : (q : List ℕ) → Contains new q → Contains old q ⊎ IsSome (held (work_at q))
-  pub whole : (pn : List ℕ) → IsPnOf path pn → IsSome (held (work_at pn)) → Contains new pn
+-- the path is the stamp of one of these tasks, at whose work folder no folder can be
+pub record IsBlockedOf (held : Store) (bare : List Bare) (q : List ℕ) : Type 0 where
+  pub one : Bare
+  pub among : Contains bare one
+  pub stamp : q ≡ stamp_of one
+  pub way : HasNoWay held one.pn
 
 -- ---- what goes
 
--- More paths are doomed: each of them is none that opening leaves alone, and what is held in the area is one of them, or is left alone.
+-- More paths are doomed: each of them is in the area, and none that opening leaves alone; and what is held in the area is one of them, or is left
+-- alone.
 pub record Dooms (held : Store) (area : List ℕ → Type 0) (old new : List (List ℕ)) : Type 0 where
   pub kept : (q : List ℕ) → Contains old q → Contains new q
-  pub sound : (q : List ℕ) → Contains new q → Contains old q ⊎ (IsLeft held q → ⊥)
+  pub sound : (q : List ℕ) → Contains new q → Contains old q ⊎ (area q × (IsLeft held q → ⊥))
   pub whole : (q : List ℕ) → area q → IsSome (held q) → Contains new q ⊎ IsLeft held q
-
--- the path is one of these
-abbrev pub IsOneOf : List (List ℕ) → List ℕ → Type 0
-IsOneOf paths q = Contains paths q
 
 -- the path itself
 abbrev pub IsAt : List ℕ → List ℕ → Type 0
@@ -171,15 +145,13 @@ IsAt path q = q ≡ path
 abbrev pub IsTop : List ℕ → Type 0
 IsTop path = (path ≡ codes "rec") ⊎ ((path ≡ codes "stamp") ⊎ ((path ≡ codes "tmp") ⊎ (path ≡ codes "obj")))
 
--- the path goes, unless what stands there is a stamp whose PN isn't closed
-abbrev pub NotesStamp : List (List ℕ) → List ℕ → Entry → List (List ℕ) → List (List ℕ) → Type 0
-NotesStamp closed path entry old new = (IsStampBeside closed path entry × (new ≡ old)) ⊎ ((IsStampBeside closed path entry → ⊥) × (new ≡ old ++ path ∷ []))
+-- the path goes, if something is held there
+abbrev pub NotesHeld : Store → List ℕ → List (List ℕ) → List (List ℕ) → Type 0
+NotesHeld held path old new = (IsSome (held path) × (new ≡ old ++ path ∷ [])) ⊎ ((held path ≡ None) × (new ≡ old))
 
--- the same, if something stands there
-abbrev pub VisitsStamp : Store → List (List ℕ) → List ℕ → List (List ℕ) → List (List ℕ) → Type 0
-VisitsStamp held closed path old new =
-    ((entry : Entry) × (held path ≡ Some entry) × NotesStamp closed path entry old new)
-    ⊎ ((held path ≡ None) × (new ≡ old))
+-- so does the task's stamp, where no folder can be at its work folder
+abbrev pub NotesBlocked : Store → Bare → List (List ℕ) → List (List ℕ) → Type 0
+NotesBlocked held one old new = (HasNoWay held one.pn × NotesHeld held (stamp_of one) old new) ⊎ ((HasNoWay held one.pn → ⊥) × (new ≡ old))
 
 -- all other paths stay
 pub record TakesOut (paths : List (List ℕ)) (old new : Store) : Type 0 where
@@ -207,21 +179,23 @@ pub record DoomsUnbelieved (candidates : List Candidate) (places : List ℕ) (ol
   pub sound : (q : List ℕ) → Contains new q → Contains old q ⊎ ((k : ℕ) × (c : Candidate) × (slice_get candidates k ≡ Some c) × (Contains places k → ⊥) × (q ≡ record_path c.name))
   pub whole : (k : ℕ) (c : Candidate) → slice_get candidates k ≡ Some c → Contains new (record_path c.name) ⊎ Contains places k
 
--- what stands under `rec/`: the rows of the records that are believed, and what goes
-pub record IsRecordSurvey (held : Store) (rows : List EquivRow) (doomed : List (List ℕ)) : Type 0 where
+-- what stands under `rec/`: the rows of the records that are believed, what goes, and the tasks that gave nothing
+pub record IsRecordSurvey (held : Store) (rows : List EquivRow) (doomed : List (List ℕ)) (bare : List Bare) : Type 0 where
   pub candidates : List Candidate
   pub found : AreFound held candidates
   pub places : List ℕ
   pub believed : AreBelieved candidates places
   pub rows_are : rows ≡ rows_at candidates places
+  pub within : (q : List ℕ) → Contains doomed q → BeginsWith (codes "rec/") q
   pub not_left : (q : List ℕ) → Contains doomed q → IsLeft held q → ⊥
   pub whole : (path : List ℕ) → IsSome (held (inside (codes "rec") path)) → Contains doomed (inside (codes "rec") path) ⊎ IsLeft held (inside (codes "rec") path)
+  pub bare_are : AreBare candidates bare
 
 -- ... wherever these files are all that stands there
-pub record IsSurveyOf (files : List HeldFile) (rows : List EquivRow) (doomed : List (List ℕ)) : Type 0 where
+pub record IsSurveyOf (files : List HeldFile) (rows : List EquivRow) (doomed : List (List ℕ)) (bare : List Bare) : Type 0 where
   pub are_rows : AllByRecursion IsRow rows
-  pub survey : (held : Store) → AreRecords held files → IsRecordSurvey held rows doomed
+  pub survey : (held : Store) → AreRecords held files → IsRecordSurvey held rows doomed bare
 
--- what isn't under `rec/`: under `stamp/`, under `tmp/`, and the four folders themselves
-abbrev pub IsOtherArea : List ℕ → Type 0
-IsOtherArea q = BeginsWith (codes "stamp/") q ⊎ (BeginsWith (codes "tmp/") q ⊎ (IsAt (codes "rec") q ⊎ (IsAt (codes "stamp") q ⊎ (IsAt (codes "tmp") q ⊎ IsAt (codes "obj") q))))
+-- what isn't under `rec/`: the stamps that are blocked, what is under `tmp/`, and the four folders themselves
+abbrev pub IsOtherArea : Store → List ℕ → Type 0
+IsOtherArea held q = IsBlocked held q ⊎ (BeginsWith (codes "tmp/") q ⊎ (IsAt (codes "rec") q ⊎ (IsAt (codes "stamp") q ⊎ (IsAt (codes "tmp") q ⊎ IsAt (codes "obj") q))))

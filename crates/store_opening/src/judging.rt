@@ -7,6 +7,7 @@ ghost use Rattle.store_model.specs.Opened.{rows_at};
 ghost use Rattle.store_model.specs.Readable.{row_of_stored};
 ghost use Rattle.store_opening.specs.Survey.{DoomsUnbelieved, IsGood, IsSurveyOf};
 
+use crate::bare::{Bare, bare_of};
 use crate::records::found_among;
 use crate::survey::{doom_unmarked, marks_of};
 use hash_equiv::{EquivFault, Index, copy_manifest};
@@ -96,22 +97,28 @@ fn doom_unbelieved(
     doom_unmarked(alloc, candidates, marks.as_slice(), doomed)
 }
 
-/// What the files under `rec/` say: the rows of the believed records, and the paths of what goes.
+/// What the files under `rec/` say: the rows of the believed records, the paths of what goes, and the tasks that gave nothing.
 #[derive(Drop)]
 pub(crate) struct Survey {
     pub(crate) index: Index,
     pub(crate) doomed: Vec<Text>,
+    pub(crate) bare: Vec<Bare>,
 }
 
 /// What these files say, which are all that stand under `rec/`.
 pub(crate) fn survey_of(alloc: Global, files: &[(Text, Entry)]) -> Result<Survey, Mem>
-    ensures { IfOk result (λ survey. IsSurveyOf files.now survey.index survey.doomed.items) }
+    ensures { IfOk result (λ survey. IsSurveyOf files.now survey.index survey.doomed.items survey.bare.items) }
 {
     let found = found_among(alloc, files)?;
     let mut doomed = found.rejected;
     let candidates = ascending_or_none(alloc, found.candidates);
     let places = believed(alloc, &candidates)?;
     doom_unbelieved(alloc, &candidates, &places, &mut doomed)?;
+    let bare = bare_of(alloc, &candidates)?;
     let index = rows_of(alloc, &candidates, &places)?;
-    Ok(Survey { index, doomed })
+    Ok(Survey {
+        index,
+        doomed,
+        bare,
+    })
 }

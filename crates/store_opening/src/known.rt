@@ -25,7 +25,7 @@ impl Model for Known {
 
     ghost view = { λ k. (k.files.items, k.survey) };
 
-    ghost invariant = { λ k. IsSurveyOf k.files.items k.survey.index k.survey.doomed.items };
+    ghost invariant = { λ k. IsSurveyOf k.files.items k.survey.index k.survey.doomed.items k.survey.bare.items };
 }
 
 impl Known {
@@ -40,7 +40,7 @@ impl Known {
 
 /// What is known, where it is of these files.
 fn survey_in(known: Known, files: &[(Text, Entry)]) -> Option<Survey>
-    ensures { IfSome result (λ survey. IsSurveyOf files.now survey.index survey.doomed.items) }
+    ensures { IfSome result (λ survey. IsSurveyOf files.now survey.index survey.doomed.items survey.bare.items) }
 {
     if same_entries(known.files.as_slice(), files) {
         return Some(known.survey);
@@ -73,7 +73,7 @@ impl Ahead {
 
     /// Takes what is known of these files, where that is there.
     pub(crate) fn survey_of(&self, files: &[(Text, Entry)]) -> Option<Survey>
-        ensures { IfSome result (λ survey. IsSurveyOf files.now survey.index survey.doomed.items) }
+        ensures { IfSome result (λ survey. IsSurveyOf files.now survey.index survey.doomed.items survey.bare.items) }
     {
         let mut place = self.known.try_lock()?;
         survey_in(place.take()?, files)

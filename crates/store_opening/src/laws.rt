@@ -16,8 +16,8 @@ pub fn opened_stays()
     ensures no_more { OpenedHoldsNoMore }
 {}
 
-/// Opening makes way for folders: nothing is held at `obj`, nor above the work folder of which something under `stamp/` tells. And it leaves
-/// nothing under `tmp/`.
+/// Opening makes way for folders: nothing is held at `obj`, nor above the work folder of a task that gave nothing, by its record, and has a stamp. And it
+/// leaves nothing under `tmp/`.
 pub fn opened_has_way()
     ensures { OpenedHasWay }
 {}

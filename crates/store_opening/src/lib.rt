@@ -1,7 +1,7 @@
 //! Opening the store that runs of plans left on a disk: what is believed of it, what goes, and what then stays so.
 //!
 //! A disk is seen by its story, and an index by its rows, in the order in which they were added. What opening leaves is defined in
-//! `store_model` (`Opened`): the believed records, the stamps above whose work folders nothing is held, and what stands elsewhere.
+//! `store_model` (`Opened`): the believed records, what is under `stamp/`, and what stands elsewhere.
 //! `specs/Survey` says step by step what is found and what is to go, and `specs/Reopened` what follows.
 //!
 //! Promised of `open_disk`, whatever it answers: at each moment what opening leaves alone is as it was (`Clears`), and the disk failed
@@ -12,22 +12,24 @@
 //! (`opened_is_valid`); what is available stays so (`opened_stays`), and so does what a plan may reuse (`reuse_again`). There is a way
 //! for folders, and nothing is left under `tmp/` (`opened_has_way`).
 //!
-//! Opening reads each file under `rec/` and `stamp/`, and looks once at each folder under `work/` that a stamp tells of a PN for. What the
-//! files under `rec/` say another thread may have worked out before (`Known`, `Ahead`): that counts only where opening reads just these
+//! Opening reads each file under `rec/`, and none under `stamp/`, which stays as it is: a stamp is read when its task is asked for. But for each task that
+//! gave nothing, by its record, opening looks at `work/PN`: where something is held there, or at `work`, the task isn't available, and would be as soon as
+//! another task's publication makes way for its own folder. So then its stamp goes.
+//!
+//! What the files under `rec/` say another thread may have worked out before (`Known`, `Ahead`): that counts only where opening reads just these
 //! files, so whatever was left there, no clause is another.
 //!
 //! Want of memory is free. (The Yocto Project Overview and Concepts Manual, "Shared State Cache"; formats and protocol are own rules.)
 #![tactic(auto)]
 
+mod bare;
 mod judging;
 mod known;
 mod laws;
 mod opening;
 mod places;
 mod records;
-mod stamps;
 mod survey;
-mod ways;
 
 pub use judging::add_new;
 pub use known::{Ahead, Known};
@@ -35,3 +37,4 @@ pub use laws::{opened_has_way, opened_is_valid, opened_stays, reuse_again};
 pub use opening::open_disk;
 pub use places::{record_path, work_at};
 pub use records::same_bytes;
+pub use survey::remove_all;

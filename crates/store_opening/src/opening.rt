@@ -8,12 +8,13 @@ ghost use Rattle.store_opening.specs.Opening.{Clears};
 ghost use Rattle.store_model.specs.Opened.{IsOpened};
 ghost use Rattle.store_opening.specs.Sound.{IsKept};
 ghost use Rattle.store_model.specs.Readable.{IsRow};
-ghost use Rattle.store_opening.specs.Survey.{Dooms, IsOtherArea, IsRecordSurvey, IsSurveyOf};
+ghost use Rattle.store_opening.specs.Survey.{AreBareIn, Dooms, IsOtherArea, IsRecordSurvey, IsSurveyOf};
 
+use crate::bare::{Bare, survey_blocked};
 use crate::judging::{Survey, survey_of};
 use crate::known::Ahead;
 use crate::records::read_records;
-use crate::survey::{remove_all, survey_at, survey_stamps, survey_temporary};
+use crate::survey::{remove_all, survey_at, survey_temporary};
 use hash_equiv::Index;
 use outside_traits::{Disk, DiskFault};
 use std::alloc::Global;
@@ -21,7 +22,7 @@ use tree_model::{Entry, Mem, Text};
 
 /// What these files under `rec/` say, where it may be known.
 fn known_or_survey(alloc: Global, files: &[(Text, Entry)], ahead: &Ahead) -> Result<Survey, Mem>
-    ensures { IfOk result (λ survey. IsSurveyOf files.now survey.index survey.doomed.items) }
+    ensures { IfOk result (λ survey. IsSurveyOf files.now survey.index survey.doomed.items survey.bare.items) }
 {
     match ahead.survey_of(files) {
         Some(survey) => Ok(survey),
@@ -32,7 +33,7 @@ fn known_or_survey(alloc: Global, files: &[(Text, Entry)], ahead: &Ahead) -> Res
 /// What the records of a disk say.
 fn survey_records<D: Disk>(alloc: Global, disk: &mut D, ahead: &Ahead) -> Result<Survey, DiskFault>
     ensures survey { D.tells → IfOk result (λ survey. IsRecordSurvey (D.story disk.old).held survey.index
-        survey.doomed.items) }
+        survey.doomed.items survey.bare.items) }
     ensures rows { IfOk result (λ survey. AllByRecursion IsRow survey.index) }
     ensures others { D.tells → Passes (D.story disk.old) (D.story disk.new) Same }
     ensures cause { Counts (D.faults disk.old) (D.faults disk.new) (disk_failed result) }
@@ -42,18 +43,20 @@ fn survey_records<D: Disk>(alloc: Global, disk: &mut D, ahead: &Ahead) -> Result
     Ok(survey)
 }
 
-/// Puts what is to go outside `rec/` to what goes.
+/// Puts what is to go outside `rec/` to what goes: these are the tasks that gave nothing.
 fn survey_others<D: Disk>(
     alloc: Global,
     disk: &mut D,
+    bare: &[Bare],
     doomed: &mut Vec<Text>,
 ) -> Result<(), DiskFault>
-    ensures dooms { D.tells → OnOk result (Dooms (D.story disk.old).held IsOtherArea doomed.old.items
-        doomed.new.items) }
+    requires { D.tells → AreBareIn (D.story disk.old).held bare.now }
+    ensures dooms { D.tells → OnOk result (Dooms (D.story disk.old).held (IsOtherArea (D.story disk.old).held)
+        doomed.old.items doomed.new.items) }
     ensures others { D.tells → Passes (D.story disk.old) (D.story disk.new) Same }
     ensures cause { Counts (D.faults disk.old) (D.faults disk.new) (disk_failed result) }
 {
-    survey_stamps(alloc, disk, doomed)?;
+    survey_blocked(alloc, disk, bare, doomed)?;
     survey_temporary(alloc, disk, doomed)?;
     survey_at(alloc, disk, "rec", doomed)?;
     survey_at(alloc, disk, "stamp", doomed)?;
@@ -72,7 +75,7 @@ pub fn open_disk<D: Disk>(alloc: Global, disk: &mut D, ahead: &Ahead) -> Result<
     ensures cause { Counts (D.faults disk.old) (D.faults disk.new) (disk_failed result) }
 {
     let mut survey = survey_records(alloc, disk, ahead)?;
-    survey_others(alloc, disk, &mut survey.doomed)?;
+    survey_others(alloc, disk, &survey.bare, &mut survey.doomed)?;
     remove_all(disk, &survey.doomed)?;
     disk.sync()?;
     Ok(survey.index)

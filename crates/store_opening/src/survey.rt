@@ -1,79 +1,18 @@
 // What opening a disk finds and what it is to take away.
-ghost use Rattle.std.specs.Prelude.{◌≡◌, ◌++◌, ◌<◌, ◌^◌, Contains, IfOk, IsSome, List, None, OnOk, codes, is_some, ◌∷◌, [], length, ℕ};
+ghost use Rattle.std.specs.Prelude.{◌≡◌, ◌++◌, ◌<◌, ◌^◌, Contains, IfOk, List, None, OnOk, codes, ◌∷◌, [], length, ℕ};
 ghost use Rattle.std.specs.List.{AllByRecursion};
 ghost use Rattle.tree_model.specs.Path.{BeginsWith};
 ghost use Rattle.outside_traits.specs.Fault.{Counts, disk_failed};
 ghost use Rattle.outside_traits.specs.Passes.{Passes, Same};
 ghost use Rattle.store_model.specs.Believed.{Ascend, AreBelieved};
-ghost use Rattle.store_opening.specs.Survey.{AreClosed, AreMarks, Dooms, DoomsUnless, DoomsUnmarked, TakesOut, IsAt, IsOneOf, IsTop, NotesStamp, VisitsStamp};
+ghost use Rattle.store_opening.specs.Survey.{AreMarks, Dooms, DoomsUnless, DoomsUnmarked, TakesOut, IsAt, IsTop, NotesHeld};
 
 use crate::places::record_path;
-use crate::stamps::is_stamp;
-use crate::ways::{closed_pns, is_closed};
 use outside_traits::{Disk, DiskFault};
 use sstate_objects::is_held;
 use std::alloc::Global;
 use store_model::Candidate;
-use tree_model::{Entry, Mem, Text};
-
-/// Puts a path to those that go, unless what was read there is a stamp, with a way for its work folder.
-fn note_stamp(
-    alloc: Global,
-    path: &str,
-    entry: &Entry,
-    closed: &[Text],
-    doomed: &mut Vec<Text>,
-) -> Result<(), Mem>
-    ensures { OnOk result (NotesStamp closed.now path.now entry.now doomed.old.items doomed.new.items) }
-{
-    if is_stamp(path, entry) && !is_closed(path, closed) {
-        return Ok(());
-    }
-    doomed.push(Text::from_str(alloc, path)?)?;
-    Ok(())
-}
-
-/// Puts a path to those that go, where something stands there that is no stamp.
-fn visit_stamp<D: Disk>(
-    alloc: Global,
-    disk: &mut D,
-    path: &str,
-    closed: &[Text],
-    doomed: &mut Vec<Text>,
-) -> Result<(), DiskFault>
-    ensures visits { D.tells → OnOk result (VisitsStamp (D.story disk.old).held closed.now path.now doomed.old.items
-        doomed.new.items) }
-    ensures others { D.tells → Passes (D.story disk.old) (D.story disk.new) Same }
-    ensures cause { Counts (D.faults disk.old) (D.faults disk.new) (disk_failed result) }
-{
-    match disk.read(alloc, path)? {
-        Some(entry) => Ok(note_stamp(alloc, path, &entry, closed, doomed)?),
-        None => Ok(()),
-    }
-}
-
-/// Puts those of these paths under `stamp/` to what goes at which no stamp stands.
-fn doom_stamps<D: Disk>(
-    alloc: Global,
-    disk: &mut D,
-    paths: &[Text],
-    closed: &[Text],
-    doomed: &mut Vec<Text>,
-) -> Result<(), DiskFault>
-    requires listed { D.tells → (q : List ℕ) → Contains paths.now q
-        → BeginsWith (codes "stamp/") q × IsSome ((D.story disk.old).held q) }
-    requires way { D.tells → (D.story disk.old).held (codes "work") ≡ None }
-    requires closed { D.tells → AreClosed (D.story disk.old).held paths.now closed.now }
-    ensures dooms { D.tells → OnOk result (Dooms (D.story disk.old).held (IsOneOf paths.now) doomed.old.items
-        doomed.new.items) }
-    ensures others { D.tells → Passes (D.story disk.old) (D.story disk.new) Same }
-    ensures cause { Counts (D.faults disk.old) (D.faults disk.new) (disk_failed result) }
-{
-    for path in paths {
-        visit_stamp(alloc, disk, path.as_str(), closed, doomed)?;
-    }
-    Ok(())
-}
+use tree_model::{Mem, Text};
 
 /// Puts these paths to what goes.
 fn doom_all(alloc: Global, paths: &[Text], doomed: &mut Vec<Text>) -> Result<(), Mem>
@@ -83,46 +22,6 @@ fn doom_all(alloc: Global, paths: &[Text], doomed: &mut Vec<Text>) -> Result<(),
         doomed.push(path.copy()?)?;
     }
     Ok(())
-}
-
-/// Puts those of these paths under `stamp/` to what goes at which no stamp stands, where something does: all of them, where no folder
-/// can be at `work`.
-fn doom_listed<D: Disk>(
-    alloc: Global,
-    disk: &mut D,
-    paths: &[Text],
-    doomed: &mut Vec<Text>,
-) -> Result<(), DiskFault>
-    requires listed { D.tells → (q : List ℕ) → Contains paths.now q
-        → BeginsWith (codes "stamp/") q × IsSome ((D.story disk.old).held q) }
-    ensures dooms { D.tells → OnOk result (Dooms (D.story disk.old).held (IsOneOf paths.now) doomed.old.items
-        doomed.new.items) }
-    ensures others { D.tells → Passes (D.story disk.old) (D.story disk.new) Same }
-    ensures cause { Counts (D.faults disk.old) (D.faults disk.new) (disk_failed result) }
-{
-    if is_held(alloc, disk, "work")? {
-        return Ok(doom_all(alloc, paths, doomed)?);
-    }
-    let closed = closed_pns(alloc, disk, paths)?;
-    doom_stamps(alloc, disk, paths, closed.as_slice(), doomed)
-}
-
-/// Puts what is no stamp under `stamp/` to what goes.
-pub(crate) fn survey_stamps<D: Disk>(
-    alloc: Global,
-    disk: &mut D,
-    doomed: &mut Vec<Text>,
-) -> Result<(), DiskFault>
-    ensures dooms { D.tells → OnOk result (Dooms (D.story disk.old).held (BeginsWith (codes "stamp/"))
-        doomed.old.items doomed.new.items) }
-    ensures others { D.tells → Passes (D.story disk.old) (D.story disk.new) Same }
-    ensures cause { Counts (D.faults disk.old) (D.faults disk.new) (disk_failed result) }
-{
-    let paths = disk.list(alloc, "stamp/")?;
-    if paths.as_slice().is_empty() {
-        return Ok(());
-    }
-    doom_listed(alloc, disk, paths.as_slice(), doomed)
 }
 
 /// Puts all under `tmp/` to what goes.
@@ -147,7 +46,26 @@ fn doom(alloc: Global, path: &str, doomed: &mut Vec<Text>) -> Result<(), Mem>
     Ok(doomed.push(Text::from_str(alloc, path)?)?)
 }
 
-/// Puts a path to what goes, where something is held there.
+/// Puts a path to what goes, if something is held there.
+pub(crate) fn doom_held<D: Disk>(
+    alloc: Global,
+    disk: &mut D,
+    path: &str,
+    doomed: &mut Vec<Text>,
+) -> Result<(), DiskFault>
+    ensures notes { D.tells → OnOk result (NotesHeld (D.story disk.old).held path.now doomed.old.items
+        doomed.new.items) }
+    ensures others { D.tells → Passes (D.story disk.old) (D.story disk.new) Same }
+    ensures cause { Counts (D.faults disk.old) (D.faults disk.new) (disk_failed result) }
+{
+    if is_held(alloc, disk, path)? {
+        doom(alloc, path, doomed)?;
+        return Ok(());
+    }
+    Ok(())
+}
+
+/// Puts one of the four folders' own paths to what goes, if something is held there.
 pub(crate) fn survey_at<D: Disk>(
     alloc: Global,
     disk: &mut D,
@@ -160,15 +78,11 @@ pub(crate) fn survey_at<D: Disk>(
     ensures others { D.tells → Passes (D.story disk.old) (D.story disk.new) Same }
     ensures cause { Counts (D.faults disk.old) (D.faults disk.new) (disk_failed result) }
 {
-    if is_held(alloc, disk, path)? {
-        doom(alloc, path, doomed)?;
-        return Ok(());
-    }
-    Ok(())
+    doom_held(alloc, disk, path, doomed)
 }
 
-/// Removes what is held at these paths.
-pub(crate) fn remove_all<D: Disk>(disk: &mut D, paths: &[Text]) -> Result<(), DiskFault>
+/// Removes what is held at these paths, and nothing else.
+pub fn remove_all<D: Disk>(disk: &mut D, paths: &[Text]) -> Result<(), DiskFault>
     ensures gone { D.tells → OnOk result ((q : List ℕ) → Contains paths.now q → (D.story disk.new).held q ≡ None) }
     ensures others { D.tells → Passes (D.story disk.old) (D.story disk.new) (TakesOut paths.now) }
     ensures cause { Counts (D.faults disk.old) (D.faults disk.new) (disk_failed result) }

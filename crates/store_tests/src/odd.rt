@@ -92,13 +92,19 @@ const RECORDS: [Row; 15] = [
     ("rec", RECORD, "", b"", 0),
 ];
 
-const OTHERS: [Row; 7] = [
-    // stamps, of whatever record
-    ("stamp/p/t", DIGEST, "stamp/p/u", b"hello\n", 1),
-    ("stamp/p", DIGEST, "", b"", 0),
-    ("stamp/p/t/u", DIGEST, "", b"", 0),
-    ("stamp/p/t", CUT_DIGEST, "", b"", 0),
-    ("stamp/p/t", SHORT_DIGEST, "stamp/p/u", CAPITAL_DIGEST, 0),
+const OTHERS: [Row; 11] = [
+    // what is under `stamp/` stays, be it a stamp or not
+    ("stamp/p/t", DIGEST, "stamp/p/u", b"hello\n", 2),
+    ("stamp/p", DIGEST, "", b"", 1),
+    ("stamp/p/t/u", DIGEST, "", b"", 1),
+    ("stamp/p/t", CUT_DIGEST, "", b"", 1),
+    ("stamp/p/t", SHORT_DIGEST, "stamp/p/u", CAPITAL_DIGEST, 2),
+    // where something stands above a work folder, too
+    ("stamp/p/a", DIGEST, "work/p", b"", 2),
+    ("stamp/p/a", DIGEST, "work", b"", 2),
+    (NAME, RECORD, "stamp/p/a", DIGEST, 2),
+    // but at `stamp` itself
+    ("stamp", DIGEST, "", b"", 0),
     // temporary files, and all else
     ("tmp/rec/x", RECORD, "tmp/stamp/p/t", DIGEST, 0),
     ("work/p/t/u", b"", "obj/x", b"", 2),
@@ -195,7 +201,26 @@ fn known_files_change_nothing(rt: HostRuntime) -> Result<(), Fail> {
     Ok(())
 }
 
-/// What stands under `stamp/` goes, but for stamps, and all under `tmp/`.
+/// How many files opening leaves of the stamp of a task that gave nothing by its record, with that record and a file at this path.
+fn left_of_blocked(alloc: Global, path: &str) -> Result<usize, Fail> {
+    let mut files = files_of(alloc, NAME, RECORD, "stamp/p/a", DIGEST)?;
+    files.push(file(alloc, path, b"")?)?;
+    match MemDisk::new(alloc, files) {
+        Ok(disk) => Ok(opened(alloc, disk)?.into_disk().held().len()),
+        Err(_) => Err(Fail::from("no disk")),
+    }
+}
+
+/// A stamp of a task that gave nothing goes where no folder can be at its work folder, and else stays.
+#[test]
+fn blocked_stamps_go(rt: HostRuntime) -> Result<(), Fail> {
+    for (path, want) in [("work", 2), ("work/p", 2), ("work/p/a", 3), ("work/q", 3)] {
+        assert_eq!(rt; left_of_blocked(rt.alloc(), path)?, want);
+    }
+    Ok(())
+}
+
+/// What stands under `stamp/` stays, all under `tmp/` goes, and what stands at `stamp` itself.
 #[test]
 fn other_odd_files_go(rt: HostRuntime) -> Result<(), Fail> {
     assert!(rt; are_left(rt.alloc(), &OTHERS)?);

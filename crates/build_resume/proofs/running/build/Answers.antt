@@ -1,4 +1,4 @@
-use Rattle.std.proofs.Common.{◌≡◌, ◌∙◌, sym, ap, subst, refl, [], append-nil, length, List, map}
+use Rattle.std.proofs.Common.{◌≡◌, ◌≤◌, ◌∙◌, sym, ap, subst, refl, [], append-nil, length, List, map}
 use Rattle.outside_traits.specs.Fault.{Rose}
 use Rattle.meta_model.specs.declared.event.Status.TheVariants as status
 use Rattle.meta_model.specs.declared.plan.Options.{Options}
@@ -24,7 +24,7 @@ pub returns-in-Ok-begin-clause-leaves : goal.returns-in-Ok-begin-clause-leaves
 returns-in-Ok-begin-clause-leaves g c tells told gives all reading book entry =
     let before = g.D.Disk.story c.args.disk in
     let after = g.D.Disk.story c.in-Ok.store.disk in
-    let was : WasOpened before after c.in-Ok.store.rows = record { fresh = c.requires.fresh tells; opened = c.in-Ok.ensures.opened tells; durable = c.in-Ok.ensures.durable tells; clears = c.in-Ok.ensures.images tells } in
+    let was : WasOpened before after c.in-Ok.store.rows = record { fresh = c.requires.fresh tells; opened = c.in-Ok.ensures.opened tells; durable = c.in-Ok.ensures.durable tells; treelike = (((g.met.D.Disk g.world.𝓛 g.world.𝓜 g.world.𝓡 ((λ s x. x), (λ x. x), (λ x. x), λ x. x)).sound c.in-Ok.store.disk tells).content 0).treelike; clears = c.in-Ok.ensures.images tells } in
     let o = opening gives reading book c.args.plan c.args.options before after c.in-Ok.store.rows was entry in
     let begun = c.in-Ok-begin.ensures.begun in
     let run = c.in-Ok-begin.ensures.run tells o (is_opening gives reading book c.args.plan c.args.options before after c.in-Ok.store.rows was entry) (may_run gives reading book c.args.plan c.args.options before after c.in-Ok.store.rows was entry) in
@@ -40,7 +40,7 @@ pub returns-in-Ok-begin-clause-exactly : goal.returns-in-Ok-begin-clause-exactly
 returns-in-Ok-begin-clause-exactly g c tells told gives all reading book entry wanted disk bench sink memory alone =
     let before = g.D.Disk.story c.args.disk in
     let after = g.D.Disk.story c.in-Ok.store.disk in
-    let was : WasOpened before after c.in-Ok.store.rows = record { fresh = c.requires.fresh tells; opened = c.in-Ok.ensures.opened tells; durable = c.in-Ok.ensures.durable tells; clears = c.in-Ok.ensures.images tells } in
+    let was : WasOpened before after c.in-Ok.store.rows = record { fresh = c.requires.fresh tells; opened = c.in-Ok.ensures.opened tells; durable = c.in-Ok.ensures.durable tells; treelike = (((g.met.D.Disk g.world.𝓛 g.world.𝓜 g.world.𝓡 ((λ s x. x), (λ x. x), (λ x. x), λ x. x)).sound c.in-Ok.store.disk tells).content 0).treelike; clears = c.in-Ok.ensures.images tells } in
     let o = opening gives reading book c.args.plan c.args.options before after c.in-Ok.store.rows was entry in
     let begun = c.in-Ok-begin.ensures.begun in
     let run = c.in-Ok-begin.ensures.run tells o (is_opening gives reading book c.args.plan c.args.options before after c.in-Ok.store.rows was entry) (may_run gives reading book c.args.plan c.args.options before after c.in-Ok.store.rows was entry) in
@@ -195,3 +195,8 @@ returns-in-Err-clause-differs g c =
     nothing_differs g.D.Disk.tells c.args.plan (g.D.Disk.story c.unbegun-in-Err.result.disk) c.unbegun-in-Err.result.status
     (subst (DiffersOver c.args.plan []) (sym c.unbegun-in-Err.ensures.status)
     (refused_differs sink c.args.plan c.in-Err.field-0.fault c.tell_end-status.result (subst (λ x. EndsBy sink x c.tell_end-status.result) c.status_of_store.ensures c.tell_end-status.ensures.ends) c.in-Err.ensures.fault))
+
+-- ---- what stays of the benches and the sink
+
+pub returns-in-Ok-begin-clause-later : goal.returns-in-Ok-begin-clause-later
+returns-in-Ok-begin-clause-later g c = subst (λ x. g.W.Sink.faults x ≤ g.W.Sink.faults c.run_begun.result.sink) c.in-Ok-begin.ensures.begun.sink_is c.run_begun.ensures.later

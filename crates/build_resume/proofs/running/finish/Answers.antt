@@ -1,5 +1,5 @@
-use Rattle.std.proofs.Common.{◌≡◌, ◌∙◌, sym, ap, subst, ℕ, List, Some, true, inl, inr}
-use Rattle.std.specs.Prelude.{◌⊎◌, Bool, IfSome}
+use Rattle.std.proofs.Common.{◌≡◌, ◌∙◌, sym, ap, subst, ℕ, List, Some, true, inl, inr, arith}
+use Rattle.std.specs.Prelude.{◌⊎◌, ◌≤◌, Bool, IfSome}
 use Rattle.outside_traits.specs.Fault.{Counts, Rose}
 use Rattle.meta_model.specs.declared.event.Logged.{Logged}
 use Rattle.meta_model.specs.declared.plan.Plan.{Plan}
@@ -120,3 +120,15 @@ returns-clause-differs g c =
       differs = subst (λ (p : Plan). DiffersOver p rows status) c.drive-halt.ensures.same.plan
           (ended_differs (g.D.Disk.faults last.store.disk) last.plan rows last.sink_failed (has_failure c.into_parts-parts.result.tale.items) sinks c.into_parts-parts.result.fault c.halt_of_run-halt.result status cause c.conclude.ensures.status);
     }
+
+pub returns-clause-alike : goal.returns-clause-alike
+returns-clause-alike g c = (c.drive-halt.ensures.gives, c.drive-halt.ensures.cause.later)
+
+pub returns-clause-later : goal.returns-clause-later
+returns-clause-later g c before counts =
+    let parts = c.into_parts-parts.ensures in
+    let last = c.drive-halt.new.state in
+    let risen : before ≤ g.W.Sink.faults last.sink = (c.drive-halt.ensures.sink before counts).later in
+    let from : before ≤ g.W.Sink.faults c.into_parts-parts.result.sink = subst (λ x. before ≤ g.W.Sink.faults x) (sym parts.sink) risen in
+    let on : g.W.Sink.faults c.into_parts-parts.result.sink ≤ g.W.Sink.faults c.conclude.result.sink = c.conclude.ensures.later in
+    omega (arith, from, on)

@@ -1,4 +1,4 @@
-use Rattle.std.proofs.Common.{◌≡◌, ◌∙◌, ◌+◌, ◌∷◌, [], sym, ap, subst, arith, ℕ, List, length, length-append, map, inl, inr}
+use Rattle.std.proofs.Common.{◌≡◌, ◌≤◌, ◌∙◌, ◌+◌, ◌∷◌, [], sym, ap, subst, arith, ℕ, List, length, length-append, map, inl, inr}
 use Rattle.std.proofs.lemmas.List.{length-map}
 use Rattle.outside_traits.specs.Bench.{Gives}
 use Rattle.outside_traits.specs.Fault.{Rose}
@@ -19,7 +19,7 @@ use Rattle.build_resume.proofs.Benches.{at_seats, broke_before, broke_behind, br
 use Rattle.build_resume.proofs.Printing.{said_first}
 use Rattle.build_resume.proofs.Reports.{counts_first, prints_first}
 use Rattle.build_resume.proofs.Statuses.{wider_cause}
-use Rattle.build_resume.proofs.Working.{break_seat, have_benches, left_on}
+use Rattle.build_resume.proofs.Working.{break_seat, have_benches, left_on, workers_grown}
 use Rattle.build_resume.proofs.running.run_begun.Goals as goal
 
 pub returns-clause-plan : goal.returns-clause-plan
@@ -158,3 +158,14 @@ returns-clause-steady g c tells told gives all o same run =
     let workers = c.with_workers-state.ensures.run tells told gives rest o same run in
     c.finish-plan.ensures.steady tells told o (same ∙ sym own) workers.0
     (c.with_workers-state.ensures.steady tells told gives rest o same run (steady_none state.fault c.requires.faultless))
+
+pub returns-clause-alike : goal.returns-clause-alike
+returns-clause-alike g c =
+    workers_grown (λ s a b. (g.B.Bench.gives b ≡ g.B.Bench.gives a) × (g.B.Bench.faults a ≤ g.B.Bench.faults b)) c.take_last-last.new.benches.items c.with_workers-state.result.1.items c.args.benches.items c.push_reserved.new.self.items c.take_last-last.result c.finish-plan.new.last
+    c.take_last-last.ensures.items c.push_reserved.ensures.items c.with_workers-state.ensures.alike c.finish-plan.ensures.alike
+
+pub returns-clause-later : goal.returns-clause-later
+returns-clause-later g c =
+    let state = c.args.state in
+    let counts = counts_first (g.W.Sink.faults state.sink) state.sink_failed c.requires.stands in
+    c.finish-plan.ensures.later (g.W.Sink.faults state.sink) (c.with_workers-state.ensures.sink (g.W.Sink.faults state.sink) counts)

@@ -155,3 +155,16 @@ returns-clause-ended g t c =
     ended_pushed first (WasFaulty g.D.Disk.faults g.W.Sink.faults first (g.W.Sink.faults c.args.state.sink)) g.B.Bench.faults now.result.2 now.result.0.tale c.args.workers rest now.result.1.items c.args.benches.items c.push_reserved.new.self.items c.take_last-bench.result
     c.take_last-bench.ensures.items c.push_reserved.ensures.items now.ensures.broke.long
     (let test : c.args.workers < c.len.result = search rules in let len = c.len.ensures in let long = c.args.benches.ok.0 in let items = ap length c.take_last-bench.ensures.items ∙ length-append rest (c.take_last-bench.result ∷ []) in omega (arith, test, len, long, items)) now.ensures.ended
+
+-- ---- what stays of the benches
+
+pub returns-then-is_empty-clause-alike : goal.returns-then-is_empty-clause-alike
+returns-then-is_empty-clause-alike g t c = workers_same (λ s a b. (g.B.Bench.gives b ≡ g.B.Bench.gives a) × (g.B.Bench.faults a ≤ g.B.Bench.faults b)) c.args.benches.items c.args.benches.items refl (λ s a. (refl, omega arith))
+
+pub returns-then-len-workers-clause-alike : goal.returns-then-len-workers-clause-alike
+returns-then-len-workers-clause-alike g t c = record { long = c.run_workers-state.ensures.benches; each = λ k old new was is. c.run_workers-state.ensures.gives k old new was is }
+
+pub returns-clause-alike : goal.returns-clause-alike
+returns-clause-alike g t c =
+    workers_pushed (λ s a b. (g.B.Bench.gives b ≡ g.B.Bench.gives a) × (g.B.Bench.faults a ≤ g.B.Bench.faults b)) c.take_last-bench.new.benches.items c.with_at_most-state.result.1.items c.args.benches.items c.push_reserved.new.self.items c.take_last-bench.result
+    c.take_last-bench.ensures.items c.push_reserved.ensures.items c.with_at_most-state.ensures.alike (refl, omega arith)

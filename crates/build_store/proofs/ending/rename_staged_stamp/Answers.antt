@@ -7,7 +7,6 @@ use Rattle.outside_traits.proofs.Runs.{passes_none}
 use Rattle.stamp_store.specs.Stamp.{stamp_path, staged_path}
 use Rattle.store_opening.specs.Paths.{IsLaidOut}
 use Rattle.build_store.proofs.EndingRuns.{finishes_by_same, stamp_may_move, stamp_moves, stamp_next}
-use Rattle.build_store.proofs.Free.{free_stamp}
 use Rattle.build_store.proofs.Phasing.{laid_stamped}
 use Rattle.build_store.proofs.Sweeps.{moved_only, on_ok_of}
 use Rattle.build_store.proofs.ending.rename_staged_stamp.Goals as goal
@@ -24,8 +23,7 @@ pub rename-requires-clause-free : goal.rename-requires-clause-free
 rename-requires-clause-free g c told =
     let to_is : c.as_str-2.result.now ≡ stamp_path c.args.folder.now = c.as_str-2.ensures ∙ c.in_ok-to.ensures in
     let same = (ends_passes (g.met.D.Disk.sound c.args.disk.now told) (c.end_sync.ensures.told told)).held in
-    let laid = subst (λ (h : Store). IsLaidOut h) (sym same) (c.requires.laid_out told) in
-    subst (IsFree (g.D.Disk.story c.end_sync.new.self).held) (sym to_is) (free_stamp (g.D.Disk.story c.end_sync.new.self).held c.args.folder.now c.requires.parts laid)
+    subst (IsFree (g.D.Disk.story c.end_sync.new.self).held) (sym to_is) (subst (λ (h : Store). IsFree h (stamp_path c.args.folder.now)) (sym same) (c.requires.free told))
 
 pub returns-in_err-rename-clause-finishes : goal.returns-in_err-rename-clause-finishes
 returns-in_err-rename-clause-finishes g c told = λ p own is.

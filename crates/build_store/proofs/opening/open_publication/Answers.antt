@@ -1,23 +1,60 @@
-use Rattle.std.proofs.Common.{sym, subst, refl}
-use Rattle.outside_traits.proofs.Runs.{passes_so}
+use Rattle.std.proofs.Common.{◌≡◌, ◌∙◌, sym, ap, subst, refl, false, [], List, ℕ}
+use Rattle.tree_model.specs.declared.entry.Entry.TheVariants.{File}
+use Rattle.outside_traits.specs.Passes.{EachNow}
+use Rattle.outside_traits.specs.Store.{Store}
+use Rattle.stamp_store.specs.Stamp.{old_path}
+use Rattle.store_model.specs.Publication.{stamp_at}
+use Rattle.store_opening.specs.Paths.{IsLaidOut}
 use Rattle.build_store.specs.declared.pieces.OpenPublication.{OpenPublication}
 use Rattle.build_store.specs.Drafts.{file_of}
 use Rattle.build_store.specs.Halves.{IsOn}
-use Rattle.build_store.specs.OpenOnes.{AreNoted, IsFit, items_of, opened_by, progress_of, put_by}
+use Rattle.build_store.specs.Noting.{AreNoted}
+use Rattle.build_store.specs.OpenOnes.{AddsOwn, IsFit, items_of, opened_by, progress_of, put_by}
 use Rattle.build_store.specs.Phases.{put_of}
-use Rattle.build_store.specs.Pieces.{IsPublishing}
+use Rattle.build_store.proofs.AsideRuns.{opens_behind, opens_own, opens_publish, opens_same, settled_same}
 use Rattle.build_store.proofs.NotingRuns.{few_items}
-use Rattle.build_store.proofs.Piecing.{opens_is_publishing}
 use Rattle.build_store.proofs.opening.open_publication.Goals as goal
 
 pub returns-in_err-extra-clause-opens : goal.returns-in_err-extra-clause-opens
-returns-in_err-extra-clause-opens g c told = λ f. c.begin.ensures.opens told (put_of c.args.folder c.args.draft.name c.args.tree c.args.object (file_of c.args.draft.new) f) (sym c.as_str.ensures) refl
+returns-in_err-extra-clause-opens g c told = λ f. opens_same (put_of c.args.folder c.args.draft.name c.args.tree c.args.object (file_of c.args.draft.new) f) (c.note_few.ensures.same told)
 
 pub returns-in_err-extra-clause-publishing : goal.returns-in_err-extra-clause-publishing
 returns-in_err-extra-clause-publishing g c told = λ f.
     let p = put_of c.args.folder c.args.draft.name c.args.tree c.args.object (file_of c.args.draft.new) f in
-    let held = (g.D.Disk.story c.args.disk.now).held in
-    passes_so (IsPublishing p held) (c.begin.ensures.opens told p (sym c.as_str.ensures) refl) (λ i j opens. opens_is_publishing p held i j opens)
+    opens_publish p (opens_same p (c.note_few.ensures.same told))
+
+pub returns-in_err-extra-clause-laid_out : goal.returns-in_err-extra-clause-laid_out
+returns-in_err-extra-clause-laid_out g c told = subst (λ (h : Store). IsLaidOut h) (sym (c.note_few.ensures.same told).held) (c.requires.laid_out told)
+
+pub begin-requires-clause-laid_out : goal.begin-requires-clause-laid_out
+begin-requires-clause-laid_out g c told = subst (λ (h : Store). IsLaidOut h) (sym (c.note_few.ensures.same told).held) (c.requires.laid_out told)
+
+pub begin-requires-clause-settled : goal.begin-requires-clause-settled
+begin-requires-clause-settled g c told =
+    subst (λ (l : List ℕ). EachNow (g.D.Disk.story c.note_few.new.disk) (λ image. image (stamp_at l) ≡ (g.D.Disk.story c.note_few.new.disk).held (stamp_at l))) (sym c.as_str-2.ensures) (settled_same c.args.folder (c.note_few.ensures.same told) (c.requires.settled told))
+
+pub returns-in_err-reached-clause-opens : goal.returns-in_err-reached-clause-opens
+returns-in_err-reached-clause-opens g c told = λ f.
+    let p = put_of c.args.folder c.args.draft.name c.args.tree c.args.object (file_of c.args.draft.new) f in
+    opens_behind p (c.note_few.ensures.same told) (c.begin.ensures.opens told p (sym c.as_str-2.ensures) refl)
+
+pub returns-in_err-reached-clause-publishing : goal.returns-in_err-reached-clause-publishing
+returns-in_err-reached-clause-publishing g c told = λ f.
+    let p = put_of c.args.folder c.args.draft.name c.args.tree c.args.object (file_of c.args.draft.new) f in
+    opens_publish p (opens_behind p (c.note_few.ensures.same told) (c.begin.ensures.opens told p (sym c.as_str-2.ensures) refl))
+
+pub returns-clause-opens : goal.returns-clause-opens
+returns-clause-opens g c told = λ f.
+    let p = put_of c.args.folder c.args.draft.name c.args.tree c.args.object (file_of c.args.draft.new) f in
+    opens_behind p (c.note_few.ensures.same told) (c.begin.ensures.opens told p (sym c.as_str-2.ensures) refl)
+
+pub returns-clause-publishing : goal.returns-clause-publishing
+returns-clause-publishing g c told = λ f.
+    let p = put_of c.args.folder c.args.draft.name c.args.tree c.args.object (file_of c.args.draft.new) f in
+    opens_publish p (opens_behind p (c.note_few.ensures.same told) (c.begin.ensures.opens told p (sym c.as_str-2.ensures) refl))
+
+pub returns-clause-parts : goal.returns-clause-parts
+returns-clause-parts g c = (c.in_ok-extra.extra, (c.in_ok-reached.reached, c.in_ok-reached.ensures.first, c.opened_by.ensures))
 
 pub returns-clause-fit : goal.returns-clause-fit
 returns-clause-fit g c = subst IsFit (sym c.opened_by.ensures) (record {
@@ -32,19 +69,22 @@ returns-clause-fit g c = subst IsFit (sym c.opened_by.ensures) (record {
 
 pub returns-clause-noted : goal.returns-clause-noted
 returns-clause-noted g c told = λ f.
+    let o = (opened_by c.args.folder c.args.object c.args.draft c.args.tree c.in_ok-extra.extra c.in_ok-reached.reached) in
     subst (λ (o : OpenPublication). AreNoted (put_by o f) (items_of o) (g.D.Disk.story c.begin.new.disk).held) (sym c.opened_by.ensures)
-    (c.in_ok-extra.ensures.noted told (put_by (opened_by c.args.folder c.args.object c.args.draft c.args.tree c.in_ok-extra.extra) f) (sym c.as_str.ensures) refl refl)
+    (c.begin.ensures.noted told (put_by o f) (sym c.as_str-2.ensures) refl (items_of o) (c.in_ok-extra.ensures.noted told (put_by o f) (sym c.as_str.ensures) refl refl))
 
 pub returns-clause-opened : goal.returns-clause-opened
 returns-clause-opened g c told = λ f.
+    let o = (opened_by c.args.folder c.args.object c.args.draft c.args.tree c.in_ok-extra.extra c.in_ok-reached.reached) in
     subst (λ (o : OpenPublication). IsOn (put_by o f) (progress_of o) (g.D.Disk.story c.begin.new.disk)) (sym c.opened_by.ensures)
-    (c.in_ok-extra.ensures.half told (put_by (opened_by c.args.folder c.args.object c.args.draft c.args.tree c.in_ok-extra.extra) f) (sym c.as_str.ensures) refl refl)
+    (c.in_ok-reached.ensures.on told (put_by o f) (sym c.as_str-2.ensures) refl c.entries-entries.ensures.tree (items_of o) (c.in_ok-extra.ensures.noted told (put_by o f) (sym c.as_str.ensures) refl refl))
 
-pub returns-clause-opens : goal.returns-clause-opens
-returns-clause-opens g c told = λ f. c.begin.ensures.opens told (put_of c.args.folder c.args.draft.name c.args.tree c.args.object (file_of c.args.draft.new) f) (sym c.as_str.ensures) refl
-
-pub returns-clause-publishing : goal.returns-clause-publishing
-returns-clause-publishing g c told = λ f.
-    let p = put_of c.args.folder c.args.draft.name c.args.tree c.args.object (file_of c.args.draft.new) f in
-    let held = (g.D.Disk.story c.args.disk.now).held in
-    passes_so (IsPublishing p held) (c.begin.ensures.opens told p (sym c.as_str.ensures) refl) (λ i j opens. opens_is_publishing p held i j opens)
+pub returns-clause-swept : goal.returns-clause-swept
+returns-clause-swept g c told =
+    let o = (opened_by c.args.folder c.args.object c.args.draft c.args.tree c.in_ok-extra.extra c.in_ok-reached.reached) in
+    let p = (put_of c.args.folder c.args.draft.name c.args.tree c.args.object (file_of c.args.draft.new) (File false [])) in
+    let same = (c.note_few.ensures.same told).held in
+    subst (λ (o : OpenPublication). AddsOwn o (g.D.Disk.story c.args.disk.now).held (g.D.Disk.story c.begin.new.disk).held) (sym c.opened_by.ensures)
+    (opens_own o p (g.D.Disk.story c.args.disk.now).held (g.D.Disk.story c.args.disk.now).held (g.D.Disk.story c.begin.new.disk).held refl
+    (opens_behind p (c.note_few.ensures.same told) (c.begin.ensures.opens told p (sym c.as_str-2.ensures) refl)).held
+    (λ none. (rw c.as_str-2.ensures at (c.in_ok-reached.ensures.swept told)) (ap (λ (h : Store). h (old_path c.args.folder)) same ∙ none)))

@@ -11,7 +11,7 @@ use Rattle.build_store.proofs.Several.{view_others}
 use Rattle.build_store.proofs.tasks.open_beside.Goals as goal
 
 pub open_task-requires-clause-settled : goal.open_task-requires-clause-settled
-open_task-requires-clause-settled g c told = (c.requires.tidy told).settled (task_folder c.args.task.now) c.requires.closed
+open_task-requires-clause-settled g c told = (c.requires.tidy told).settled (task_folder c.args.task.now) (folder_slashes c.args.task.now c.requires.place) c.requires.closed
 
 pub returns-in_err-one-clause-on : goal.returns-in_err-one-clause-on
 returns-in_err-one-clause-on g c told =

@@ -1,4 +1,4 @@
-use Rattle.std.proofs.Common.{◌≡◌, ◌∙◌, sym, ap, subst, inl, false, [], List, ℕ, Some, None}
+use Rattle.std.proofs.Common.{◌≡◌, ◌∙◌, sym, ap, subst, inl, List, ℕ, Some, None}
 use Rattle.std.specs.Prelude.{if◌then◌else◌}
 use Rattle.tree_model.specs.declared.hash.Hash.{Hash}
 use Rattle.outside_traits.specs.Passes.{EachNow}
@@ -12,11 +12,6 @@ use Rattle.build_store.specs.View.{signed_by}
 use Rattle.build_store.proofs.Drafted.{line_readable}
 use Rattle.build_store.proofs.Stays.{object_name}
 use Rattle.build_store.proofs.TaskRuns.{drafted_run, kept_still, opened_of, opened_on}
-use Rattle.tree_model.specs.declared.entry.Entry.TheVariants.{File}
-use Rattle.build_store.specs.declared.pieces.OpenPublication.{OpenPublication}
-use Rattle.build_store.specs.Drafts.{file_of}
-use Rattle.build_store.specs.Phases.{put_of}
-use Rattle.build_store.proofs.Sweeps.{opens_no_litter}
 use Rattle.build_store.proofs.tasks.open_task.Goals as goal
 
 pub open_publication-requires-clause-folder : goal.open_publication-requires-clause-folder
@@ -36,7 +31,7 @@ open_publication-requires-clause-object g c unihash is =
     object_name c.args.index.now s c.args.tree c.requires.rows unihash (sym obj ∙ is)
 
 pub open_publication-requires-clause-settled : goal.open_publication-requires-clause-settled
-open_publication-requires-clause-settled g c told settled =
+open_publication-requires-clause-settled g c told =
     subst (λ (l : List ℕ). EachNow (g.D.Disk.story c.args.disk.now) (λ image. image (stamp_at l) ≡ (g.D.Disk.story c.args.disk.now).held (stamp_at l))) (sym c.in_ok-folder.ensures) (c.requires.settled told)
 
 pub returns-clause-of : goal.returns-clause-of
@@ -95,14 +90,6 @@ returns-in_err-open_publication-clause-readable g c =
     let s = signed_by c.args.task.now c.args.sig.now in
     let d = c.requires.draft in
     inl (line_readable c.args.index.now s c.args.tree c.args.draft.new c.requires.rows c.requires.spelled c.entries-entries.ensures.tree c.requires.short d.agrees d.spells d.new)
-
-pub returns-clause-reached : goal.returns-clause-reached
-returns-clause-reached g c = ap (λ (o : OpenPublication). o.reached) c.in_ok-open_publication.ensures.parts.1
-
-pub returns-clause-swept : goal.returns-clause-swept
-returns-clause-swept g c told =
-    let p = put_of c.in_ok-folder.folder c.args.draft.name c.args.tree c.object_of-object.result (file_of c.args.draft.new) (File false []) in
-    opens_no_litter p (g.D.Disk.story c.args.disk.now).held (g.D.Disk.story c.args.disk.now).held (g.D.Disk.story c.open_publication.new.disk).held (c.open_publication.ensures.opens told (File false [])).held (c.in_ok-open_publication.ensures.swept told)
 
 pub returns-clause-line : goal.returns-clause-line
 returns-clause-line g c =

@@ -22,7 +22,7 @@ invariant_of-self g c =
       λ told. c.restore.ensures.keeps told,
       c.self.invariant.2,
       λ told. restored_stand rows folder a b (g.met.D.Disk.sound c.self.inside.disk told) (folder_slashes c.args.task.now c.requires.place) (c.restore.ensures.round told) xs (view_others folder xs closed) (c.self.invariant.3 told),
-      λ told faultless. restored_tidy rows (signed_by c.args.task.now c.args.sig.now) a.held xs a b c.in-Ok.found (g.met.D.Disk.sound c.restore.new.disk told) (c.self.invariant.4 told faultless) (c.in-Ok.ensures.swept told) (c.restore.ensures.round told)
+      λ told faultless. restored_tidy rows (signed_by c.args.task.now c.args.sig.now) a.held xs a b c.in-Ok.found (folder_slashes c.args.task.now c.requires.place) (g.met.D.Disk.sound c.restore.new.disk told) (c.self.invariant.4 told faultless) (c.in-Ok.ensures.swept told) (c.restore.ensures.round told)
           (c.in-Ok.ensures.restored told) (c.in-Ok.ensures.unchanged told),
     )
 
