@@ -1,0 +1,10 @@
+pub mod Keeping
+pub mod Numbering
+pub mod Standing
+pub mod Reading
+pub mod Stepping
+pub mod Following
+pub mod Rounding
+pub mod Wholly
+pub mod Backwards
+pub mod Choosing

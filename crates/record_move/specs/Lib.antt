@@ -1,0 +1,11 @@
+pub mod Second
+pub mod Named
+pub mod Known
+pub mod Rounds
+pub mod Moved
+pub mod Faults
+pub mod Adding
+pub mod Going
+pub mod Worked
+pub mod Whole
+pub mod Wanted

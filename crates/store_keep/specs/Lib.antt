@@ -1,0 +1,4 @@
+pub mod Keep
+pub mod Tries
+pub mod Passes
+pub mod Worked
