@@ -1,4 +1,11 @@
 pub mod Configs
+pub mod Faults
+pub mod Named
+pub mod Names
+pub mod PartLaws
+pub mod Parts
+pub mod Plans
+pub mod Project
 pub mod Reading
 pub mod Samples
 pub mod Words

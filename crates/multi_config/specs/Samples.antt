@@ -5,7 +5,8 @@ use Rattle.load_model.specs.LoadRefusal.{◌>>=◌, refused_as}
 use Rattle.load_model.specs.Layers.{Config, LayerRefusal, no_list}
 use Rattle.load_model.specs.LoadSamples.{Files, config_in, sample}
 use Rattle.multi_config.specs.Reading.{config_named, configs_of}
-use Rattle.multi_config.specs.Words.{ConfigTargets, McFault, parts_of}
+use Rattle.multi_config.specs.declared.parts.ConfigTargets.{ConfigTargets}
+use Rattle.multi_config.specs.Words.{WordRefusal, parts_of}
 
 -- a configuration of a project
 abbrev pub named_in : Files → List ℕ → Result Config LayerRefusal
@@ -27,7 +28,7 @@ two_configs = (codes "conf/bitbake.conf", codes "BBMULTICONFIG = \"a b\"")
     ∷ []
 
 -- the parts of words over the configurations `a` and `b`, where the default task is `build`
-abbrev pub parts : List (List ℕ) → Result (List ConfigTargets) McFault
+abbrev pub parts : List (List ℕ) → Result (List ConfigTargets) WordRefusal
 parts words = parts_of (codes "a" ∷ codes "b" ∷ []) (codes "build") words
 
 -- a part whose targets are these names with their tasks

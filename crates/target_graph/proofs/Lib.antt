@@ -3,3 +3,4 @@ pub mod AnyGraph
 pub mod Told
 pub mod OneRun
 pub mod Running
+pub mod PartRuns

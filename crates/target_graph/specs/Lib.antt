@@ -1,3 +1,4 @@
 pub mod Runs
 pub mod Meaning
+pub mod Parts
 pub mod Samples

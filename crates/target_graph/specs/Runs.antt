@@ -9,6 +9,8 @@ use Rattle.answer_model.specs.Said.{threads_status}
 use Rattle.answer_model.specs.GraphStatus.{IsGraphStatus}
 use Rattle.answer_model.specs.RunAsked.{Asked, threads_text}
 use Rattle.answer_model.specs.Runs.{HasGraph, HasThreads, IsRunRefused, graph}
+use Rattle.multi_config.specs.declared.parts.ConfigTargets.{ConfigTargets}
+use Rattle.multi_config.specs.Plans.{IsPartRunRefused}
 
 -- the layers failed, or memory ran out
 abbrev pub IsDeviceStatus : Status → Type 0
@@ -33,3 +35,7 @@ pub data HasNoRun (what : Asked) (status : Status) : Type 0 where
 -- why no run was found: the layers failed, memory ran out, or the words have none
 abbrev pub IsNoRun : Sources → List (List ℕ) → List (List ℕ) → Option (List ℕ) → Status → Type 0
 IsNoRun sources paths words task status = IsDeviceStatus status ⊎ IsRunRefused sources paths words task status
+
+-- why no run of a part was found: the layers failed, memory ran out, or it has none
+abbrev pub IsNoPartRun : Sources → List (List ℕ) → ConfigTargets → Status → Type 0
+IsNoPartRun sources paths part status = IsDeviceStatus status ⊎ IsPartRunRefused sources paths part status

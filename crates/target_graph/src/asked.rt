@@ -48,7 +48,7 @@ pub(crate) fn config_text(alloc: Global, store: &Datastore, name: &str) -> Resul
 }
 
 /// The entries of the configuration, once its names are moved.
-fn moved(alloc: Global, store: Datastore) -> Result<Datastore, Status>
+pub(crate) fn moved(alloc: Global, store: Datastore) -> Result<Datastore, Status>
     ensures ok { IfOk result (λ made. meant.moved store ≡ Ok made) }
     ensures err { IfErr result (λ status. IsRefusedAs status (meant.moved store)) }
     ensures refusal { IfErr result (λ status. is_refusal status ≡ true) }
@@ -61,7 +61,11 @@ fn moved(alloc: Global, store: Datastore) -> Result<Datastore, Status>
 }
 
 /// The task of targets that name none: this one, where it is given, or that of the configuration.
-fn default_task(alloc: Global, store: &Datastore, task: Option<&Text>) -> Result<Text, Status>
+pub(crate) fn default_task(
+    alloc: Global,
+    store: &Datastore,
+    task: Option<&Text>,
+) -> Result<Text, Status>
     ensures ok { IfOk result (λ text. meant.default_task store.now (option_copied task.entry) ≡ Ok text) }
     ensures err { IfErr result (λ status. IsRefusedAs status
         (meant.default_task store.now (option_copied task.entry))) }

@@ -45,7 +45,7 @@ fn graph_and_threads(alloc: Global, asked: &Asked) -> Result<(Graph, u32), Statu
 }
 
 /// The run of what is asked for.
-fn run_of(alloc: Global, asked: Asked) -> Result<Run, Status>
+pub(crate) fn run_of(alloc: Global, asked: Asked) -> Result<Run, Status>
     ensures asked { IfOk result (λ run. asked_meant run.asked ≡ asked_meant asked) }
     ensures ok { IfOk result (λ run. HasRun (asked_meant asked) run.graph run.threads) }
     ensures whole { IfOk result (λ run. HasRun (asked_meant run.asked) run.graph run.threads) }

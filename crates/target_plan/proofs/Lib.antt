@@ -4,3 +4,5 @@ pub mod OnePart
 pub mod Checking
 pub mod Ascending
 pub mod Pairs
+pub mod GoodParts
+pub mod Parts

@@ -30,7 +30,7 @@ use Rattle.answer_model.specs.Plans.{plan_under, HasPlan, IsPlanRefused, no_run,
 use Rattle.answer_model.specs.PlanLaws.{PlansAreBlind}
 
 -- texts stand for one number
-one_number : (text : List ℕ) (m n : ℕ) → AreThreads text m → AreThreads text n → m ≡ n
+pub one_number : (text : List ℕ) (m n : ℕ) → AreThreads text m → AreThreads text n → m ≡ n
 one_number text m n a b =
     let p = a.most in
     let q = b.most in

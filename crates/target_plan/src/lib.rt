@@ -10,6 +10,8 @@
 //! wanted, and that words which have one aren't refused.
 //! `ReadFault` comes only where the layers' count of faults rose, and want of memory alone is free. No file is changed.
 //!
+//! `find_part_plan` gives the plan of a part of a run of several configurations, and its refusals, in the same way (`Plans` of `multi_config`).
+//!
 //! The check stands in `soundness` (the plan as a whole), `differing` (no two tasks of one PN and name), `sound_task`, `sound_lines`
 //! and `sound_files` (a task at its number), and `fitting` (what the types of texts and lists promise of their lengths).
 #![tactic(auto)]
@@ -17,6 +19,7 @@
 mod differing;
 mod fitting;
 mod laws;
+mod part;
 mod plan;
 mod said;
 mod sound_files;
@@ -24,5 +27,6 @@ mod sound_lines;
 mod sound_task;
 mod soundness;
 
-pub use laws::plan_laws;
+pub use laws::{part_laws, plan_laws};
+pub use part::find_part_plan;
 pub use plan::find_plan;

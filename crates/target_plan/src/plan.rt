@@ -22,7 +22,7 @@ use task_plan::{forced_plan, plan};
 use tree_model::Text;
 
 /// The plan of a run.
-fn plan_of<L: Layers>(
+pub(crate) fn plan_of<L: Layers>(
     alloc: Global,
     layers: &mut L,
     found: &Run,

@@ -1,0 +1,4 @@
+pub mod Firsts
+pub mod Folders
+pub mod Loops
+pub mod Named
