@@ -107,29 +107,55 @@ for threads in 1 4 16; do
 done
 
 # A sync that fails, or is killed, while several tasks wait for it: the run ends with status 4 and says what the sync said; nothing that it told as ended
-# runs again, and the next run is Ok with the clean files.
+# runs again, and the next run is Ok with the clean files. One process makes all syncs; where the machine has no perl each has a process of its own.
 sync=$(readlink -f "$(command -v sync)")
+perl=$(readlink -f "$(PATH=/usr/sbin:/usr/bin:/sbin:/bin command -v perl || echo /dev/null)")
+
+# failing NAME END SAID MOUNTS: a run of all targets in which these programs stand in the place of others, `NAME PROGRAM` for each, and the sixth sync ends so.
+failing() {
+    rm -rf build "$room/syncs"
+    # shellcheck disable=SC2016,SC2086
+    unshare -rm sh -c 'while [ "$1" != -- ]; do mount --bind "$1" "$2" || exit 99; shift 2; done; shift; exec "$@"' sh $4 -- "$program" $all \
+        >"$room/first" 2>"$room/said" </dev/null
+    status=$?
+    if [ "$(cat "$room/syncs" 2>/dev/null | grep -c "")" -lt 6 ]; then
+        echo "skipped syncs that fail ($1): a file is durable at once here, so nobody waits for one"
+        return
+    fi
+    holds "$1: status 4 ($2)" test "$status" -eq 4 -a "$(tail -n 1 "$room/first")" = "fault 4 disk"
+    holds "$1: what it said ($2)" grep -q "^bitbake: disk: sync of build: $3" "$room/said"
+    holds "$1: the next run ($2)" behind_all
+    holds "$1: the clean files ($2)" diff -r "$room/clean" build/work
+    sed -n 's/^ended //p' "$room/first" | while read -r task; do grep -qx "started $task" "$room/text" && echo "$task"; done >"$room/again"
+    holds "$1: nothing runs again ($2)" test ! -s "$room/again"
+}
 if [ "$(stat -f -c %T .)" = tmpfs ]; then
     echo "skipped syncs that fail: in memory nobody waits for one"
 elif ! unshare -rm true 2>/dev/null; then
     echo "skipped syncs that fail: no other program can be put in the place of sync here"
 else
     cp -- "$sync" "$room/sync" || exit 1
-    for end in 'echo "sync: no more" >&2; exit 1' 'kill -9 $$'; do
-        printf '#!/bin/sh\necho >>"%s"\nif [ "$(grep -c "" "%s")" -eq 6 ]; then %s; fi\nexec "%s" "$@"\n' "$room/syncs" "$room/syncs" "$end" "$room/sync" >"$room/failing"
-        chmod +x "$room/failing" && rm -rf build "$room/syncs"
-        # shellcheck disable=SC2086
-        unshare -rm sh -c 'mount --bind "$1" "$2" && shift 2 && exec "$@"' sh "$room/failing" "$sync" "$program" $all >"$room/first" 2>"$room/said" </dev/null
-        status=$?
-        if [ "$(cat "$room/syncs" 2>/dev/null | grep -c "")" -lt 6 ]; then
-            echo "skipped syncs that fail: a file is durable at once here, so nobody waits for one"
-            break
-        fi
-        holds "a sync that fails: status 4 ($end)" test "$status" -eq 4 -a "$(tail -n 1 "$room/first")" = "fault 4 disk"
-        holds "a sync that fails: what it said ($end)" grep -q '^bitbake: disk: sync of build: sync -f failed' "$room/said"
-        holds "a sync that fails: the next run ($end)" behind_all
-        holds "a sync that fails: the clean files ($end)" diff -r "$room/clean" build/work
-        sed -n 's/^ended //p' "$room/first" | while read -r task; do grep -qx "started $task" "$room/text" && echo "$task"; done >"$room/again"
-        holds "a sync that fails: nothing runs again ($end)" test ! -s "$room/again"
-    done
+    without_perl=
+    [ "$perl" = /dev/null ] || without_perl="/dev/null $perl"
+    # $1 is what stands at the sixth sync, in place of one.
+    each() {
+        printf '#!/bin/sh\necho >>"%s"\nif [ "$(grep -c "" "%s")" -eq 6 ]; then %s; fi\nexec "%s" "$@"\n' "$room/syncs" "$room/syncs" "$1" "$room/sync" >"$room/failing"
+        chmod +x "$room/failing"
+    }
+    one() {
+        printf '#!/bin/sh\nwhile read -r _; do echo >>"%s"; if [ "$(grep -c "" "%s")" -eq 6 ]; then %s; else "%s" -f "$3" && echo; fi; done\n' "$room/syncs" "$room/syncs" "$1" "$room/sync" >"$room/syncer"
+        chmod +x "$room/syncer"
+    }
+    each 'echo "sync: no more" >&2; exit 1'
+    failing "a sync that fails" "status 1" "sync -f failed: sync: no more" "$without_perl $room/failing $sync"
+    # shellcheck disable=SC2016
+    each 'kill -9 $$'
+    failing "a sync that fails" "killed" "sync -f failed" "$without_perl $room/failing $sync"
+    if [ "$perl" != /dev/null ]; then
+        one 'echo no more'
+        failing "a sync of the one process that fails" "no more" "syncfs failed: no more" "$room/syncer $perl"
+        # shellcheck disable=SC2016
+        one 'kill -9 $$'
+        failing "a sync of the one process that fails" "killed" "the process that syncs has ended" "$room/syncer $perl"
+    fi
 fi

@@ -12,6 +12,7 @@ mod faults;
 mod folder;
 mod lock;
 mod own;
+mod syncer;
 mod syncs;
 mod walk;
 
@@ -23,5 +24,6 @@ pub use folder::{
 };
 pub use lock::{BENCHES_FOLDER, LOCK, Locking, ScriptLock, lock_at};
 pub use own::{Identity, SYSTEM_PATH, clear_own, is_own, make_own, remove_place};
+pub use syncer::Syncer;
 pub use syncs::{Syncing, Syncs};
 pub use walk::{Found, Item, Part, WalkFault, list_items, walk_noting, walk_output, walk_part};

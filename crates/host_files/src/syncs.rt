@@ -2,25 +2,37 @@
 use crate::faults::{is_memory, put_escaped};
 use crate::lock::{BENCHES_FOLDER, Locking};
 use crate::own::{SYSTEM_PATH, make_own};
+use crate::syncer::Syncer;
 use std::alloc::Global;
+use std::fs::OpenOptions;
 use std::io;
 use std::io::ErrorKind;
 use std::process::{Command, Stdio};
 use std::rt::Files;
-use std::sync::OnceLock;
 use std::sync::atomic::{AtomicU64, Ordering};
+use std::sync::{Mutex, OnceLock};
 
 /// The file whose lock who syncs has, from the current folder.
 const LOCK: &str = "build/bench/sync.lock";
 
+/// The folder whose file system is synced, from the current folder.
+const SYNCED: &str = "build";
+
 /// A runtime that can write all out that stands on a file system.
 pub trait Syncing {
+    /// Starts a process that does so as often as it is asked to. `None` where the machine has no such program.
+    fn start_syncer(&self, folder: &str) -> io::Result<Option<Syncer>>;
+
     /// Writes all out to the disk that stands on the file system of a folder, as `sync -f` does, and waits for it. `false` where the
     /// machine has no such program.
     fn sync_all_of(&self, folder: &str) -> io::Result<bool>;
 }
 
 impl Syncing for HostRuntime {
+    fn start_syncer(&self, folder: &str) -> io::Result<Option<Syncer>> {
+        Syncer::start(self, folder)
+    }
+
     fn sync_all_of(&self, folder: &str) -> io::Result<bool> {
         let mut command = Command::new(self.alloc(), "sync")?;
         command.env_clear();
@@ -48,8 +60,33 @@ fn error_of(alloc: Global, words: &[u8]) -> io::Result<io::Error> {
     Ok(io::Error::new(ErrorKind::Other, said.as_str()))
 }
 
+/// Whether the folder can be opened, as who syncs its file system has to.
+fn may_sync<R: Files>(rt: &R) -> bool {
+    OpenOptions::new().read(true).open(rt, SYNCED).is_ok()
+}
+
+/// A process that makes syncs, which has made the first one. `None` where none can be started, or where it ended without an answer. What it was told of what
+/// couldn't be written nobody is told again, so that is an error.
+fn first_sync<R: Syncing + AllocGlobal>(rt: &R) -> io::Result<Option<Syncer>> {
+    match rt.start_syncer(SYNCED) {
+        Ok(Some(syncer)) => with_first(rt.alloc(), syncer),
+        _ => Ok(None),
+    }
+}
+
+/// The process behind its first sync.
+fn with_first(alloc: Global, mut syncer: Syncer) -> io::Result<Option<Syncer>> {
+    match syncer.sync(alloc) {
+        Ok(()) => Ok(Some(syncer)),
+        Err(error) if error.kind() == ErrorKind::UnexpectedEof => Ok(None),
+        Err(error) => Err(error),
+    }
+}
+
 /// The syncs of a run, which its disk and its benches share. They go one after the other: what one of them is told of what couldn't be
 /// written, no other is told, and nobody relies on one that began before it was asked for.
+///
+/// One process makes them all, where the machine has a program that can; else each has a process of its own.
 #[derive(Drop)]
 pub struct Syncs {
     /// How many asked so far.
@@ -60,6 +97,22 @@ pub struct Syncs {
 
     /// Why the first that failed did.
     failure: OnceLock<String>,
+
+    /// What makes them. Only who syncs takes it.
+    means: Mutex<Means>,
+}
+
+/// What makes syncs.
+#[derive(Drop)]
+enum Means {
+    /// Nothing was tried yet.
+    Unknown,
+
+    /// This process.
+    One(Syncer),
+
+    /// A process for each.
+    Each,
 }
 
 impl Syncs {
@@ -69,6 +122,7 @@ impl Syncs {
             asked: AtomicU64::new(0),
             served: AtomicU64::new(0),
             failure: OnceLock::new(),
+            means: Mutex::new(Means::Unknown),
         }
     }
 
@@ -102,11 +156,32 @@ impl Syncs {
             return Ok(true);
         }
         let asked = self.asked.load(Ordering::SeqCst);
-        if !rt.sync_all_of("build")? {
+        if !may_sync(rt) || !self.sync_now(rt)? {
             return Ok(false);
         }
         self.served.store(asked, Ordering::SeqCst);
         Ok(true)
+    }
+
+    /// Syncs, and waits for it. `false` where the machine has no program for that.
+    fn sync_now<R: Syncing + AllocGlobal>(&self, rt: &R) -> io::Result<bool> {
+        let Some(mut means) = self.means.try_lock() else {
+            return rt.sync_all_of(SYNCED);
+        };
+        match &mut *means {
+            Means::One(syncer) => {
+                syncer.sync(rt.alloc())?;
+                return Ok(true);
+            }
+            Means::Each => return rt.sync_all_of(SYNCED),
+            Means::Unknown => {}
+        }
+        *means = Means::Each;
+        if let Some(syncer) = first_sync(rt)? {
+            *means = Means::One(syncer);
+            return Ok(true);
+        }
+        rt.sync_all_of(SYNCED)
     }
 
     /// Keeps why a sync failed, if it is the first.

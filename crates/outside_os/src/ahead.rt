@@ -1,6 +1,6 @@
 // What is read of a disk before its first call.
 use crate::disk::{ROOT, part_of};
-use crate::limits::{RECORDS, STAMPS, is_beyond};
+use crate::limits::{RECORDS, is_beyond};
 use crate::listed::Listing;
 use host_files::{list_items, put_joined};
 use std::alloc::Global;
@@ -12,7 +12,7 @@ use tree_model::{Entry, Text};
 /// The most bytes that are read ahead of a part.
 const MOST: u64 = 268_435_456;
 
-/// What stands under `rec/` and `stamp/`, of which opening a store reads each, read in a thread of its own while the metadata is read. A disk that had its lock
+/// What stands under `rec/`, all of which opening a store reads, read in a thread of its own while the metadata is read. A disk that had its lock
 /// before (`FolderDisk::hold_early`) answers from it, until it changes anything: with the lock held nothing else does.
 ///
 /// Nothing is waited for. What isn't there when it is asked for the disk reads by itself, and what can't be read ahead is
@@ -20,7 +20,6 @@ const MOST: u64 = 268_435_456;
 #[derive(Drop)]
 pub struct ReadAhead {
     records: OnceLock<Listing>,
-    stamps: OnceLock<Listing>,
     stopped: OnceLock<()>,
 }
 
@@ -29,18 +28,14 @@ impl ReadAhead {
     pub fn none() -> Self {
         ReadAhead {
             records: OnceLock::new(),
-            stamps: OnceLock::new(),
             stopped: OnceLock::new(),
         }
     }
 
-    /// Reads both parts, until it is to stop.
+    /// Reads the files under `rec/`, until it is to stop.
     pub fn read<R: Files + AllocGlobal>(&self, rt: &R) {
         if let Ok(Some(listing)) = self.part(rt, RECORDS) {
             let _ = self.records.try_set(listing);
-        }
-        if let Ok(Some(listing)) = self.part(rt, STAMPS) {
-            let _ = self.stamps.try_set(listing);
         }
     }
 
@@ -59,11 +54,10 @@ impl ReadAhead {
 
     /// What was read of a part. Where that isn't all of it yet, no more is read.
     pub(crate) fn listing(&self, prefix: &str) -> Option<&Listing> {
-        let found = match prefix {
-            RECORDS => self.records.get(),
-            STAMPS => self.stamps.get(),
-            _ => return None,
-        };
+        if prefix != RECORDS {
+            return None;
+        }
+        let found = self.records.get();
         if found.is_none() {
             self.stop();
         }

@@ -8,7 +8,7 @@ use tree_model::{Bytes, Entry};
 pub const RECORDS: &str = "rec/";
 
 /// Where the stamps stand.
-pub const STAMPS: &str = "stamp/";
+const STAMPS: &str = "stamp/";
 
 /// More bytes than a record has: a task's key is no longer than those of a plan together, 268,435,456 bytes, and what a record
 /// has besides is shorter by far.

@@ -16,6 +16,7 @@ use outside_traits::{Bench, BenchFault, Taken};
 use std::alloc::{AllocError, Global};
 use std::fs::{File, FileTimes, Permissions};
 use std::io::ErrorKind;
+use std::mem::take;
 use std::os::unix::fs::PermissionsExt;
 use std::process::Processes;
 use std::rt::{Env, Files};
@@ -71,8 +72,9 @@ struct Site<'a, R: Processes> {
     number: u32,
     sandboxes: &'a Sandboxes,
 
-    /// The place of the task's work.
+    /// The place of the task's work, and whether it is clear, since nothing was laid there and nothing ran behind its last clearing.
     place: Option<Place>,
+    is_clear: bool,
 
     /// The sandbox, which is that of the place.
     sandbox: Option<Supervisor<R::Started>>,
@@ -157,6 +159,7 @@ impl<
             number,
             sandboxes,
             place: None,
+            is_clear: false,
             sandbox: None,
             left: None,
         };
@@ -247,7 +250,9 @@ impl<'a, R: Files<File = File> + Env + Processes + Clock + AllocGlobal + Clone +
             self.place = None;
             self.place = Some(Place::of_task(&self.rt, recipe, task)?);
         }
+        let is_clear = take(&mut self.is_clear);
         match &mut self.place {
+            Some(place) if is_clear => place.check(&self.rt),
             Some(place) => place.clear(&self.rt),
             None => Err(was_never_cleared()),
         }
@@ -338,12 +343,15 @@ impl<'a, R: Files<File = File> + Env + Processes + Clock + AllocGlobal + Clone +
         }
     }
 
-    /// Takes the folder of a task away, where it has no sandbox.
+    /// Clears the place behind a task, or takes it away where it has no sandbox: before its output is made durable, so that what isn't wanted any more
+    /// need not be written to the disk. Where it can't be cleared the next task finds out.
     fn leave(&mut self) {
-        if self.sandbox.is_none() {
-            if let Some(place) = self.place.take() {
-                place.remove(&self.rt);
+        if self.sandbox.is_some() {
+            if let Some(place) = &mut self.place {
+                self.is_clear = place.clear(&self.rt).is_ok();
             }
+        } else if let Some(place) = self.place.take() {
+            place.remove(&self.rt);
         }
     }
 

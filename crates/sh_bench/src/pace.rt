@@ -7,20 +7,28 @@ use std::process::Processes;
 use std::rt::Files;
 use std::time::{Clock, Duration};
 
-/// Up to so many microseconds waiting for a sync of all that stands on the file system would take longer, since a process is started for it.
-const SOON: u64 = 100;
+/// What is durable within so many microseconds stands in memory, and not on a disk.
+const SOON: u64 = 20;
 
-/// Whether a small file, which is written here and goes again, is durable that soon: so it is in memory, and not on a disk.
+/// How often it is tried: the least counts, since other threads may be at work.
+const TRIES: u32 = 3;
+
+/// Whether a small file, which is written here and goes again, is durable that soon.
 pub fn is_soon<R: Files<File = File> + Processes + Clock + AllocGlobal + Clone + Drop>(
     rt: &R,
     number: u32,
 ) -> io::Result<bool> {
     make_own(rt, BENCHES_FOLDER)?;
     let path = format!(in rt.alloc(); "{BENCHES_FOLDER}/{number}.pace")?;
-    remove_place(rt, path.as_str())?;
-    let spent = time_of(rt, path.as_str())?;
-    remove_place(rt, path.as_str())?;
-    Ok(spent <= Duration::from_micros(SOON))
+    for _ in 0..TRIES {
+        remove_place(rt, path.as_str())?;
+        let spent = time_of(rt, path.as_str())?;
+        remove_place(rt, path.as_str())?;
+        if spent <= Duration::from_micros(SOON) {
+            return Ok(true);
+        }
+    }
+    Ok(false)
 }
 
 /// How long it takes until a new file of one byte is durable.
