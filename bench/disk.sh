@@ -3,6 +3,7 @@
 # best of some runs; a disk that others use too is slower by what they do, so each aim stands beside what `sync -f` takes in the same minute.
 # - small tasks (one `echo`, one file), with 4 and with 16 threads: a task more than in memory, against three `sync -f`; and by hand, with
 #   ninja, each script behind a `sync -f` of its own
+# - 500 objects restored, against their copying by hand
 # - a chain of 101 of them
 # - 5,000 small files through six tasks
 # - a task of 16,384 files and 32 MiB, and again with one file changed; and, while it is published, the longest time in which no other task ended
@@ -146,6 +147,31 @@ if command -v ninja >/dev/null; then
     echo "ninja -j 4, a sync -f each: $((took / 1000)) ms"
 fi
 fresh() { :; }
+
+# Tasks whose outputs are there as shared state objects, restored; and as many folders copied by hand, made durable by one sync.
+objects() {
+    small "$1" 4
+    printf 'SSTATETASKS = "do_build"\n' >>"$1/classes/small.bbclass"
+}
+tasks_before=$tasks
+tasks=500
+twice objects objects
+for place in "$scratch" "$disk"; do
+    clock in_folder "$place/objects" "$program" all
+    fresh() { rm -rf "$place/objects/build/work" "$place/objects/build/stamp"; sync -f "$place"; }
+    least 3 in_folder "$place/objects" "$program" all
+    if [ "$place" = "$scratch" ]; then in_memory=$took; fi
+done
+on_disk=$took
+fresh() { rm -rf "$disk/copy"; sync -f "$disk"; }
+copied() {
+    cp -r "$disk/objects/build/work" "$disk/copy" && sync -f "$disk"
+}
+least 3 copied
+fresh() { :; }
+echo "500 objects restored: $((on_disk / 1000)) ms on the disk, $((in_memory / 1000)) ms in memory; copied by hand: $((took / 1000)) ms"
+aim '500 objects restored' 'v1 <= 2 * v2' "$on_disk" "$took"
+tasks=$tasks_before
 
 # A chain, where nothing can be done beside anything else.
 chain() {

@@ -111,14 +111,15 @@ done
 sync=$(readlink -f "$(command -v sync)")
 perl=$(readlink -f "$(PATH=/usr/sbin:/usr/bin:/sbin:/bin command -v perl || echo /dev/null)")
 
-# failing NAME END SAID MOUNTS: a run of all targets in which these programs stand in the place of others, `NAME PROGRAM` for each, and the sixth sync ends so.
+# failing NAME END SAID MOUNTS NTH: a run of all targets in which these programs stand in the place of others, `PROGRAM NAME` for each, and the sync of this
+# number ends so.
 failing() {
     rm -rf build "$room/syncs"
     # shellcheck disable=SC2016,SC2086
     unshare -rm sh -c 'while [ "$1" != -- ]; do mount --bind "$1" "$2" || exit 99; shift 2; done; shift; exec "$@"' sh $4 -- "$program" $all \
         >"$room/first" 2>"$room/said" </dev/null
     status=$?
-    if [ "$(cat "$room/syncs" 2>/dev/null | grep -c "")" -lt 6 ]; then
+    if [ "$(cat "$room/syncs" 2>/dev/null | grep -c "")" -lt "$5" ]; then
         echo "skipped syncs that fail ($1): a file is durable at once here, so nobody waits for one"
         return
     fi
@@ -137,25 +138,29 @@ else
     cp -- "$sync" "$room/sync" || exit 1
     without_perl=
     [ "$perl" = /dev/null ] || without_perl="/dev/null $perl"
-    # $1 is what stands at the sixth sync, in place of one.
+    # $1 is what stands in place of the sync whose number is $2.
     each() {
-        printf '#!/bin/sh\necho >>"%s"\nif [ "$(grep -c "" "%s")" -eq 6 ]; then %s; fi\nexec "%s" "$@"\n' "$room/syncs" "$room/syncs" "$1" "$room/sync" >"$room/failing"
+        printf '#!/bin/sh\necho >>"%s"\nif [ "$(grep -c "" "%s")" -eq %s ]; then %s; fi\nexec "%s" "$@"\n' "$room/syncs" "$room/syncs" "$2" "$1" "$room/sync" >"$room/failing"
         chmod +x "$room/failing"
     }
     one() {
-        printf '#!/bin/sh\nwhile read -r _; do echo >>"%s"; if [ "$(grep -c "" "%s")" -eq 6 ]; then %s; else "%s" -f "$3" && echo; fi; done\n' "$room/syncs" "$room/syncs" "$1" "$room/sync" >"$room/syncer"
+        printf '#!/bin/sh\nwhile read -r _; do echo >>"%s"; if [ "$(grep -c "" "%s")" -eq %s ]; then %s; else "%s" -f "$3" && echo; fi; done\n' "$room/syncs" "$room/syncs" "$2" "$1" "$room/sync" >"$room/syncer"
         chmod +x "$room/syncer"
     }
-    each 'echo "sync: no more" >&2; exit 1'
-    failing "a sync that fails" "status 1" "sync -f failed: sync: no more" "$without_perl $room/failing $sync"
+    each 'echo "sync: no more" >&2; exit 1' 6
+    failing "a sync that fails" "status 1" "sync -f failed: sync: no more" "$without_perl $room/failing $sync" 6
     # shellcheck disable=SC2016
-    each 'kill -9 $$'
-    failing "a sync that fails" "killed" "sync -f failed" "$without_perl $room/failing $sync"
+    each 'kill -9 $$' 6
+    failing "a sync that fails" "killed" "sync -f failed" "$without_perl $room/failing $sync" 6
     if [ "$perl" != /dev/null ]; then
-        one 'echo no more'
-        failing "a sync of the one process that fails" "no more" "syncfs failed: no more" "$room/syncer $perl"
+        one 'echo no more' 6
+        failing "a sync of the one process that fails" "no more" "syncfs failed: no more" "$room/syncer $perl" 6
         # shellcheck disable=SC2016
-        one 'kill -9 $$'
-        failing "a sync of the one process that fails" "killed" "the process that syncs has ended" "$room/syncer $perl"
+        one 'kill -9 $$' 6
+        failing "a sync of the one process that fails" "killed" "the process that syncs has ended" "$room/syncer $perl" 6
+        one 'echo no more' 1
+        failing "a first sync of the one process that fails" "no more" "syncfs failed: no more" "$room/syncer $perl" 1
+    else
+        echo "skipped syncs of one process: perl isn't installed"
     fi
 fi
