@@ -16,7 +16,7 @@ mod written;
 pub use ends::{count_found, count_started, end_text, push_count, some_failed};
 pub use events::write_event;
 pub use fault::fault_text;
-pub use plans::{dry_text, plan_text};
+pub use plans::{dry_text, plan_text, push_label, push_needs};
 pub use values::{env_text, recipe_line};
 pub use versions::{parsed_text, versions_text};
 pub use written::write_all;

@@ -8,7 +8,7 @@ use std::alloc::Global;
 use tree_model::{Mem, Text};
 
 /// Puts a task at the end, as it is written.
-pub(crate) fn push_label(made: &mut Text, id: &TaskId) -> Result<(), Mem>
+pub fn push_label(made: &mut Text, id: &TaskId) -> Result<(), Mem>
     ensures { OnOk result (made.new ≡ made.old ++ texts.task_label id.now) }
 {
     made.push_str(id.pn.as_str())?;
@@ -73,8 +73,8 @@ fn push_all_needs(made: &mut Text, tasks: &[PlanTask], deps: &[u32]) -> Result<(
     Ok(())
 }
 
-/// Puts what a task needs directly at the end.
-fn push_needs(made: &mut Text, tasks: &[PlanTask], deps: &[u32]) -> Result<(), Mem>
+/// Puts the word `needs` and the tasks with these numbers at the end, each behind a blank; nothing where there is none.
+pub fn push_needs(made: &mut Text, tasks: &[PlanTask], deps: &[u32]) -> Result<(), Mem>
     ensures { OnOk result (made.new ≡ made.old ++ texts.needs_text tasks.now deps.now) }
 {
     match deps {

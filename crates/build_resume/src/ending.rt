@@ -24,7 +24,7 @@ use std::alloc::Global;
 use tree_model::{Mem, Text};
 
 /// A fault of the store, as a status.
-pub(crate) fn status_of_store(fault: StoreFault) -> Status
+pub fn status_of_store(fault: StoreFault) -> Status
     ensures { result ≡ status_of fault }
 {
     match fault {

@@ -34,5 +34,6 @@ mod laws;
 mod running;
 mod workers;
 
+pub use ending::status_of_store;
 pub use laws::entry_laws;
 pub use running::{Outcome, build, build_unready};

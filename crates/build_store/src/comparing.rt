@@ -31,13 +31,10 @@ pub(crate) fn compare_row(alloc: Global, row: &EquivRow, sig: &[u8]) -> Result<(
     })
 }
 
-/// Compares a signature with that of the row of its name, if there is one.
-pub(crate) fn compare_at(
-    alloc: Global,
-    index: &Index,
-    name: &Hash,
-    sig: &[u8],
-) -> Result<(), StoreFault>
+/// Compares a signature with that of the row of its name, if there is one. It looks at the rows alone.
+///
+/// `Collision` comes exactly where that row has another signature.
+pub fn compare_at(alloc: Global, index: &Index, name: &Hash, sig: &[u8]) -> Result<(), StoreFault>
     requires { AllByRecursion IsRow index.now }
     ensures clear { OnOk result (IsClear index.now name.now sig.now) }
     ensures refused { IfErr result (IsClash index.now name.now sig.now) }

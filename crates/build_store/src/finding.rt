@@ -233,8 +233,11 @@ fn available_at<D: Disk>(
     }
 }
 
-/// How the output of a task is there, by the row of its signature's name.
-pub(crate) fn available<D: Disk>(
+/// How the output of a task is there, by the row of its signature's name: in its work folder, else, where shared state objects count, as an object.
+/// Nothing changes.
+///
+/// `Collision` comes exactly where that row has another signature.
+pub fn available<D: Disk>(
     alloc: Global,
     disk: &mut D,
     index: &Index,

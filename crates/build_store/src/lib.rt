@@ -36,6 +36,8 @@
 //! `Pieces` and `Ending`: each call is a publication at each moment (`pieces_publish`), its steps lead to folders that hold exactly the tree
 //! (`steps_lead_on`), and tickets in place of syncs to a stamp that never lies (`phases_lead_on`).
 //!
+//! `available` and `compare_at` answer for a disk and the rows of an index that are no store, as for one that is only looked at.
+//!
 //! `known_name` gives for a PN and the bytes of a signature the name of every signature with these bytes, where it knows one; that it does
 //! isn't promised. `into_disk` gives the disk back, which in every image holds the records of all rows.
 //!
@@ -68,7 +70,9 @@ mod store;
 mod tasks;
 mod working;
 
+pub use comparing::compare_at;
 pub use fault::StoreFault;
+pub use finding::available;
 pub use kept::KeptSig;
 pub use laws::{
     open_ones_stay, others_stay, phases_lead_on, pieces_publish, published_is_valid, steps_lead_on,

@@ -55,6 +55,9 @@ const LONG: u64 = 4000;
 /// until it changes anything. Where somebody removes such a folder by hand, a write into it is a fault; where somebody
 /// makes a listed file longer, its first bytes are read.
 ///
+/// One that was made by `reading` only looks: it takes no lock, makes and opens up nothing, and refuses each call that would change anything. What another process
+/// changes meanwhile it may see in part.
+///
 /// Many changed files and folders are made durable at once, by a sync of the file system of `build`, where by what the last syncs took each
 /// by itself would take longer, all folders that were come by stand on that one, and the machine has a program for it; else each by itself.
 #[derive(Drop)]
@@ -77,6 +80,9 @@ struct BuildFolder<'a, R> {
 
     /// The locked file.
     lock: Option<File>,
+
+    /// Whether this object only looks.
+    is_reading: bool,
 
     /// Whether this object has changed anything, which a file says for a later process.
     is_marked: bool,
@@ -124,6 +130,20 @@ impl<'a, R: AllocGlobal> FolderDisk<'a, R> {
     pub fn new(rt: R, syncs: &'a Syncs) -> Self
         ensures { result.faults ≡ 0 }
     {
+        FolderDisk::of(rt, syncs, false)
+    }
+
+    /// The folder as it is, without a fault so far, as one that is only looked at.
+    pub fn reading(rt: R, syncs: &'a Syncs) -> Self
+        ensures { result.faults ≡ 0 }
+    {
+        FolderDisk::of(rt, syncs, true)
+    }
+
+    /// The folder, without a fault or a change so far.
+    fn of(rt: R, syncs: &'a Syncs, is_reading: bool) -> Self
+        ensures { result.faults ≡ 0 }
+    {
         let changed = BTreeMap::new(rt.alloc());
         let settled = BTreeSet::new(rt.alloc());
         let emptied = BTreeSet::new(rt.alloc());
@@ -136,6 +156,7 @@ impl<'a, R: AllocGlobal> FolderDisk<'a, R> {
                 syncs,
                 calls: 0,
                 lock: None,
+                is_reading,
                 is_marked: false,
                 emptied,
                 changed,
@@ -214,12 +235,12 @@ impl<'a, R: AllocGlobal> FolderDisk<'a, R> {
         }
     }
 
-    /// Keeps what is said of a fault. Without the lock nothing else was tried.
+    /// Keeps what is said of a fault. Without the lock, where that is to be taken, nothing else was tried.
     fn note(&mut self, call: &str, path: &str, error: &io::Error)
         ensures { self.new.faults ≡ self.old.faults }
     {
         let alloc = self.folder.rt.alloc();
-        if self.folder.lock.is_none() {
+        if self.folder.lock.is_none() && !self.folder.is_reading {
             self.first.keep(alloc, "lock", LOCK, error);
         } else if let Ok(place) = join(alloc, ROOT, path) {
             self.first.keep(alloc, call, place.as_str(), error);
@@ -337,9 +358,9 @@ impl<R: Files + Clock + Locking + Syncing + AllocGlobal + Clone + Drop> Disk for
 }
 
 impl<'a, R: Files + Clock + Locking + Syncing + AllocGlobal + Clone + Drop> BuildFolder<'a, R> {
-    /// Takes the lock of a run, unless this object has it.
+    /// Takes the lock of a run, unless this object has it or only looks.
     fn hold(&mut self) -> io::Result<()> {
-        if self.lock.is_none() {
+        if self.lock.is_none() && !self.is_reading {
             make_own(&self.rt, BENCHES_FOLDER)?;
             self.lock = Some(self.rt.take_lock(LOCK)?);
         }
@@ -347,7 +368,7 @@ impl<'a, R: Files + Clock + Locking + Syncing + AllocGlobal + Clone + Drop> Buil
     }
 
     /// Where a call at a path was refused since this user may not make it, opens up the folders above the path, and says whether
-    /// the call is to be made again.
+    /// the call is to be made again. Where this object only looks they aren't.
     fn opened_for<T>(&self, done: &io::Result<T>, path: &str) -> bool {
         match done {
             Err(error) => is_denied(error) && self.opens_above(path),
@@ -363,8 +384,11 @@ impl<'a, R: Files + Clock + Locking + Syncing + AllocGlobal + Clone + Drop> Buil
         }
     }
 
-    /// Opens up the folders above a path, and those above the lock.
+    /// Opens up the folders above a path, and those above the lock, unless this object only looks.
     fn opens_above(&self, path: &str) -> bool {
+        if self.is_reading {
+            return false;
+        }
         let lock = open_above(&self.rt, ROOT, "bench/lock").is_ok();
         open_above(&self.rt, ROOT, path).is_ok() && lock
     }
@@ -411,8 +435,11 @@ impl<'a, R: Files + Clock + Locking + Syncing + AllocGlobal + Clone + Drop> Buil
     }
 
     /// Takes the lock, and forgets what was listed and read ahead, since something changes. Before the first change all is made durable that
-    /// an earlier process may have left unsynced, so that what is held is on the disk for good.
+    /// an earlier process may have left unsynced, so that what is held is on the disk for good. An error where this object only looks.
     fn begin_change(&mut self) -> io::Result<()> {
+        if self.is_reading {
+            return Err(io::Error::from(ErrorKind::Unsupported));
+        }
         self.hold()?;
         self.listed.forget();
         self.ahead = None;
@@ -510,10 +537,11 @@ impl<'a, R: Files + Clock + Locking + Syncing + AllocGlobal + Clone + Drop> Buil
         }
         self.listed.forget();
         let mut paths = Texts::new(alloc);
-        for item in walk_part(&self.rt, &part_of(prefix), u64::MAX)?
-            .into_iter()
-            .flatten()
-        {
+        let part = Part {
+            mends: !self.is_reading,
+            ..part_of(prefix)
+        };
+        for item in walk_part(&self.rt, &part, u64::MAX)?.into_iter().flatten() {
             self.listed.put(item.path.as_str(), item.facts)?;
             paths.push(item.path)?;
         }

@@ -28,4 +28,4 @@ pub use laws::{Meaning, names_law, need_law, settling_law};
 pub use names::hashes;
 pub use probe::{Probe, ProbeFault};
 pub use replan::Replan;
-pub use sweep::needed;
+pub use sweep::{add_all, add_forced, needed};

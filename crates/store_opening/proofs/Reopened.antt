@@ -184,14 +184,19 @@ opened_is_valid before after rows opened gives reading book valid readable = rec
 
 -- ---- one way
 
+-- what is held decides the rows of its believed records, and their order
+pub rows_one_way : (held : Store) (candidates others : List Candidate) (places elsewhere : List ℕ) → AreFound held candidates → AreFound held others → AreBelieved candidates places → AreBelieved others elsewhere → rows_at candidates places ≡ rows_at others elsewhere
+rows_one_way held candidates others places elsewhere one two believed again =
+    let same : candidates ≡ others = one_list candidates others one.ascend two.ascend
+    (λ c among. two.whole c (each_at (IsRecordFile held) candidates among.0 c one.each among.1))
+    (λ c among. one.whole c (each_at (IsRecordFile held) others among.0 c two.each among.1)) in
+    let here : AreBelieved candidates elsewhere = subst (λ cs. AreBelieved cs elsewhere) (sym same) again in
+    let order : places ≡ elsewhere = order_is_one candidates one.ascend places elsewhere believed here in
+    ap (rows_at candidates) order ∙ ap (λ cs. rows_at cs elsewhere) same
+
 pub opened_one_way : OpenedOneWay
 opened_one_way before after other rows others one two =
-    let same : one.candidates ≡ two.candidates = one_list one.candidates two.candidates one.found.ascend two.found.ascend
-    (λ c among. two.found.whole c (each_at (IsRecordFile before) one.candidates among.0 c one.found.each among.1))
-    (λ c among. one.found.whole c (each_at (IsRecordFile before) two.candidates among.0 c two.found.each among.1)) in
-    let believed : AreBelieved one.candidates two.places = subst (λ cs. AreBelieved cs two.places) (sym same) two.believed in
-    let places : one.places ≡ two.places = order_is_one one.candidates one.found.ascend one.places two.places one.believed believed in
-    one.rows_are ∙ ap (rows_at one.candidates) places ∙ ap (λ cs. rows_at cs two.places) same ∙ sym two.rows_are
+    one.rows_are ∙ rows_one_way before one.candidates two.candidates one.places two.places one.found two.found one.believed two.believed ∙ sym two.rows_are
 
 pub opened_holds_no_more : OpenedHoldsNoMore
 opened_holds_no_more before after rows opened q entry is = by (opened.only q (ap is_some is))

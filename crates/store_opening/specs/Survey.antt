@@ -191,6 +191,10 @@ pub record IsRecordSurvey (held : Store) (rows : List EquivRow) (doomed : List (
   pub whole : (path : List ℕ) → IsSome (held (inside (codes "rec") path)) → Contains doomed (inside (codes "rec") path) ⊎ IsLeft held (inside (codes "rec") path)
   pub bare_are : AreBare candidates bare
 
+-- the rows are those of the believed records
+abbrev pub AreJudged : Store → List EquivRow → Type 0
+AreJudged held rows = (doomed : List (List ℕ)) × (bare : List Bare) × IsRecordSurvey held rows doomed bare
+
 -- ... wherever these files are all that stands there
 pub record IsSurveyOf (files : List HeldFile) (rows : List EquivRow) (doomed : List (List ℕ)) (bare : List Bare) : Type 0 where
   pub are_rows : AllByRecursion IsRow rows

@@ -19,10 +19,13 @@
 //! What the files under `rec/` say another thread may have worked out before (`Known`, `Ahead`): that counts only where opening reads just these
 //! files, so whatever was left there, no clause is another.
 //!
+//! `judge_disk` gives the rows that opening would give, and changes nothing: neither what is held nor any image. It calls `list` and `read` of the disk alone.
+//!
 //! Want of memory is free. (The Yocto Project Overview and Concepts Manual, "Shared State Cache"; formats and protocol are own rules.)
 #![tactic(auto)]
 
 mod bare;
+mod judged;
 mod judging;
 mod known;
 mod laws;
@@ -31,6 +34,7 @@ mod places;
 mod records;
 mod survey;
 
+pub use judged::judge_disk;
 pub use judging::add_new;
 pub use known::{Ahead, Known};
 pub use laws::{opened_has_way, opened_is_valid, opened_stays, reuse_again};

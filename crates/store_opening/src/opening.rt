@@ -31,7 +31,11 @@ fn known_or_survey(alloc: Global, files: &[(Text, Entry)], ahead: &Ahead) -> Res
 }
 
 /// What the records of a disk say.
-fn survey_records<D: Disk>(alloc: Global, disk: &mut D, ahead: &Ahead) -> Result<Survey, DiskFault>
+pub(crate) fn survey_records<D: Disk>(
+    alloc: Global,
+    disk: &mut D,
+    ahead: &Ahead,
+) -> Result<Survey, DiskFault>
     ensures survey { D.tells → IfOk result (λ survey. IsRecordSurvey (D.story disk.old).held survey.index
         survey.doomed.items survey.bare.items) }
     ensures rows { IfOk result (λ survey. AllByRecursion IsRow survey.index) }
