@@ -3,7 +3,8 @@
 #
 # Names are those of `bitbake -s` in the current folder, kept for ten seconds; tasks are those of the recipe that `-n` plans, and its functions
 # do_.. that `-e` prints. A project that is refused has none. Where no target is typed yet, tasks are those of all lines `addtask`. A task may be
-# typed without its do_. Nothing is built for it.
+# typed without its do_. Behind `mc:` come the configurations that BBMULTICONFIG names, and behind one of these recipes and tasks as the default one has
+# them. Nothing is built for it.
 
 # What the program prints in the current folder.
 _bitbake_asks() {
@@ -18,6 +19,12 @@ _bitbake_names() {
         _bitbake_until=$((SECONDS + 10))
     fi
     found=$_bitbake_kept
+}
+
+# Sets `found` to the names of the configurations, each with its colon.
+_bitbake_configs() {
+    found=$(_bitbake_asks -e | sed -n 's/^BBMULTICONFIG="\(.*\)"$/\1/p' | sed 's/\\[a-z]/ /g' | tr -s ' ' '\n' |
+        sed -n 's/^\([A-Za-z0-9_-][A-Za-z0-9_-]*\)$/\1:/p')
 }
 
 # Sets `found` to the tasks of the recipe that a name stands for.
@@ -61,7 +68,22 @@ _bitbake() {
             _bitbake_tasks_for "$target"
             ;;
         *,-*)
-            found='-c -f -k -n -e -s -p -g -q -h --cmd --force --continue --dry-run --environment --show-versions --parse-only --no-setscene --sample --graphviz --quiet --help --version --lint'
+            found='-c -f -k -n -e -s -p -g -q -h --cmd --force --continue --dry-run --environment --show-versions --parse-only --no-setscene --sample --graphviz --why --quiet --help --version --lint'
+            ;;
+        *,mc:*:*:*)
+            typed=${word#mc:*:*:}
+            is_task=yes
+            before=${word#mc:*:}
+            _bitbake_tasks "${before%%:*}"
+            ;;
+        *,mc:*:*)
+            typed=${word#mc:*:}
+            _bitbake_names
+            ;;
+        *,mc:*)
+            typed=${word#mc:}
+            _bitbake_configs
+            [[ -z $found ]] || compopt -o nospace 2>/dev/null
             ;;
         *,*:*)
             typed=${word#*:}
@@ -82,7 +104,7 @@ _bitbake() {
     fi
 }
 
-# The first target in a line, without its task.
+# The first target in a line, without its configuration and its task.
 _bitbake_target() {
     local words word skip=yes
     read -ra words <<<"$1"
@@ -92,6 +114,7 @@ _bitbake_target() {
         elif [[ $word == -c || $word == --cmd || $word == --sample ]]; then
             skip=yes
         elif [[ $word != -* ]]; then
+            word=${word#mc:*:}
             printf '%s\n' "${word%%:*}"
             return
         fi

@@ -25,6 +25,14 @@ PLAIN = {b"n": b"\n", b"t": b"\t", b"r": b"\r", b"\\": b"\\"}
 WITH_CONTENT = {"file": False, "disk": True, "puts": True, "text": False, "work": True}
 
 
+def work_name(path):
+    """The name of what stands at a path below build, where that is below the work folders of a store."""
+    if path.startswith(b"work/"):
+        return path[5:]
+    parts = path.split(b"/", 3)
+    return b"mc:%s:%s" % (parts[1], parts[3]) if len(parts) == 4 and parts[0::2] == [b"mc", b"work"] else None
+
+
 class Wrong(Exception):
     """What is wrong with a case or its run."""
 
@@ -104,16 +112,24 @@ class Case:
             self.ran = ran.returncode, ran.stdout, ran.stderr
 
     def held(self):
-        """What stands below build/work: bytes and executable bit of files, targets of links."""
-        found, top = {}, self.at(b"build", b"work")
+        """What stands below build/work, and behind mc:NAME: below build/mc/NAME/work: bytes and executable bit of files, targets of links."""
+        found = self.held_in(self.at(b"build", b"work"), b"")
+        stores = self.at(b"build", b"mc")
+        for config in os.listdir(stores) if os.path.isdir(stores) else []:
+            found.update(self.held_in(os.path.join(stores, config, b"work"), b"mc:%s:" % config))
+        return found
+
+    def held_in(self, top, front):
+        """The same of one folder, by paths behind this."""
+        found = {}
         for at, folders, names in os.walk(top):
             for name in names + [it for it in folders if os.path.islink(os.path.join(at, it))]:
                 path = os.path.join(at, name)
                 if os.path.islink(path):
-                    found[os.path.relpath(path, top)] = os.readlink(path)
+                    found[front + os.path.relpath(path, top)] = os.readlink(path)
                 else:
                     with open(path, "rb") as it:
-                        found[os.path.relpath(path, top)] = it.read(), bool(os.stat(path).st_mode & 0o100)
+                        found[front + os.path.relpath(path, top)] = it.read(), bool(os.stat(path).st_mode & 0o100)
         return found
 
     def judge(self):
@@ -153,6 +169,9 @@ class Case:
     def explained(self, status, text, said):
         """Holds what standard error says of a run to the status and the text. What real files tell besides stands in no case."""
         said = b"".join(it for it in said.splitlines(True) if not it.startswith((b"bitbake: layers: ", b"bitbake: lint: ", b"bitbake: sandbox: ", b"bitbake: why: ")))
+        if re.search(rb"^mc ", text, re.M):
+            # (tasks of configurations before that of the fault)
+            said = b"".join(it for it in said.splitlines(True) if not re.match(rb"bitbake: (try: |[^ ]+ failed )|\| ", it))
         said = without_further(said.decode(errors="surrogateescape")).encode(errors="surrogateescape")
         self.said += said
         wanted = [it.encode(errors="surrogateescape") for it in sentences(text.decode(errors="surrogateescape"))]
@@ -180,14 +199,14 @@ class Case:
             os.remove(self.at(path))
         elif word == "disk":
             self.write(os.path.join(b"build", path), content, is_exec)
-            if path.startswith(b"work/"):
-                self.work[path[5:]] = content, is_exec
+            if work_name(path):
+                self.work[work_name(path)] = content, is_exec
         elif word == "disklink":
             name, _, target = rest.partition(b" ")
             path = unescaped(name)
             self.link(os.path.join(b"build", path), unescaped(target))
-            if path.startswith(b"work/"):
-                self.work[path[5:]] = unescaped(target)
+            if work_name(path):
+                self.work[work_name(path)] = unescaped(target)
         elif word in ("script", "puts", "links", "exit", "benches"):
             pass
         elif word in ("fail", "gate", "crash"):

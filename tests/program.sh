@@ -66,7 +66,7 @@ runs() {
     grep -a '^bitbake: sandbox: ' "$room/said" >"$room/no_sandbox" && sed -i '/^bitbake: sandbox: /d' "$room/said"
     case $status in
         3 | 10) holds "the sentence of $(cat "$room/text")" python3 "$top/tests/sentences.py" "$room/text" "$room/said" ;;
-        *) grep -a -v -e '^bitbake: [a-z]*: ' -e '^bitbake: [^ :]*:do_[^ :]* \(failed\|gave \)' -e '^| ' "$room/said" >>"$room/text" ;;
+        *) grep -a -v -e '^bitbake: [a-z]*: ' -e '^bitbake: \(mc:[^ :]*:\)\{0,1\}[^ :]*:do_[^ :]* \(failed\|gave \)' -e '^| ' "$room/said" >>"$room/text" ;;
     esac
 }
 
@@ -93,7 +93,7 @@ found hello:do_build
 ok 1 found, 0 restored, 0 started"
 
 # The parts, each by its topic. They stand on one another where a later one uses a project of an earlier one.
-for part in launcher words modes lint runs failures devices outputs trace terminal why kills store software installation apart; do
+for part in launcher words modes lint runs configs failures devices outputs trace terminal why kills store software installation apart; do
     . "$top/tests/program/$part.sh"
 done
 

@@ -2,7 +2,7 @@
 """What standard error has to say of a fault of the metadata or a limit, by the line of the fault and the table docs/faults.tsv.
 
 Usage: tests/sentences.py TEXT SAID
-Status 0 where the file SAID is just the sentence of the fault whose line is the file TEXT, and behind it only what is told besides: who asks
+Status 0 where the file SAID is just the sentence of the fault whose line ends the file TEXT, and behind it only what is told besides: who asks
 for what isn't there, what a line looks like, and what is wrong with further recipes, each in a line.
 """
 import os
@@ -45,8 +45,9 @@ def filled(sentence, names, texts):
 
 
 def sentences(text):
-    """The sentences that a text asks for, the line of a fault with its end: one, or one for each way to read the line."""
-    line = re.match(r"fault (?:3|10) (.*)\n\Z", text, re.S)
+    """The sentences that a text asks for, whose last line is the one of a fault: one, or one for each way to read the line. Before it other configurations may
+    have been run."""
+    line = re.match(r"fault (?:3|10) (.*)\n\Z", text[text.rfind("\nfault ") + 1 :], re.S)
     found = {}
     for kind, case, names, sentence in rows() if line else ():
         for at in re.finditer(rf"(?:\A|: ){kind}(?= |\Z)", line[1]):

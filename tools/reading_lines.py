@@ -21,9 +21,11 @@ PAGE = "docs/READING.md"
 ROOTS = [
     *(f"crates/outside_traits/src/{it}.rt" for it in ("layers", "disk", "bench", "sink")),
     "crates/bitbake_top/src/top.rt",
+    "crates/bitbake_top/src/asking.rt",
     "crates/meta_model/src/event.rt",
     "crates/bitbake_top/src/laws.rt",
     "crates/target_plan/src/laws.rt",
+    "crates/multi_config/src/laws.rt",
 ]
 # the heart: what each of its tables follows
 HEART = {
@@ -62,12 +64,26 @@ def imports(text, start):
     return found
 
 
+def without_modules(text):
+    """The text with what stands in modules without a name further left, as if their parameters were each definition's own."""
+    lines, inside = [], False
+    for line in text.split("\n"):
+        if line.startswith("module _ "):
+            inside = True
+        elif inside and line.startswith("  "):
+            lines.append(line[2:])
+        else:
+            inside = inside and not line.strip()
+            lines.append(line)
+    return "\n".join(lines)
+
+
 class Definitions:
     """A file of definitions: what it brings in, and the text of each definition by its name."""
 
     def __init__(self, file):
         self.file = file
-        text = re.sub(r"--.*", "", read(file))
+        text = without_modules(re.sub(r"--.*", "", read(file)))
         self.imports = imports(text, r"(?:pub\s+)?use")
         self.texts = {}
         name = None

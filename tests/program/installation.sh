@@ -64,6 +64,16 @@ bitbake -c pop: populate_sysroot
 bitbake --cmd=pop: populate_sysroot
 bitbake nosuch::'
     holds "nothing is built for it" test ! -e build
+    cp conf/bblayers.conf "$room/layers_before"
+    printf 'BBMULTICONFIG = "desk panel"\n' >>conf/bblayers.conf
+    bash --norc --noprofile "$room/completed" "$top" "$bitbake" 'bitbake mc:' 'bitbake mc:p' 'bitbake mc:desk:gr' 'bitbake mc:desk:greet:do_c' 'bitbake mc:desk:app -c do_b' >"$room/text" 2>&1
+    status=$?
+    wants "what bash completes of configurations" 0 'bitbake mc:: desk:  panel:
+bitbake mc:p: panel:
+bitbake mc:desk:gr: greet
+bitbake mc:desk:greet:do_c: do_compile  do_configure
+bitbake mc:desk:app -c do_b: do_build'
+    mv "$room/layers_before" conf/bblayers.conf
     (cd "$room/clone" && PATH=$room/tools:$PATH BITBAKE_NO_BUILD=1 bin/bitbake -s) >"$room/text" 2>&1
     holds "the launcher builds nothing for it" test $? -eq 126 -a ! -e "$room/clone/crates/bitbake_cli/out"
 else

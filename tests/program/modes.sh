@@ -45,7 +45,7 @@ wants "a value that isn't asked for" 0 "v 1.0-r0"
 runs "$bitbake" -e v nosuch
 wants "a target that nothing provides" 3 "fault 3 NothingProvides nosuch"
 runs "$bitbake" -e mc:a:v
-wants "a target of another configuration" 3 "fault 3 NothingProvides mc:a:v"
+wants "a target of another configuration" 3 "fault 3 NoSuchConfig a"
 printf 'PROVIDES = "virtual/v"\n' >recipes/v.bb
 runs "$bitbake" -e virtual/v:fetch
 wants "a provided name, whose task isn't looked at" 0 "# v

@@ -9,7 +9,7 @@ for words in '-- hello' 'hello hello' 'hello:build' 'hello:do_build' '-c build h
     wants "the words '$words'" 0 "$done_text"
     rm -r build
 done
-for words in 'other' './hello' 'mc:a:hello'; do
+for words in 'other' './hello' 'mc:hello'; do
     runs "$bitbake" $words
     wants "the words '$words'" 3 "fault 3 NothingProvides $words"
 done

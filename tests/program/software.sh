@@ -82,6 +82,41 @@ a well-known text!' "$(tasks_of text unpack configure compile install sysroot) $
     rm -r build/work/image build/obj
     runs "$bitbake" image
     holds "objects that were removed" grep -q '^image:do_sysroot: its output is gone, or was changed by hand$' build/why
+    # Images for two machines by one run, with one thread and with eight; an edit of what one of them reads.
+    for threads in 1 8; do
+        cp -R "$top/examples/c_distribution" "$room/machines-$threads" && cd "$room/machines-$threads" && rm -rf build || exit 1
+        printf 'BB_NUMBER_THREADS = "%s"\n' "$threads" >>conf/bblayers.conf
+        runs "$bitbake" mc:desk:image mc:panel:image
+        holds "two machines by $threads threads" test "$status" -eq 0 -a "$(grep -e '^mc ' -e '^plan ' -e '^ok ' "$room/text")" = "mc desk
+plan 26 tasks, $threads threads
+ok 0 found, 0 restored, 26 started
+mc panel
+plan 26 tasks, $threads threads
+ok 0 found, 0 restored, 26 started"
+        holds "the one machine's image, $threads threads" test "$(cat build/mc/desk/work/image/do_build/report.txt)" = '== desk ==
+3 words
+A WELL-KNOWN TEXT!'
+        holds "the other one's, $threads threads" test "$(cat build/mc/panel/work/image/do_build/report.txt)" = '== panel ==
+4 words
+A WELL-KNOWN TEXT!'
+        holds "flags of one machine, $threads threads" grep -q -e '-Os' build/log/mc/panel/text/do_compile
+        holds "flags of the other one, $threads threads" grep -q -e '-O2' build/log/mc/desk/text/do_compile
+        holds "nothing of the default one, $threads threads" test ! -e build/rec -a ! -e build/work -a ! -e build/log/text
+    done
+    holds "one thread and eight leave the same files of both machines" diff -r -x rec -x stamp -x why -x trace.json "$room/machines-1/build/mc" build/mc
+    sed -i 's/-Os/-Os -DPANEL/' conf/multiconfig/panel.conf
+    runs "$bitbake" mc:desk:image mc:panel:image
+    sed '/^mc panel$/,$d' "$room/text" >"$room/told"
+    holds "an edit of what one machine reads starts nothing in the other" test "$status" -eq 0 -a "$(cat "$room/told")" = "mc desk
+plan 26 tasks, 8 threads
+found image:do_build
+ok 1 found, 0 restored, 0 started"
+    each=$(for recipe in banner image shout text wordcount; do tasks_of "$recipe" configure compile install sysroot; done)
+    holds "and just what reads it there" test "$(sed -n 's/^started //p' "$room/text" | LC_ALL=C sort)" = "$(printf '%s\n' $each | LC_ALL=C sort)"
+    holds "why: flags of one machine" grep -q '^banner:do_configure: CFLAGS: "-Os -Wall' build/mc/panel/why
+    holds "and nothing of the other one" test ! -s build/mc/desk/why
+    runs "$bitbake" image mc:panel:image
+    holds "the machine that is here beside one of them" test "$status" -eq 0 -a "$(cat build/work/image/do_build/report.txt)" = "$built_distribution"
 else
     echo "skipped the distribution in C: there is no cc, ar, make or tar"
 fi

@@ -108,3 +108,104 @@ done
 runs "$bitbake" many1 many2 many3 many4 many5 many6 many7 many8 many9 many10 many11 many12
 holds "at most ten are named" test "$(grep -o ' since do_build changed' "$room/said" | wc -l)" -eq 10
 holds "and the others are counted" grep -q ', and 2 more; build/why has all$' "$room/said"
+
+# What a run would do, before there is one.
+project asked
+one_worker
+mkdir files
+echo one >files/one
+cat >recipes/lib.bb <<'RECIPE'
+CFLAGS = "-O2"
+do_compile[file-checksums] = "files/one:True"
+do_compile() {
+    echo "${CFLAGS}" > out
+    cat "$FILESDIR/one" >> out
+}
+addtask compile
+RECIPE
+cat >recipes/app.bb <<'RECIPE'
+do_compile[depends] = "lib:do_compile"
+do_compile() {
+    cat "$DEPSDIR/lib/do_compile/out" > out
+}
+do_build() {
+    cat out > whole
+}
+addtask compile
+addtask build after do_compile
+RECIPE
+runs "$bitbake" --why app
+wants "before the first run" 0 "lib:do_compile: run: nothing recorded before
+app:do_compile: may run: needs lib:do_compile
+app:do_build: may run: needs app:do_compile"
+holds "nothing is made" test ! -e build
+runs "$bitbake" app
+runs "$bitbake" --why app
+wants "what is there is found, and what it needs isn't looked at" 0 "app:do_build: found"
+sed -i 's/-O2/-O3/' recipes/lib.bb && echo more >>files/one
+find build -printf '%p %y %s %m %T@ %C@\n' | sort >"$room/before"
+runs "$bitbake" --why app
+wants "an edit, and what waits for it" 0 "lib:do_compile: run: differs in CFLAGS, file one
+app:do_compile: may run: needs lib:do_compile
+app:do_build: may run: needs app:do_compile"
+find build -printf '%p %y %s %m %T@ %C@\n' | sort >"$room/after"
+holds "nothing is changed" cmp -s "$room/before" "$room/after"
+runs "$bitbake" app
+# An edit that changes no output: what needs it is found after all.
+sed -i 's/^    cat "$FILESDIR/    : again; &/' recipes/lib.bb
+runs "$bitbake" --why app
+wants "a script that gives the same" 0 "lib:do_compile: run: differs in do_compile
+app:do_compile: may run: needs lib:do_compile
+app:do_build: may run: needs app:do_compile"
+runs "$bitbake" app
+holds "what may run is found" grep -q '^found app:do_build$' "$room/text"
+rm -r build/work/app/do_build
+runs "$bitbake" --why app
+wants "an output that was removed" 0 "app:do_compile: found
+app:do_build: run: its output is gone"
+runs "$bitbake" app
+runs "$bitbake" --why -f app
+wants "with -f" 0 "app:do_compile: found
+app:do_build: run: forced"
+printf 'do_build[nostamp] = "1"\n' >>recipes/app.bb
+runs "$bitbake" --why app
+wants "a task that runs each time" 0 "app:do_compile: found
+app:do_build: run: runs each time"
+runs "$bitbake" --why -c compile app
+wants "with -c" 0 "app:do_compile: found"
+# An output is gone that nothing needs where the tasks above it turn out to be found.
+sed -i '/nostamp/d' recipes/app.bb && sed -i 's/ : again;/ : once more;/' recipes/lib.bb
+cat >recipes/both.bb <<'RECIPE'
+do_build[depends] = "lib:do_compile app:do_compile"
+do_build() {
+    cat "$DEPSDIR/lib/do_compile/out" > both
+}
+addtask build
+RECIPE
+runs "$bitbake" both
+sed -i 's/ : once more;/ : and again;/' recipes/lib.bb
+rm -r build/work/app/do_compile
+runs "$bitbake" --why both
+wants "what is maybe not needed" 0 "lib:do_compile: run: differs in do_compile
+app:do_compile: may run: needs lib:do_compile
+both:do_build: may run: needs lib:do_compile app:do_compile"
+runs "$bitbake" --why both app -n
+wants "no other mode beside it" 2 'usage: bitbake [-c TASK] [-f] [-k] [-n] [-e] [-s] [-p] [--no-setscene] [--sample N] [TARGET..]'
+runs "$bitbake" --why
+wants "no target" 2 'usage: bitbake [-c TASK] [-f] [-k] [-n] [-e] [-s] [-p] [--no-setscene] [--sample N] [TARGET..]'
+runs "$bitbake" --why nothing
+wants "a refusal" 3 "fault 3 NothingProvides nothing"
+printf 'SSTATETASKS = "do_share"\ndo_share() {\n    mkdir -p o && echo s > o/s\n}\ndo_share[sstate-inputdirs] = "${WORKDIR}/o"\ndo_share[sstate-outputdirs] = "o"\naddtask share\n' >recipes/shared.bb
+runs "$bitbake" shared:share
+rm -r build/work/shared
+runs "$bitbake" --why shared:share
+wants "an object" 0 "shared:do_share: restored"
+runs "$bitbake" --why --no-setscene shared:share
+wants "with --no-setscene" 0 "shared:do_share: run: its output is gone"
+recipe slow 'touch "$0.begun"; sleep 3; echo done > out'
+"$bitbake" slow >"$room/slow" 2>&1 &
+sleep 1
+runs "$bitbake" --why slow
+wants "while a run is at work" 0 "slow:do_build: run: nothing recorded before"
+wait
+holds "which goes on" grep -q '^ended slow:do_build$' "$room/slow"

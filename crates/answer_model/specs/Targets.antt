@@ -16,7 +16,8 @@ target_of_cut default word (Some cut) = record { name = cut.0; task = task_of cu
 abbrev pub target_of : List ℕ → List ℕ → Target
 target_of default word = target_of_cut default word (split_at_first colon word)
 
--- A word that begins with `mc:` asks for another configuration, which nothing provides until several are built (own rule).
+-- A word that begins with `mc:` asks for another configuration (BitBake User Manual, "The BitBake Command", section "Executing a Multiple
+-- Configuration Build").
 abbrev pub is_elsewhere : List ℕ → Bool
 is_elsewhere word = begins_with (codes "mc:") word
 

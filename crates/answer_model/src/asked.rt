@@ -14,17 +14,32 @@ pub enum ReadMode {
     Environment,
 }
 
+/// What is shown of targets of several configurations without a run.
+#[derive(Clone, Copy, Debug, PartialEq, Eq)]
+pub enum ShowMode {
+    /// The plan of each configuration's targets (`-n`).
+    Plan,
+    /// The values of the recipes of each configuration's targets (`-e`).
+    Values,
+}
+
 /// What words ask for.
 #[derive(Debug, Drop)]
 pub enum Asked {
-    /// A run of targets.
+    /// A run of targets of the default configuration.
     Runs(RunRequest),
+
+    /// A run of targets of several configurations: a word begins with `mc:`.
+    Configs(RunRequest),
 
     /// What a mode that only reads metadata prints of these targets.
     Reads { mode: ReadMode, targets: Texts },
 
     /// The plan of targets.
     Plans(DryRequest),
+
+    /// What is shown of targets of several configurations: a word begins with `mc:`.
+    Shows { what: ShowMode, request: RunRequest },
 
     /// The sample of so many recipes.
     Sample(u32),
@@ -40,10 +55,10 @@ pub struct DryRequest {
     pub task: Option<Text>,
 }
 
-/// What a run is asked for.
+/// What a run is asked for, or what is shown of several configurations.
 #[derive(Debug, Drop)]
 pub struct RunRequest {
-    /// The targets, `NAME` or `NAME:TASK`.
+    /// The targets, `NAME` or `NAME:TASK`, and of other configurations `mc:CONFIG:NAME` or `mc:CONFIG:NAME:TASK`.
     pub targets: Texts,
 
     /// The task of the targets that name none, where one was given.

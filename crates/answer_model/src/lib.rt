@@ -17,5 +17,5 @@
 mod asked;
 mod request;
 
-pub use asked::{Asked, DryRequest, ReadMode, RunRequest};
+pub use asked::{Asked, DryRequest, ReadMode, RunRequest, ShowMode};
 pub use request::{Mode, Request};

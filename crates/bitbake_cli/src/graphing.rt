@@ -1,23 +1,20 @@
 // The mode that prints the graph of the targets' tasks.
 use crate::own_modes::{other_words, print_answer, refused};
-use answer_model::Mode;
+use answer_model::{Mode, Request};
 use command_words::{WordsFault, mode_of, read_words};
 use meta_model::{Graph, Node, Status, TaskId};
+use multi_config::{ConfigTargets, has_elsewhere};
 use outside_os::FolderLayers;
 use std::alloc::{AllocError, Global};
 use std::io;
-use target_graph::{Run, find_run};
+use target_graph::{find_part_run, find_parts, find_run};
 use tree_model::Text;
 
 /// The words that ask for the mode.
 const GRAPH: &[&str] = &["-g", "--graphviz"];
 
-/// The graph that words ask for: those of a run, with targets and the option `-c` alone.
-fn graph_of(
-    alloc: Global,
-    layers: &mut FolderLayers<HostRuntime>,
-    words: &[Text],
-) -> Result<Run, Status> {
+/// The request of words that ask for the mode: those of a run, with targets and the option `-c` alone.
+fn request_of(alloc: Global, words: &[Text]) -> Result<Request, Status> {
     match read_words(alloc, words) {
         Ok(request) => {
             if mode_of(&request) != Mode::Run
@@ -27,21 +24,19 @@ fn graph_of(
             {
                 return Err(Status::Usage);
             }
-            find_run(
-                alloc,
-                layers,
-                request.targets.as_slice(),
-                request.task.as_ref(),
-            )
+            Ok(request)
         }
         Err(WordsFault::Usage) => Err(Status::Usage),
         Err(WordsFault::Memory) => Err(Status::OutOfMemory),
     }
 }
 
-/// Puts a task between quotes.
-fn put_id(text: &mut String, id: &TaskId) -> Result<(), AllocError> {
+/// Puts a task between quotes, behind `mc:NAME:` where it is one of a configuration that has a name.
+fn put_id(text: &mut String, config: &str, id: &TaskId) -> Result<(), AllocError> {
     text.push('"')?;
+    if !config.is_empty() {
+        write!(text, "mc:{config}:")?;
+    }
     put_escaped(text, id.pn.as_str())?;
     text.push(':')?;
     put_escaped(text, id.task.as_str())?;
@@ -60,38 +55,90 @@ fn put_escaped(text: &mut String, name: &str) -> Result<(), AllocError> {
 }
 
 /// Puts a task, and an arrow to each that it needs directly.
-fn put_node(text: &mut String, nodes: &[Node], node: &Node) -> Result<(), AllocError> {
-    put_id(text, &node.id)?;
+fn put_node(
+    text: &mut String,
+    config: &str,
+    nodes: &[Node],
+    node: &Node,
+) -> Result<(), AllocError> {
+    put_id(text, config, &node.id)?;
     text.push('\n')?;
     for number in node.deps.as_slice() {
         if let Some(needed) = nodes.get(*number as usize) {
-            put_id(text, &node.id)?;
+            put_id(text, config, &node.id)?;
             text.push_str(" -> ")?;
-            put_id(text, &needed.id)?;
+            put_id(text, config, &needed.id)?;
             text.push('\n')?;
         }
     }
     Ok(())
 }
 
-/// The graph in the language of `dot`.
-fn dot_text(alloc: Global, graph: &Graph) -> Result<String, AllocError> {
-    let mut text = String::from_str(alloc, "digraph bitbake {\n")?;
+/// Puts the tasks of a configuration's graph.
+fn put_graph(text: &mut String, config: &str, graph: &Graph) -> Result<(), Status> {
     let nodes = graph.nodes.as_slice();
     for node in nodes {
-        put_node(&mut text, nodes, node)?;
+        or_memory(put_node(text, config, nodes, node))?;
     }
-    text.push_str("}\n")?;
-    Ok(text)
+    Ok(())
+}
+
+/// The status of want of memory, where there is no answer.
+fn or_memory<T>(answer: Result<T, AllocError>) -> Result<T, Status> {
+    match answer {
+        Ok(value) => Ok(value),
+        Err(_) => Err(Status::OutOfMemory),
+    }
+}
+
+/// Puts the graphs of parts, one after another.
+fn put_parts(
+    alloc: Global,
+    layers: &mut FolderLayers<HostRuntime>,
+    parts: &[ConfigTargets],
+    text: &mut String,
+) -> Result<(), Status> {
+    for part in parts {
+        let run = find_part_run(alloc, layers, part)?;
+        put_graph(text, part.mc.as_str(), &run.graph)?;
+    }
+    Ok(())
+}
+
+/// Puts the graph that a request asks for; of several configurations those of all of them.
+fn put_asked(
+    alloc: Global,
+    layers: &mut FolderLayers<HostRuntime>,
+    request: &Request,
+    text: &mut String,
+) -> Result<(), Status> {
+    let targets = request.targets.as_slice();
+    let task = request.task.as_ref();
+    if has_elsewhere(targets) {
+        let parts = find_parts(alloc, layers, targets, task)?;
+        return put_parts(alloc, layers, parts.as_slice(), text);
+    }
+    let run = find_run(alloc, layers, targets, task)?;
+    put_graph(text, "", &run.graph)
+}
+
+/// The graph that words ask for, in the language of `dot`.
+fn dot_text(
+    alloc: Global,
+    layers: &mut FolderLayers<HostRuntime>,
+    words: &[Text],
+) -> Result<Text, Status> {
+    let request = request_of(alloc, words)?;
+    let mut text = or_memory(String::from_str(alloc, "digraph bitbake {\n"))?;
+    put_asked(alloc, layers, &request, &mut text)?;
+    or_memory(text.push_str("}\n"))?;
+    Ok(Text::from_string(text))
 }
 
 /// How the mode ends, and what it prints: the graph, or the line of a fault as a run would print it.
 fn answer(alloc: Global, layers: &mut FolderLayers<HostRuntime>, words: &[Text]) -> (Status, Text) {
-    match graph_of(alloc, layers, words) {
-        Ok(run) => match dot_text(alloc, &run.graph) {
-            Ok(text) => (Status::Ok, Text::from_string(text)),
-            Err(_) => refused(alloc, Status::OutOfMemory),
-        },
+    match dot_text(alloc, layers, words) {
+        Ok(text) => (Status::Ok, text),
         Err(status) => refused(alloc, status),
     }
 }

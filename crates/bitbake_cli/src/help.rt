@@ -4,6 +4,7 @@
 pub const HELP: &str = "\
 usage: bitbake [-c TASK] [-f] [-k] [-n] [-e] [-s] [-p] [--no-setscene] [--sample N] [TARGET..]\n\
 \x20      bitbake -g [-c TASK] TARGET..\n\
+\x20      bitbake --why [-c TASK] [-f] [--no-setscene] TARGET..\n\
 \x20      bitbake --lint [TARGET..]\n\
 \x20      bitbake --help | --version\n\
 \n\
@@ -17,6 +18,7 @@ usage: bitbake [-c TASK] [-f] [-k] [-n] [-e] [-s] [-p] [--no-setscene] [--sample
 \x20     --no-setscene        Objects of the shared state don't count as available.\n\
 \x20     --sample N           Build a generated project of N recipes, 1 to 1000, over devices in memory.\n\
 \x20 -g, --graphviz           Print the graph of the tasks that the targets need, as DOT.\n\
+\x20     --why                Print for each task that a run would need whether it would be found, restored or run, and why.\n\
 \x20 -q, --quiet              No line on the terminal says what a run is doing.\n\
 \x20 -h, --help               Print these options, and do nothing else.\n\
 \x20     --version            Print the commit and the kit of the program.\n\

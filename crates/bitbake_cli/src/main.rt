@@ -25,9 +25,10 @@ mod records;
 mod sentences;
 mod streams;
 mod traces;
+mod whying;
 
 use about::tell_about;
-use ahead::{is_forced, is_run, read_ahead};
+use ahead::{configs_in, is_forced, is_run, read_ahead, reads_default};
 use bitbake_top::bitbake;
 use build_store::Ahead;
 use failures::tell_too_large;
@@ -41,15 +42,16 @@ use progress_line::{Progress, Shown, has_place};
 use recipe_lint::Counted;
 use run_reasons::{Known, Stamped, keep_reasons};
 use run_trace::{Timed, micros_now};
-use sh_bench::{Sandboxes, ShBench};
+use sh_bench::{Configs, Sandboxes, ShBench};
 use std::process::ExitCode;
 use std::sync::Wait;
 use std::thread::{Threads, join};
 use std::time::{Clock, SystemTime};
 use std::{env, io};
 use streams::closed_streams;
-use traces::keep_trace;
+use traces::{Lines, keep_trace};
 use tree_model::Text;
+use whying::run_why;
 
 /// The number of the last bench, from 0 on. The folders of benches are made at first use.
 const LAST_BENCH: u32 = 16;
@@ -68,6 +70,7 @@ const QUIET: &[&str] = &["-q", "--quiet"];
 struct Beside {
     syncs: Syncs,
     sandboxes: Sandboxes,
+    configs: Configs,
 
     /// The line on the terminal, and whether it is drawn.
     progress: Progress,
@@ -100,6 +103,7 @@ fn run<R: Threads + Wait + Clock + Sync>(rt: &HostRuntime, threads: &R) -> io::R
         Some(OwnMode::Help) => return run_help(rt),
         Some(OwnMode::Version) => return run_version(rt),
         Some(OwnMode::Lint) => return run_lint(rt, &all),
+        Some(OwnMode::Why) => return run_why(rt, &all),
         Some(OwnMode::Graph) => return run_graph(rt, &all),
         None => {}
     }
@@ -108,6 +112,7 @@ fn run<R: Threads + Wait + Clock + Sync>(rt: &HostRuntime, threads: &R) -> io::R
     let beside = Beside {
         syncs: Syncs::none(),
         sandboxes: Sandboxes::unknown(),
+        configs: Configs::of(configs_in(rt.alloc(), &words)?),
         progress: Progress::new(rt.alloc(), begun),
         is_shown: is_run && words.len() == all.len() && has_place(rt),
         begun,
@@ -116,7 +121,7 @@ fn run<R: Threads + Wait + Clock + Sync>(rt: &HostRuntime, threads: &R) -> io::R
     let mut disk = FolderDisk::new(rt.clone()?, &beside.syncs);
     let reading = ReadAhead::none();
     let ahead = Ahead::none();
-    if !is_run || !disk.hold_early(&reading) {
+    if !is_run || !reads_default(rt, &words) || !disk.hold_early(&reading) {
         return call_shown(rt, threads, &ahead, &words, &beside, disk);
     }
     let ((), status) = join(
@@ -161,6 +166,21 @@ fn call_shown<'b, R: Threads + Wait + Clock + Sync>(
     status
 }
 
+/// The bench of a number.
+fn bench_of<'b>(
+    rt: &'b HostRuntime,
+    number: u32,
+    beside: &'b Beside,
+) -> io::Result<ShBench<'b, HostRuntime>> {
+    Ok(ShBench::new(
+        rt.clone()?,
+        number,
+        &beside.sandboxes,
+        &beside.syncs,
+        &beside.configs,
+    ))
+}
+
 /// The benches. Their folders are made at first use.
 fn benches_of<'b>(
     rt: &'b HostRuntime,
@@ -170,9 +190,9 @@ fn benches_of<'b>(
 {
     let mut benches = Vec::new(rt.alloc());
     for number in 0..LAST_BENCH {
-        benches.push(ShBench::new(rt.clone()?, number, &beside.sandboxes, &beside.syncs))?;
+        benches.push(bench_of(rt, number, beside)?)?;
     }
-    benches.push(ShBench::new(rt.clone()?, LAST_BENCH, &beside.sandboxes, &beside.syncs))?;
+    benches.push(bench_of(rt, LAST_BENCH, beside)?)?;
     Ok(benches)
 }
 
@@ -192,7 +212,7 @@ fn call<'b, R: Threads + Wait + Clock + Sync>(
     let progress = beside.is_shown.then_some(&beside.progress);
     let shown = Shown::new(StdSink::new(rt.clone()?), progress, rt.clone()?, threads);
     let timed = Timed::new(rt.alloc(), shown, rt.clone()?);
-    let sink = Stamped::new(rt.alloc(), timed, rt.clone()?);
+    let sink = Stamped::new(rt.alloc(), timed, rt.clone()?, &beside.configs);
     let mut finish = bitbake(
         threads,
         rt.alloc(),
@@ -208,10 +228,15 @@ fn call<'b, R: Threads + Wait + Clock + Sync>(
     }
     finish.disk.close();
     if finish.disk.is_held() {
-        let lines = finish.sink.inner.lines();
-        keep_trace(rt, &finish.plans, &finish.tales, lines, beside.begun);
+        let lines = Lines {
+            times: finish.sink.inner.lines(),
+            plans: finish.sink.inner.plans(),
+            planned: finish.sink.planned(),
+        };
+        keep_trace(rt, &finish.plans, &finish.tales, &lines, beside.begun);
         let known = Known {
             stamps: finish.sink.stamps(),
+            planned: finish.sink.planned(),
             begun: beside.since,
             is_forced: is_forced(rt, words),
         };

@@ -22,9 +22,15 @@ pub enum OwnMode {
     /// Prints what is remarked on the metadata.
     Lint,
 
+    /// Prints what a run would do, and why.
+    Why,
+
     /// Prints the graph of the targets' tasks.
     Graph,
 }
+
+/// The word that asks what a run would do.
+pub const WHY: &[&str] = &["--why"];
 
 /// Behind it each word is a target.
 const TARGETS_FOLLOW: &str = "--";
@@ -63,7 +69,7 @@ fn has_no_other(words: &[Text], wanted: &str) -> bool {
 }
 
 /// The mode of this program alone that the words ask for, the first of: help, wherever its word stands; the version, too; remarks, which go with
-/// targets alone; the graph.
+/// targets alone; what a run would do; the graph.
 pub fn own_mode(words: &[Text]) -> Option<OwnMode> {
     if has_word(words, &["-h", "--help"]) {
         Some(OwnMode::Help)
@@ -71,6 +77,8 @@ pub fn own_mode(words: &[Text]) -> Option<OwnMode> {
         Some(OwnMode::Version)
     } else if has_word(words, &["--lint"]) && has_no_other(words, "--lint") {
         Some(OwnMode::Lint)
+    } else if has_word(words, WHY) {
+        Some(OwnMode::Why)
     } else if has_word(words, &["-g", "--graphviz"]) {
         Some(OwnMode::Graph)
     } else {

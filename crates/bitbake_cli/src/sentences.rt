@@ -126,6 +126,11 @@ pub const SENTENCES: &[Sentence] = &[
         mend: "write it with these",
     },
     Sentence {
+        kind: "NoSuchConfig",
+        wrong: "there is no configuration <1>: BBMULTICONFIG of the default one doesn't name it, or it has other bytes than letters, digits, - and _",
+        mend: "look at the spelling, or add it to BBMULTICONFIG and write conf/multiconfig/<1>.conf",
+    },
+    Sentence {
         kind: "BadName",
         wrong: "the recipe's file is none of PN.bb, PN_PV.bb and PN_PV_PR.bb, or its final PN is no name (letters, digits, + - .)",
         mend: "rename the file, or correct PN",

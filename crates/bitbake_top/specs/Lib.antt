@@ -1,4 +1,6 @@
 pub mod Answers
 pub mod Dry
+pub mod Parts
 pub mod Sample
+pub mod Why
 pub mod Worked

@@ -28,15 +28,22 @@
 
 mod answer;
 mod asked;
+mod asking;
 mod dry;
 mod examples;
 mod finish;
 mod laws;
+mod part;
+mod parts;
+mod reasons;
 mod run;
 mod sample;
+mod shown;
 mod top;
 mod whole;
 
+pub use asking::why;
 pub use finish::Finish;
 pub use laws::{begin_laws, era_laws, lasting_law};
+pub use reasons::Told;
 pub use top::bitbake;

@@ -31,7 +31,11 @@ use std::thread::Threads;
 use target_plan::find_plan;
 
 /// Finds the plan that a request is a run of.
-fn find<L: Layers>(alloc: Global, layers: &mut L, request: &RunRequest) -> Result<Plan, Status>
+pub(crate) fn find<L: Layers>(
+    alloc: Global,
+    layers: &mut L,
+    request: &RunRequest,
+) -> Result<Plan, Status>
     ensures ok { IfOk result (λ plan. L.tells → (paths : List (List ℕ)) → IsListing [] (L.files layers.old) paths
         → IsRunPlan (L.files layers.old) paths request.now plan) }
     ensures sound { IfOk result IsSound }

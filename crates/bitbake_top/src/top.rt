@@ -21,16 +21,21 @@ ghost use Rattle.meta_model.specs.declared.plan.Plan.{Plan};
 ghost use Rattle.answer_model.specs.Dry.{HasDry, IsDryPlan};
 ghost use Rattle.answer_model.specs.declared.asked.DryRequest.{DryRequest};
 ghost use Rattle.answer_model.specs.declared.asked.RunRequest.{RunRequest as Request};
-ghost use Rattle.answer_model.specs.Asked.{AskDry, AskNoRun, AskReading, AskRun, AskSample, asked_of as asked_by};
+ghost use Rattle.answer_model.specs.Asked.{AskConfigs, AskDry, AskNoRun, AskReading, AskRun, AskSample, AskShows, asked_of as asked_by};
+ghost use Rattle.answer_model.specs.declared.asked.ShowMode.{ShowMode};
 ghost use Rattle.answer_model.specs.Sample.{SaysSample};
+ghost use Rattle.multi_config.specs.Parts.{RanConfigs, stands};
+ghost use Rattle.multi_config.specs.Shown.{ShowsConfigs};
 ghost use Rattle.answer_model.specs.Run.{Concludes, HasBuild, HasCause, IsCertain, IsRunPlan, IsUnrun, RanPrintedCall, WritesCall, is_run_status};
 
 use crate::answer::{read, refuse};
 use crate::asked::asked_of;
 use crate::dry::dry;
 use crate::finish::Finish;
+use crate::parts::run_configs;
 use crate::run::run;
 use crate::sample::sample;
+use crate::shown::show_configs;
 use answer_model::Asked;
 use build_store::Ahead;
 use meta_model::Status;
@@ -131,6 +136,24 @@ where
     ensures built { (request : Request) → AskRun words.now request → result.status ≡ not_built → L.tells
         → (paths : List (List ℕ)) → IsListing [] (L.files layers) paths → ⊥ }
 
+    // A run of several configurations, where a word begins with `mc:`. Its words have no parts, and it is refused; or the parts that were reached are those of
+    // its words, one after another, each with all that is promised of a run, over the store of its configuration.
+    ensures configs { (request : Request) → AskConfigs words.now request
+        → RanConfigs L.tells D.tells B.tells W.tells (L.files layers) request
+        (stands D.story D.faults B.gives B.place B.faults W.written W.faults (L.faults layers) disk benches.items sink)
+        (stands D.story D.faults B.gives B.place B.faults W.written W.faults (L.faults result.layers) result.disk
+        result.benches.items result.sink) result.plans.items result.tales.items result.status }
+
+    // What `-n` and `-e` show of several configurations: the words have no parts, and it is refused; or the parts that were reached are those of its words,
+    // one after another, each behind its own line. Nothing is run.
+    ensures shows { (what : ShowMode) (request : Request) → AskShows words.now what request
+        → ShowsConfigs L.tells W.tells what (L.files layers) request
+        (stands D.story D.faults B.gives B.place B.faults W.written W.faults (L.faults layers) disk benches.items sink)
+        (stands D.story D.faults B.gives B.place B.faults W.written W.faults (L.faults result.layers) result.disk
+        result.benches.items result.sink) result.status }
+    ensures show_tale { (what : ShowMode) (request : Request) → AskShows words.now what request
+        → result.tales.items ≡ [] }
+
     // A mode that only reads metadata. The status fits the text that is meant, or the refusal.
     ensures read_status { (mode : ReadMode) → (targets : List (List ℕ)) → AskReading words.now mode targets
         → is_read_status result.status ≡ true }
@@ -228,6 +251,9 @@ where
 {
     match asked_of(alloc, words) {
         Ok(Asked::Runs(request)) => run(rt, alloc, ahead, &request, layers, disk, benches, sink),
+        Ok(Asked::Configs(request)) => {
+            run_configs(rt, alloc, ahead, &request, layers, disk, benches, sink)
+        }
         Ok(Asked::Reads { mode, targets }) => Finish {
             status: read(alloc, mode, targets.as_slice(), &mut layers, &mut sink),
             plans: Vec::new(alloc),
@@ -239,6 +265,15 @@ where
         },
         Ok(Asked::Plans(request)) => Finish {
             status: dry(alloc, &request, &mut layers, &mut sink),
+            plans: Vec::new(alloc),
+            tales: Vec::new(alloc),
+            layers,
+            disk,
+            benches,
+            sink,
+        },
+        Ok(Asked::Shows { what, request }) => Finish {
+            status: show_configs(alloc, what, &request, &mut layers, &mut sink),
             plans: Vec::new(alloc),
             tales: Vec::new(alloc),
             layers,

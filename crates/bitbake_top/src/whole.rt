@@ -49,20 +49,20 @@ pub struct Ran<D, B, W> {
 
 /// The text of a plan, and room for the plan and for the tale of its run.
 #[derive(Drop)]
-struct Ready {
-    text: Text,
-    room: Room,
+pub(crate) struct Ready {
+    pub(crate) text: Text,
+    pub(crate) room: Room,
 }
 
 /// Room for a plan, and for the tale of its run.
 #[derive(Drop)]
-struct Room {
-    plans: Vec<Plan>,
-    tales: Vec<ListOf<Logged>>,
+pub(crate) struct Room {
+    pub(crate) plans: Vec<Plan>,
+    pub(crate) tales: Vec<ListOf<Logged>>,
 }
 
 /// Takes what a run needs before it begins.
-fn prepare(alloc: Global, plan: &Plan) -> Result<Ready, Mem>
+pub(crate) fn prepare(alloc: Global, plan: &Plan) -> Result<Ready, Mem>
     ensures text { IfOk result (λ ready. ready.text ≡ text_of plan.now) }
     ensures none { IfOk result (λ ready. (ready.room.plans.items ≡ []) × (ready.room.tales.items ≡ [])) }
     ensures room { IfOk result (λ ready. (1 ≤ vec_capacity ready.room.plans) × (1 ≤ vec_capacity ready.room.tales)) }

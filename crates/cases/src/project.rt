@@ -18,6 +18,9 @@ use tree_model::{Bytes, Entry, Text, Tree};
 /// Where the outputs of tasks stand on the disk.
 const WORK: &str = "work/";
 
+/// The folder of the stores of configurations that have a name.
+const CONFIGS: &str = "mc/";
+
 /// Where records stand on the disk.
 const RECORDS: &str = "rec/";
 
@@ -265,16 +268,33 @@ impl Project {
         Ok(rules)
     }
 
-    /// What stands on the disk below `work/`, by paths below it.
+    /// What stands on the disk below `work/`, by paths below it; what stands below `mc/NAME/work/` by such paths behind `mc:NAME:`.
     pub fn work(&self, alloc: Global) -> Result<Listing, Wrong> {
         let mut found = BTreeMap::new(alloc);
         for (path, entry) in &self.held {
-            if let Some(inside) = path.as_str().strip_prefix(WORK) {
-                let _ = found.insert(String::from_str(alloc, inside)?, shown(alloc, entry)?)?;
+            if let Some(name) = work_name(alloc, path.as_str())? {
+                let _ = found.insert(name, shown(alloc, entry)?)?;
             }
         }
         Ok(found)
     }
+}
+
+/// The name of what stands at a path, where that is below the work folders of a store.
+fn work_name(alloc: Global, path: &str) -> Result<Option<String>, Wrong> {
+    if let Some(inside) = path.strip_prefix(WORK) {
+        return Ok(Some(String::from_str(alloc, inside)?));
+    }
+    match of_config(path) {
+        Some((config, inside)) => Ok(Some(format!(in alloc; "mc:{config}:{inside}")?)),
+        None => Ok(None),
+    }
+}
+
+/// The configuration in whose work folders a path is, and the path below them.
+fn of_config(path: &str) -> Option<(&str, &str)> {
+    let (config, rest) = path.strip_prefix(CONFIGS)?.split_once('/')?;
+    Some((config, rest.strip_prefix(WORK)?))
 }
 
 /// What a run answered and printed.

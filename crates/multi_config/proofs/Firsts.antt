@@ -1,12 +1,12 @@
 -- Names, each where it stands first.
-use Rattle.std.proofs.Common.{◌≡◌, refl, ap, ◌∙◌, sym, subst, ℕ, Bool, true, false, not, ◌&&◌, ◌||◌, ◌⊎◌, inl, inr, List, [], ◌∷◌, ◌++◌, append_assoc, append-nil, filter, map, bytes_eq}
+use Rattle.std.proofs.Common.{◌≡◌, refl, ap, ◌∙◌, sym, ℕ, Bool, true, false, not, ◌&&◌, ◌||◌, ◌⊎◌, inl, inr, List, [], ◌∷◌, ◌++◌, append_assoc, append-nil, filter, map, bytes_eq}
 use Rattle.std.specs.Prelude.{if◌then◌else◌}
 use Rattle.std.specs.List.{fold, list_any}
 use Rattle.std.proofs.lemmas.List.Folds.{list_any-append}
 use Rattle.meta_model.proofs.Bools.{either_way, same_text, differs, text_itself}
 use Rattle.meta_model.specs.Text.{is_empty, is_in}
 use Rattle.multi_config.specs.declared.places.Placed.{Placed}
-use Rattle.multi_config.specs.Names.{config_of, with_name, with_named}
+use Rattle.multi_config.specs.Names.{config_of, with_named}
 use Rattle.multi_config.specs.Words.{firsts, reached}
 
 -- a name that comes behind these

@@ -1,11 +1,11 @@
 -- The folder of a configuration is a clean path.
-use Rattle.std.proofs.Common.{◌≡◌, refl, ap, ◌∙◌, sym, subst, ℕ, ◌+◌, ◌<◌, ◌≤◌, Bool, true, false, true≢false, ◌⊎◌, inl, inr, List, [], ◌∷◌, ◌++◌, codes, length, length-append, arith, All}
+use Rattle.std.proofs.Common.{◌≡◌, refl, ap, ◌∙◌, sym, subst, ℕ, ◌+◌, ◌<◌, ◌≤◌, Bool, true, false, true≢false, inl, inr, List, [], ◌∷◌, codes, length, length-append, arith, All}
 use Rattle.std.specs.Prelude.{◌==◌, ◌&&◌, ◌≢◌, Contains, nat_le, not}
-use Rattle.std.specs.List.{AllByRecursion, list_all, slice_index_or}
+use Rattle.std.specs.List.{AllByRecursion, list_all}
 use Rattle.std.proofs.lemmas.Bool.Decides.{Decides-eqb}
 use Rattle.std.proofs.lemmas.List.Splits.{slice_split_none}
 use Rattle.std.proofs.lemmas.List.Elements.{All-append, All-cons, All-nil, All-from_recursion}
-use Rattle.tree_model.specs.Path.{IsClean, IsPart, inside, parts_of}
+use Rattle.tree_model.specs.Path.{IsClean, IsPart, parts_of}
 use Rattle.tree_model.proofs.FolderLemmas.{parts_inside}
 use Rattle.meta_model.proofs.Bools.{either_way, and_left, and_right}
 use Rattle.meta_model.specs.Text.{is_empty, is_letter_digit_or}
@@ -90,3 +90,9 @@ pub prefix_short : (mc : List ℕ) → IsNamed mc → length (store_prefix mc) �
 prefix_short [] n = omega arith
 prefix_short (c ∷ mc) (inl e) = absurd cc
 prefix_short (c ∷ mc) (inr e) = let short = name_length (c ∷ mc) e in let l = length-append (c ∷ mc) (codes "/") in omega (arith, short, l)
+
+-- a name has no slash
+pub name_slashless : (name : List ℕ) → is_config_name name ≡ true → AllByRecursion (λ c. (c == 47) ≡ false) name
+name_slashless name e =
+    let made = and_left (not (is_empty name) && list_all is_good name) (nat_le (length name) 255) e in
+    none_is 47 refl name (each_good name (and_right (not (is_empty name)) (list_all is_good name) made))

@@ -1,5 +1,5 @@
 -- Words one after another.
-use Rattle.std.proofs.Common.{◌≡◌, refl, ap, ◌∙◌, sym, ℕ, List, [], ◌∷◌, ◌++◌, append_assoc, Result, Ok, Err}
+use Rattle.std.proofs.Common.{◌≡◌, refl, ap, sym, List, [], ◌∷◌, ◌++◌, append_assoc, Result, Ok, Err}
 use Rattle.multi_config.specs.declared.places.Placed.{Placed}
 use Rattle.multi_config.specs.Words.{WordRefusal, with_first}
 

@@ -1,5 +1,5 @@
 -- Each part is of the default configuration, or of one with a good name.
-use Rattle.std.proofs.Common.{◌≡◌, refl, ap, ◌∙◌, sym, subst, ℕ, Bool, true, false, ◌⊎◌, inl, inr, List, [], ◌∷◌, filter, map, Option, Some, None, Result, Ok, Err}
+use Rattle.std.proofs.Common.{◌≡◌, refl, ap, ◌∙◌, sym, subst, ℕ, Bool, true, false, inl, inr, List, [], ◌∷◌, filter, map, Option, Some, None, Result, Ok, Err}
 use Rattle.std.specs.Prelude.{All, if◌then◌else◌}
 use Rattle.std.specs.List.{AllByRecursion, list_any}
 use Rattle.meta_model.proofs.Bools.{either_way, and_left, from_or}
@@ -7,7 +7,7 @@ use Rattle.meta_model.specs.Text.{is_empty, is_in}
 use Rattle.multi_config.specs.declared.parts.ConfigTargets.{ConfigTargets}
 use Rattle.multi_config.specs.declared.places.Placed.{Placed}
 use Rattle.multi_config.specs.Named.{IsNamed}
-use Rattle.multi_config.specs.Words.{WordRefusal, firsts, is_config, is_config_name, nothing_provides, no_such_config, part_of, parts_in, parts_of, place_in, place_of, placed, places_of, reached, with_first}
+use Rattle.multi_config.specs.Words.{WordRefusal, firsts, is_config, is_config_name, no_such_config, part_of, parts_in, parts_of, place_in, place_of, placed, places_of, reached, with_first}
 
 empty_is : (name : List ℕ) → is_empty name ≡ true → name ≡ []
 empty_is [] e = refl
@@ -28,7 +28,7 @@ place_named configs word (Some target) place e = elim (either_way (is_config con
   | inr f ↦ (let is : ◌≡◌ {A = Result Placed WordRefusal} (Err (no_such_config target.config)) (Ok place) = sym (ap (λ (b : Bool). if b then Ok target else Err (no_such_config target.config)) f) ∙ e in absurd cc)
 ]
 
-abbrev AreNamed : List Placed → Type 0
+abbrev pub AreNamed : List Placed → Type 0
 AreNamed places = AllByRecursion (λ (p : Placed). IsNamed p.config) places
 
 both_named : (first : Result Placed WordRefusal) (rest : Result (List Placed) WordRefusal) (places : List Placed) → ((p : Placed) → first ≡ Ok p → IsNamed p.config) → ((ps : List Placed) → rest ≡ Ok ps → AreNamed ps) → with_first first rest ≡ Ok places → AreNamed places
@@ -36,7 +36,7 @@ both_named (Err fault) rest places f g e = absurd cc
 both_named (Ok p) (Err fault) places f g e = absurd cc
 both_named (Ok p) (Ok ps) places f g e = let same : p ∷ ps ≡ places = cc in subst AreNamed same (f p refl, g ps refl)
 
-places_named : (configs words : List (List ℕ)) (places : List Placed) → places_of configs words ≡ Ok places → AreNamed places
+pub places_named : (configs words : List (List ℕ)) (places : List Placed) → places_of configs words ≡ Ok places → AreNamed places
 places_named configs [] places e = let same : [] ≡ places = cc in subst AreNamed same tt
 places_named configs (word ∷ words) places e = both_named (place_of configs word) (places_of configs words) places (λ p f. place_named configs word (placed word) p f) (λ ps f. places_named configs words ps f) e
 
@@ -55,7 +55,7 @@ configs_named : (places : List Placed) → AreNamed places → AllByRecursion Is
 configs_named [] h = tt
 configs_named (p ∷ places) h = (h.0, configs_named places h.1)
 
-reached_named : (places : List Placed) → AreNamed places → AllByRecursion IsNamed (reached places)
+pub reached_named : (places : List Placed) → AreNamed places → AllByRecursion IsNamed (reached places)
 reached_named [] h = (inl refl, tt)
 reached_named (p ∷ places) h =
     let names = firsts (map (λ (t : Placed). t.config) (p ∷ places)) in

@@ -1,3 +1,4 @@
+pub mod ConfigLaws
 pub mod Configs
 pub mod Faults
 pub mod Named
@@ -8,4 +9,5 @@ pub mod Plans
 pub mod Project
 pub mod Reading
 pub mod Samples
+pub mod Shown
 pub mod Words

@@ -2,7 +2,7 @@
 use Rattle.std.specs.Prelude.{◌≡◌, ◌≢◌, ◌≤◌, ◌↔◌, ◌⊎◌, ℕ, Bool, true, false, List, [], ◌∷◌, ◌++◌, All, length, map, flat_map, Some, Ok, codes}
 use Rattle.std.specs.Bool.{OnFalse, OnTrue}
 use Rattle.std.specs.List.{slice_get}
-use Rattle.outside_traits.specs.Bench.{Gives}
+use Rattle.outside_traits.specs.Bench.{Gives, Workplace}
 use Rattle.outside_traits.specs.Fault.{Rose}
 use Rattle.outside_traits.specs.Passes.{Passes}
 use Rattle.outside_traits.specs.Store.{IsListing, MakesWay, Store}
@@ -62,6 +62,19 @@ pub record Standing : Type 0 where
   pub benches : List ℕ
   pub written : List ℕ
   pub sink : ℕ
+
+-- where devices stand, by what they tell
+abbrev pub stands : {D B W : Type 0} → (D → Story) → (D → ℕ) → (B → Gives) → (B → Workplace) → (B → ℕ) → (W → List ℕ) → (W → ℕ) → ℕ → D → List B → W → Standing
+stands story disk_faults gives place bench_faults written sink_faults layers disk benches sink = record {
+  layers = layers;
+  story = story disk;
+  disk = disk_faults disk;
+  gives = map gives benches;
+  runs = map (λ b. (place b).runs) benches;
+  benches = map bench_faults benches;
+  written = written sink;
+  sink = sink_faults sink;
+}
 
 -- how a part that was reached ended: its plan and its tale, as far as there are such, and its status
 pub record PartEnd : Type 0 where

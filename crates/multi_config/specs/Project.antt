@@ -1,6 +1,6 @@
 -- What a run of several configurations reads, or the status that this is refused with (own rules; BitBake User Manual, "The BitBake Command", section
 -- "Executing a Multiple Configuration Build").
-use Rattle.std.specs.Prelude.{ℕ, List, [], ◌∷◌, Option, Result, Ok, Err, codes}
+use Rattle.std.specs.Prelude.{ℕ, List, [], ◌∷◌, Option, Result, Ok, codes}
 use Rattle.meta_model.specs.declared.event.Status.{Status}
 use Rattle.meta_model.specs.declared.event.Status.TheVariants.{Metadata}
 use Rattle.meta_model.specs.declared.entry.EntryLine.{EntryLine}

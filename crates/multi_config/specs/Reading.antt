@@ -1,6 +1,6 @@
 -- What the metadata says of configurations (BitBake User Manual, "Variables Glossary", BBMULTICONFIG, and "The BitBake Command", section "Executing a
 -- Multiple Configuration Build"; the order of the entries, and that the lists of recipes and appends stay, are own rules).
-use Rattle.std.specs.Prelude.{ℕ, true, List, [], ◌∷◌, ◌++◌, Option, Result, Ok, Err, codes}
+use Rattle.std.specs.Prelude.{ℕ, true, List, [], ◌∷◌, ◌++◌, Result, Ok, codes}
 use Rattle.meta_model.specs.declared.line.Kind.TheVariants.{Conf}
 use Rattle.meta_model.specs.declared.entry.Op.TheVariants.{Set as Assigned}
 use Rattle.meta_model.specs.declared.entry.EntryLine.{EntryLine}

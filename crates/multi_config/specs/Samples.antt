@@ -1,5 +1,5 @@
 -- What a small project with configurations gives, as the worked examples use it.
-use Rattle.std.specs.Prelude.{ℕ, List, [], ◌∷◌, map, Option, Result, Ok, Err, codes}
+use Rattle.std.specs.Prelude.{ℕ, List, [], ◌∷◌, map, Option, Result, codes}
 use Rattle.meta_model.specs.Active.{value}
 use Rattle.load_model.specs.LoadRefusal.{◌>>=◌, refused_as}
 use Rattle.load_model.specs.Layers.{Config, LayerRefusal, no_list}

@@ -1,8 +1,7 @@
 -- The configurations that words name: `mc:NAME:RECIPE` and `mc:NAME:RECIPE:TASK` (BitBake User Manual, "The BitBake Command", section "Executing a
 -- Multiple Configuration Build"; the names, the refusals and their order are own rules).
-use Rattle.std.specs.Prelude.{ℕ, Bool, true, false, not, ◌&&◌, ◌||◌, List, [], ◌∷◌, map, filter, drop, length, nat_le, bytes_eq, Option, Some, None, Result, Ok, Err, codes, if◌then◌else◌}
+use Rattle.std.specs.Prelude.{ℕ, Bool, not, ◌&&◌, ◌||◌, List, [], ◌∷◌, map, filter, drop, length, nat_le, bytes_eq, Option, Some, None, Result, Ok, Err, codes, if◌then◌else◌}
 use Rattle.std.specs.List.{list_any}
-use Rattle.std.specs.Option.{option_map_or}
 use Rattle.meta_model.specs.Text.{colon, is_empty, is_in, is_made_of, split_at_first}
 use Rattle.answer_model.specs.Targets.{is_elsewhere, target_name, target_of}
 use Rattle.multi_config.specs.declared.parts.ConfigTargets.{ConfigTargets}

@@ -13,6 +13,7 @@
 
 mod examples;
 mod fault;
+mod laws;
 mod parts;
 mod places;
 mod splitting;
@@ -22,6 +23,7 @@ pub use examples::{
     example_of_answers, example_of_configs, example_of_parts, example_of_refused_words,
 };
 pub use fault::SplitFault;
+pub use laws::{configs_law, parts_law};
 pub use parts::ConfigTargets;
 pub use places::is_config_name;
 pub use splitting::split;

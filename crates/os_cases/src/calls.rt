@@ -30,7 +30,7 @@ use crate::watch::Watch;
 use host_files::Syncs;
 use outside_os::{FolderDisk, FolderLayers, ReadAhead, StdSink};
 use outside_traits::{Bench, BenchFault, Layers, ReadFault, Sink, Taken};
-use sh_bench::{Sandboxes, ShBench};
+use sh_bench::{Configs, Sandboxes, ShBench};
 use std::cell::RefCell;
 use std::io;
 use tree_model::{Bytes, Mem, Size, is_clean};
@@ -41,6 +41,7 @@ pub struct Beside {
     pub ahead: ReadAhead,
     pub syncs: Syncs,
     pub sandboxes: Sandboxes,
+    pub configs: Configs,
 }
 
 /// The bench of the last call that was one of a bench, with its number.
@@ -156,7 +157,13 @@ fn numbered_answer<'a>(
         if let Some((_, before)) = last {
             before.close();
         }
-        let bench = ShBench::new(rt.clone()?, number, &beside.sandboxes, &beside.syncs);
+        let bench = ShBench::new(
+            rt.clone()?,
+            number,
+            &beside.sandboxes,
+            &beside.syncs,
+            &beside.configs,
+        );
         *last = Some((number, bench));
     }
     match last {

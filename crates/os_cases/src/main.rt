@@ -18,7 +18,7 @@ use calls::{Beside, answer};
 use host_files::Syncs;
 use outside_os::{FolderDisk, ReadAhead};
 use rooms::enter;
-use sh_bench::Sandboxes;
+use sh_bench::{Configs, Sandboxes};
 use std::cell::RefCell;
 use std::process::ExitCode;
 use std::{env, fs, io};
@@ -58,6 +58,7 @@ fn run_room(rt: &HostRuntime, lines: &str) -> io::Result<()> {
         ahead: ReadAhead::none(),
         syncs: Syncs::none(),
         sandboxes: Sandboxes::unknown(),
+        configs: Configs::of(Vec::new(rt.alloc())),
     };
     run_lines(rt, &beside, lines)
 }

@@ -8,12 +8,14 @@
 //!
 //! Promised of `read_mode`, for any layers that tell what they hold: it gives that text, and is refused with that status exactly
 //! where the definition refuses. `ReadFault` comes only where the layers' count of faults rose in the call; want of memory alone is
-//! free. No file is changed, and nothing but the layers is touched. The line that a status is printed with stands in `bb_report`.
+//! free. `read_part` gives the values of one of several configurations in the same way. No file is changed, and nothing but the layers is touched. The line that a status is printed with stands in `bb_report`.
 #![tactic(auto)]
 
 mod mode_examples;
 mod modes;
+mod part;
 mod targets;
 mod values;
 
 pub use modes::read_mode;
+pub use part::read_part;

@@ -52,7 +52,7 @@ fn versions<L: Layers>(alloc: Global, layers: &mut L, config: &Config) -> Result
 }
 
 /// The values of the targets' recipes.
-fn target_values<L: Layers>(
+pub(crate) fn target_values<L: Layers>(
     alloc: Global,
     layers: &mut L,
     config: &Config,

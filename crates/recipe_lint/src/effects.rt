@@ -37,10 +37,6 @@ pub(crate) const VARIABLES: &[Effect] = &[
         instead: "what is read is what the patterns of BBFILES name: write them so that they leave the file out",
     },
     Effect {
-        name: "BBMULTICONFIG",
-        instead: "make a project's folder for each configuration",
-    },
-    Effect {
         name: "BBVERSIONS",
         instead: "write a recipe for each variant, with require of a common file",
     },
@@ -327,6 +323,10 @@ pub(crate) const FLAGS: &[Effect] = &[
     Effect {
         name: "lockfiles",
         instead: "tasks share no folder: put one behind the other by [depends]",
+    },
+    Effect {
+        name: "mcdepends",
+        instead: "no task needs one of another configuration: name the targets of both",
     },
     Effect {
         name: "network",

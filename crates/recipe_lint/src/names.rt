@@ -10,6 +10,7 @@ use value_maps::{Names, put_name, put_value};
 /// The names that are there without a file that sets them: those of the program, and those that a shell knows.
 const BUILT_IN: &[&str] = &[
     "BBFILES",
+    "BB_CURRENT_MC",
     "BB_DEFAULT_TASK",
     "BB_NUMBER_THREADS",
     "DEPSDIR",

@@ -233,11 +233,27 @@ fn put_files(
     Ok(())
 }
 
-/// What is named of a task that a signature needs.
-fn dep_of<'d>(deps: &'d ListOf<DepLine>, pn: &str, task: &str) -> Option<&'d DepLine> {
-    for dep in deps.as_slice() {
-        if dep.task.as_str() == task && dep.pn.as_str() == pn {
-            return Some(dep);
+/// Whether a line names this needed task.
+fn is_of(dep: &DepLine, pn: &str, task: &str) -> bool {
+    dep.task.as_str() == task && dep.pn.as_str() == pn
+}
+
+/// What is named of a task that a signature needs, with its place. It is looked for from a place on, and then before it: two signatures of a task name
+/// mostly the same ones in one order.
+fn dep_of<'d>(
+    deps: &'d [DepLine],
+    from: usize,
+    pn: &str,
+    task: &str,
+) -> Option<(usize, &'d DepLine)> {
+    for place in from..deps.len() {
+        if is_of(&deps[place], pn, task) {
+            return Some((place, &deps[place]));
+        }
+    }
+    for place in 0..from.min(deps.len()) {
+        if is_of(&deps[place], pn, task) {
+            return Some((place, &deps[place]));
         }
     }
     None
@@ -255,25 +271,40 @@ fn put_dep(
     told.put(alloc, name.as_str(), how, is_own)
 }
 
-/// Puts in what the needed tasks differ, and what they gave.
-fn put_deps(
+/// Puts in which needed tasks are new, and which gave another output.
+fn put_new_deps(
     alloc: Global,
     told: &mut Told,
-    was: &ListOf<DepLine>,
-    now: &ListOf<DepLine>,
+    was: &[DepLine],
+    now: &[DepLine],
 ) -> Result<(), AllocError> {
-    for dep in now.as_slice() {
-        match dep_of(was, dep.pn.as_str(), dep.task.as_str()) {
+    let mut next = 0usize;
+    for dep in now {
+        match dep_of(was, next, dep.pn.as_str(), dep.task.as_str()) {
             None => put_dep(alloc, told, dep, " is needed now", true)?,
-            Some(before) if before.name.bytes != dep.name.bytes => {
-                put_dep(alloc, told, dep, " gives another output", false)?;
+            Some((place, before)) => {
+                next = place.saturating_add(1);
+                if before.name.bytes != dep.name.bytes {
+                    put_dep(alloc, told, dep, " gives another output", false)?;
+                }
             }
-            Some(_) => {}
         }
     }
-    for dep in was.as_slice() {
-        if dep_of(now, dep.pn.as_str(), dep.task.as_str()).is_none() {
-            put_dep(alloc, told, dep, " is needed no more", true)?;
+    Ok(())
+}
+
+/// Puts in which needed tasks are gone.
+fn put_gone_deps(
+    alloc: Global,
+    told: &mut Told,
+    was: &[DepLine],
+    now: &[DepLine],
+) -> Result<(), AllocError> {
+    let mut next = 0usize;
+    for dep in was {
+        match dep_of(now, next, dep.pn.as_str(), dep.task.as_str()) {
+            None => put_dep(alloc, told, dep, " is needed no more", true)?,
+            Some((place, _)) => next = place.saturating_add(1),
         }
     }
     Ok(())
@@ -288,6 +319,7 @@ pub(crate) fn differences(
     let mut told = Told::nothing(alloc);
     put_keys(alloc, &mut told, &was.key, &now.key)?;
     put_files(alloc, &mut told, &was.files, &now.files)?;
-    put_deps(alloc, &mut told, &was.deps, &now.deps)?;
+    put_new_deps(alloc, &mut told, was.deps.as_slice(), now.deps.as_slice())?;
+    put_gone_deps(alloc, &mut told, was.deps.as_slice(), now.deps.as_slice())?;
     Ok(told)
 }

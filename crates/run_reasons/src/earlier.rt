@@ -31,23 +31,27 @@ fn written_at(rt: &HostRuntime, path: &str) -> io::Result<Option<SystemTime>> {
     Ok(Some(there.modified()?))
 }
 
-/// The record of a name, where it can be read.
-pub(crate) fn record_of(rt: &HostRuntime, name: &str) -> io::Result<Option<StoredSig>> {
-    let path = format!(in rt.alloc(); "build/rec/{name}")?;
+/// The record of a name in a store, where it can be read.
+pub(crate) fn record_of(
+    rt: &HostRuntime,
+    store: &str,
+    name: &str,
+) -> io::Result<Option<StoredSig>> {
+    let path = format!(in rt.alloc(); "{store}/rec/{name}")?;
     match written_at(rt, path.as_str()) {
         Ok(Some(_)) => Ok(record_at(rt, path.as_str()).unwrap_or_default()),
         _ => Ok(None),
     }
 }
 
-/// The unihash of a task's output, as its stamp and its record tell it now. Where one of them can't be read nothing is told.
-pub(crate) fn unihash_of(rt: &HostRuntime, id: &TaskId) -> io::Result<Option<Hash>> {
-    let name = match stamp_of(rt, id.pn.as_str(), id.task.as_str()) {
+/// The unihash of a task's output, as its stamp and its record in a store tell it now. Where one of them can't be read nothing is told.
+pub(crate) fn unihash_of(rt: &HostRuntime, store: &str, id: &TaskId) -> io::Result<Option<Hash>> {
+    let name = match stamp_of(rt, store, id.pn.as_str(), id.task.as_str()) {
         Ok(Some(name)) => name,
         Err(error) if is_memory(&error) => return Err(error),
         _ => return Ok(None),
     };
-    match record_of(rt, name.as_str())? {
+    match record_of(rt, store, name.as_str())? {
         Some(stored) => Ok(Some(stored.unihash)),
         None => Ok(None),
     }
@@ -102,16 +106,18 @@ fn seek_in(
     Ok(())
 }
 
-/// Looks through records that were written before this time for those of the tasks of which one is sought. What can't be read tells nothing.
+/// Looks through records of a store that were written before this time for those of the tasks of which one is sought. What can't be read tells nothing.
 pub(crate) fn seek(
     rt: &HostRuntime,
+    store: &str,
     started: &mut [Started<'_>],
     begun: SystemTime,
 ) -> io::Result<()> {
     if started.iter().all(|one| one.sought.is_none()) {
         return Ok(());
     }
-    for entry in fs::read_dir(rt, "build/rec")?.take(MOST_RECORDS) {
+    let folder = format!(in rt.alloc(); "{store}/rec")?;
+    for entry in fs::read_dir(rt, folder.as_str())?.take(MOST_RECORDS) {
         let entry = entry?;
         let path = entry.path();
         let _ = seek_in(rt, started, path.as_str(), begun);

@@ -1,7 +1,7 @@
 // Why tasks ran: the file build/why, and a line on standard error.
 use crate::differing::differences;
 use crate::earlier::{Started, record_of, seek, unihash_of};
-use crate::stamped::Stamp;
+use crate::stamped::{Planned, Stamp};
 use crate::told::{Told, Without, reason_without};
 use host_files::{is_memory, no_memory, put_entry};
 use meta_model::{Event, Logged, Plan, PlanTask};
@@ -12,17 +12,20 @@ use std::time::SystemTime;
 use store_model::{SigRecord, StoredSig};
 use tree_model::{Bytes, Entry, Hash, ListOf};
 
-/// The file of the reasons, in the folder `build`.
+/// The file of the reasons, in the folder of the store.
 const WHY: &str = "why";
 
 /// The most tasks that are named on standard error.
 const MOST_NAMED: usize = 10;
 
-/// What is known of a run besides its plan and its tale.
+/// What is known of runs besides their plans and their tales.
 #[derive(Clone, Copy, Drop)]
 pub struct Known<'r> {
     /// The stamps of the tasks that were started, as they were then.
     pub stamps: &'r [Stamp],
+
+    /// The runs, in the order of their plans.
+    pub planned: &'r [Planned],
 
     /// When the program began.
     pub begun: SystemTime,
@@ -31,17 +34,20 @@ pub struct Known<'r> {
     pub is_forced: bool,
 }
 
-/// Keeps why tasks ran in `build/why`, and says on standard error how many did and which are the causes, where an earlier run left records: of the
-/// first plan that has a tale. Where that can't be, standard error says so, and no status changes.
+/// Keeps why tasks ran in `build/why`, and those of the configuration NAME in `build/mc/NAME/why`, and says on standard error how many did and which are
+/// the causes, where an earlier run left records. Each tale is that of the plan at its place. Where that can't be, standard error says so, and no status
+/// changes.
 pub fn keep_reasons(rt: &HostRuntime, plans: &[Plan], tales: &[ListOf<Logged>], known: &Known<'_>) {
-    for (plan, tale) in plans.iter().zip(tales) {
-        match write_reasons(rt, plan, tale.as_slice(), known) {
+    for ((plan, tale), at) in plans.iter().zip(tales).zip(known.planned) {
+        match write_reasons(rt, plan, tale.as_slice(), known, at) {
             Err(error) if !is_memory(&error) => {
-                let _ = eprintln!(rt; "bitbake: why: write of build/{WHY}: {error}");
+                let _ = eprintln!(rt;
+                    "bitbake: why: write of {}/{WHY}: {error}",
+                    at.store.as_str()
+                );
             }
             _ => {}
         }
-        return;
     }
 }
 
@@ -56,13 +62,14 @@ fn is_named(task: &PlanTask, name: &str) -> bool {
 /// The record of a task that its stamp named as it was started. Stamps are in the order of the tale, so the next one is looked at first.
 fn record_before(
     rt: &HostRuntime,
+    store: &str,
     stamps: &[Stamp],
     at: usize,
     task: &PlanTask,
 ) -> io::Result<Option<StoredSig>> {
     match stamps.get(at) {
         Some(stamp) if is_named(task, stamp.task.as_str()) => match &stamp.record {
-            Some(name) => record_of(rt, name.as_str()),
+            Some(name) => record_of(rt, store, name.as_str()),
             None => Ok(None),
         },
         _ => Ok(None),
@@ -75,6 +82,7 @@ fn started_of<'p>(
     plan: &'p Plan,
     tale: &[Logged],
     stamps: &[Stamp],
+    from: &Planned,
 ) -> io::Result<Vec<Started<'p>>> {
     let mut started = Vec::new(rt.alloc());
     for entry in tale {
@@ -84,7 +92,8 @@ fn started_of<'p>(
         } = entry.event
         {
             if let Some(task) = plan.tasks.as_slice().get(number as usize) {
-                let was = record_before(rt, stamps, started.len(), task)?;
+                let at = from.first_stamp.saturating_add(started.len());
+                let was = record_before(rt, from.store.as_str(), stamps, at, task)?;
                 let sought = was.is_none().then_some(SystemTime::UNIX_EPOCH);
                 started.push(Started {
                     number,
@@ -99,8 +108,13 @@ fn started_of<'p>(
 }
 
 /// Finds for the tasks whose stamp told nothing the newest record that tells of an earlier run. Where records can't be listed there is none.
-fn seek_others(rt: &HostRuntime, started: &mut [Started<'_>], begun: SystemTime) -> io::Result<()> {
-    match seek(rt, started, begun) {
+fn seek_others(
+    rt: &HostRuntime,
+    store: &str,
+    started: &mut [Started<'_>],
+    begun: SystemTime,
+) -> io::Result<()> {
+    match seek(rt, store, started, begun) {
         Err(error) if is_memory(&error) => Err(error),
         _ => Ok(()),
     }
@@ -121,8 +135,14 @@ fn nothing_learnt(alloc: Global, count: usize) -> Result<Learnt, AllocError> {
     })
 }
 
-/// Learns the unihash of a task.
-fn learn(rt: &HostRuntime, plan: &Plan, learnt: &mut Learnt, at: usize) -> io::Result<()> {
+/// Learns the unihash of a task in a store.
+fn learn(
+    rt: &HostRuntime,
+    store: &str,
+    plan: &Plan,
+    learnt: &mut Learnt,
+    at: usize,
+) -> io::Result<()> {
     let (Some(task), Some(is_known), Some(place)) = (
         plan.tasks.as_slice().get(at),
         learnt.are_known.get_mut(at),
@@ -132,7 +152,7 @@ fn learn(rt: &HostRuntime, plan: &Plan, learnt: &mut Learnt, at: usize) -> io::R
     };
     if !*is_known {
         *is_known = true;
-        if let Some(unihash) = unihash_of(rt, &task.id)? {
+        if let Some(unihash) = unihash_of(rt, store, &task.id)? {
             *place = unihash;
         }
     }
@@ -142,12 +162,13 @@ fn learn(rt: &HostRuntime, plan: &Plan, learnt: &mut Learnt, at: usize) -> io::R
 /// Learns the unihashes of the tasks that a task needs.
 fn learn_needed(
     rt: &HostRuntime,
+    store: &str,
     plan: &Plan,
     learnt: &mut Learnt,
     task: &PlanTask,
 ) -> io::Result<()> {
     for number in task.deps.as_slice() {
-        learn(rt, plan, learnt, *number as usize)?;
+        learn(rt, store, plan, learnt, *number as usize)?;
     }
     Ok(())
 }
@@ -241,17 +262,17 @@ fn put_root(roots: &mut Roots, task: &PlanTask, told: &Told) -> io::Result<()> {
     Ok(())
 }
 
-/// Says on standard error how many tasks ran, and the causes.
-fn tell_roots(rt: &HostRuntime, count: usize, roots: &Roots) {
+/// Says on standard error how many tasks ran, and the causes. All are in the file below the store.
+fn tell_roots(rt: &HostRuntime, store: &str, count: usize, roots: &Roots) {
     let tasks = if count == 1 { "task" } else { "tasks" };
     let words = roots.words.as_str();
     let _ = match roots.count.saturating_sub(MOST_NAMED) {
         0 if roots.count == 0 => eprintln!(rt;
-            "bitbake: why: {count} {tasks} ran; build/{WHY} says why"
+            "bitbake: why: {count} {tasks} ran; {store}/{WHY} says why"
         ),
-        0 => eprintln!(rt; "bitbake: why: {count} {tasks} ran: {words}; build/{WHY} has all"),
+        0 => eprintln!(rt; "bitbake: why: {count} {tasks} ran: {words}; {store}/{WHY} has all"),
         more => eprintln!(rt;
-            "bitbake: why: {count} {tasks} ran: {words}, and {more} more; build/{WHY} has all"
+            "bitbake: why: {count} {tasks} ran: {words}, and {more} more; {store}/{WHY} has all"
         ),
     };
 }
@@ -259,6 +280,7 @@ fn tell_roots(rt: &HostRuntime, count: usize, roots: &Roots) {
 /// Puts why each task ran, and its cause.
 fn put_all(
     rt: &HostRuntime,
+    store: &str,
     plan: &Plan,
     started: &[Started<'_>],
     is_forced: bool,
@@ -268,7 +290,7 @@ fn put_all(
     let mut learnt = nothing_learnt(rt.alloc(), plan.tasks.as_slice().len())?;
     for one in started {
         if one.was.is_some() {
-            learn_needed(rt, plan, &mut learnt, one.task)?;
+            learn_needed(rt, store, plan, &mut learnt, one.task)?;
         }
         let told = told_of(rt, plan, one, &learnt.unihashes, is_forced)?;
         put_told(text, one.task, &told)?;
@@ -282,25 +304,45 @@ fn is_again(started: &[Started<'_>]) -> bool {
     started.iter().any(|one| one.was.is_some())
 }
 
+/// The folder of all stores, from the current folder, with its slash.
+const ALL_STORES: &str = "build/";
+
+/// Writes a file into the folder of a run's store, in place of what stands there. It is reached through no link.
+pub fn put_beside(rt: &HostRuntime, at: &Planned, name: &str, text: String) -> io::Result<()> {
+    let whole = format!(in rt.alloc(); "{}/{name}", at.store.as_str())?;
+    let path = whole.as_str().strip_prefix(ALL_STORES).unwrap_or(name);
+    let bytes = Bytes::from_vec(text.into_bytes());
+    put_entry(rt, "build", path, &Entry::File { exec: false, bytes }, None)
+}
+
 /// Writes the reasons of a run, in place of those of the one before, and says the causes.
 fn write_reasons(
     rt: &HostRuntime,
     plan: &Plan,
     tale: &[Logged],
     known: &Known<'_>,
+    at: &Planned,
 ) -> io::Result<()> {
-    let mut started = started_of(rt, plan, tale, known.stamps)?;
-    seek_others(rt, &mut started, known.begun)?;
+    let store = at.store.as_str();
+    let mut started = started_of(rt, plan, tale, known.stamps, at)?;
+    seek_others(rt, store, &mut started, known.begun)?;
     let mut text = String::new(rt.alloc());
     let mut roots = Roots {
         words: String::new(rt.alloc()),
         count: 0,
     };
-    put_all(rt, plan, &started, known.is_forced, &mut text, &mut roots)?;
-    let bytes = Bytes::from_vec(text.into_bytes());
-    put_entry(rt, "build", WHY, &Entry::File { exec: false, bytes }, None)?;
+    put_all(
+        rt,
+        store,
+        plan,
+        &started,
+        known.is_forced,
+        &mut text,
+        &mut roots,
+    )?;
+    put_beside(rt, at, WHY, text)?;
     if is_again(&started) {
-        tell_roots(rt, started.len(), &roots);
+        tell_roots(rt, store, started.len(), &roots);
     }
     Ok(())
 }

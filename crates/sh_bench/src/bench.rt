@@ -1,6 +1,7 @@
 // Folders in which `sh` runs scripts.
 ghost use Rattle.std.specs.Prelude.{[], Ok, None, true};
 
+use crate::configs::Configs;
 use crate::kept::Kept;
 use crate::output::look_over;
 use crate::pace::is_soon;
@@ -32,7 +33,7 @@ const LAID_AT: u64 = 946_684_800;
 
 /// A folder below `build/bench`, in which `sh` runs scripts.
 ///
-/// Where the system lets it, scripts run in a sandbox, one for each bench and program: WORKDIR, DEPSDIR and FILESDIR are
+/// Where the system lets it, scripts run in a sandbox, one for each bench, program and configuration: WORKDIR, DEPSDIR and FILESDIR are
 /// `/bitbake/work`, `/bitbake/deps` and `/bitbake/files`, whichever bench and whichever project it is; all else of the machine is there
 /// but the project's folder `build`; they have a session of their own, and all that they start is killed when they end. Elsewhere these
 /// places are below `build/bench/at/PN/TASK`, and what is left of a script's process group is killed when it ends. `sh` is the one that the
@@ -53,6 +54,10 @@ pub struct ShBench<'a, R: Processes> {
     /// The syncs of the run, and whether a file is durable so soon by itself that nobody need wait for one, once that was tried.
     syncs: &'a Syncs,
     is_soon: Option<bool>,
+
+    /// The configuration whose tasks run, and the number of that for whose task it was cleared last.
+    configs: &'a Configs,
+    config: usize,
 
     /// What is kept of the task for which it was cleared last.
     kept: Option<Kept>,
@@ -93,9 +98,7 @@ impl<'a, R: Processes + AllocGlobal> ShBench<'a, R> {
 
     /// Ends the sandbox, and waits until that has ended, so that the next run finds its folder free.
     pub fn close(&mut self) {
-        if let Some(sandbox) = self.site.sandbox.take() {
-            sandbox.end();
-        }
+        self.site.leave_sandbox();
     }
 
     /// Counts the fault where a call of the system failed, for a call of the bench.
@@ -120,6 +123,15 @@ impl<'a, R: Processes + AllocGlobal> Site<'a, R> {
     fn release(&mut self) {
         if self.sandbox.is_none() {
             self.place = None;
+        }
+    }
+
+    /// Ends the sandbox. The system kills one where the thread ends that made it, and each configuration's run has threads of its own.
+    fn leave_sandbox(&mut self) {
+        if let Some(sandbox) = self.sandbox.take() {
+            sandbox.end();
+            self.place = None;
+            self.is_clear = false;
         }
     }
 
@@ -153,7 +165,13 @@ impl<
     ghost use Rattle.std.specs.Prelude.{◌≡◌};
 
     /// The bench of a number, without a fault so far.
-    pub fn new(rt: R, number: u32, sandboxes: &'a Sandboxes, syncs: &'a Syncs) -> Self {
+    pub fn new(
+        rt: R,
+        number: u32,
+        sandboxes: &'a Sandboxes,
+        syncs: &'a Syncs,
+        configs: &'a Configs,
+    ) -> Self {
         let site = Site {
             rt,
             number,
@@ -167,6 +185,8 @@ impl<
             site,
             syncs,
             is_soon: None,
+            configs,
+            config: 0,
             kept: None,
             script: None,
             faults: 0,
@@ -192,7 +212,12 @@ impl<
     {
         self.kept = None;
         self.script = None;
-        let kept = Kept::of(self.site.rt.alloc(), recipe, task)?;
+        let config = self.configs.number();
+        if config != self.config {
+            self.config = config;
+            self.site.leave_sandbox();
+        }
+        let kept = Kept::of(self.site.rt.alloc(), self.configs.current(), recipe, task)?;
         kept.forget(&self.site.rt)?;
         self.kept = Some(kept);
         self.site.clear(recipe, task)

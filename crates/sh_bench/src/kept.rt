@@ -46,10 +46,10 @@ shift
 const TRIES: u32 = 4;
 
 /// What is kept of a task until it is started again: its log, in the file `build/log/PN/TASK`, and where it failed what it had, in the
-/// folder `build/failed/PN/TASK`.
+/// folder `build/failed/PN/TASK`. Of a task of the configuration NAME these are `build/log/mc/NAME/PN/TASK` and `build/failed/mc/NAME/PN/TASK`.
 #[derive(Drop)]
 pub struct Kept {
-    /// How messages name the task: `PN:TASK`.
+    /// How messages name the task: `PN:TASK`, and of another configuration `mc:NAME:PN:TASK`.
     task: String,
 
     /// The folder of the recipe's logs, and in it the file of this one.
@@ -62,14 +62,30 @@ pub struct Kept {
 }
 
 impl Kept {
-    /// What is kept of a task.
-    pub fn of(alloc: Global, recipe: &str, task: &str) -> Result<Self, AllocError> {
+    /// What is kept of a task of a configuration, which has no name where it is the default one.
+    pub fn of(alloc: Global, config: &str, recipe: &str, task: &str) -> Result<Self, AllocError> {
+        if config.is_empty() {
+            return Kept::under(alloc, "", "", recipe, task);
+        }
+        let place = format!(in alloc; "/mc/{config}")?;
+        let front = format!(in alloc; "mc:{config}:")?;
+        Kept::under(alloc, place.as_str(), front.as_str(), recipe, task)
+    }
+
+    /// What is kept of a task in folders of their own within those of logs and of failed tasks, where messages name it behind this front.
+    fn under(
+        alloc: Global,
+        place: &str,
+        front: &str,
+        recipe: &str,
+        task: &str,
+    ) -> Result<Self, AllocError> {
         Ok(Kept {
-            task: format!(in alloc; "{recipe}:{task}")?,
-            folder: format!(in alloc; "{LOGS}/{recipe}")?,
-            file: format!(in alloc; "{LOGS}/{recipe}/{task}")?,
-            failed_above: format!(in alloc; "{FAILED}/{recipe}")?,
-            failed: format!(in alloc; "{FAILED}/{recipe}/{task}")?,
+            task: format!(in alloc; "{front}{recipe}:{task}")?,
+            folder: format!(in alloc; "{LOGS}{place}/{recipe}")?,
+            file: format!(in alloc; "{LOGS}{place}/{recipe}/{task}")?,
+            failed_above: format!(in alloc; "{FAILED}{place}/{recipe}")?,
+            failed: format!(in alloc; "{FAILED}{place}/{recipe}/{task}")?,
         })
     }
 

@@ -7,6 +7,7 @@
 #![tactic(auto)]
 
 mod bench;
+mod configs;
 mod kept;
 mod output;
 mod pace;
@@ -17,5 +18,6 @@ mod supervisor;
 mod telling;
 
 pub use bench::ShBench;
+pub use configs::Configs;
 pub use sandboxes::Sandboxes;
 pub use telling::Telling;

@@ -1,11 +1,12 @@
 -- What is known by what a folder's disk keeps.
-use Rattle.std.proofs.Common.{◌≡◌, ◌∙◌, sym, ap, refl, subst, arith, ℕ, suc, ◌+◌, ◌-◌, ◌≤◌, min, Bool, true, false, List, ◌∷◌, ◌++◌, length, map, take, drop, inl, inr, append_assoc, length-append}
+use Rattle.std.proofs.Common.{◌≡◌, ◌∙◌, sym, ap, refl, subst, arith, ℕ, zero, suc, ◌+◌, ◌-◌, ◌≤◌, ◌⊎◌, min, Bool, true, false, List, [], ◌∷◌, ◌++◌, length, map, take, drop, inl, inr, append_assoc, length-append}
 use Rattle.tree_model.specs.Path.{IsClean, inside}
+use Rattle.outside_traits.specs.declared.call.Call.{Call}
 use Rattle.outside_traits.specs.declared.call.Call.TheVariants.{Looked}
 use Rattle.outside_traits.specs.Answers.{IsSettled}
 use Rattle.outside_traits.specs.Passes.{Passes}
 use Rattle.outside_traits.specs.Store.{IsFree, Store}
-use Rattle.outside_traits.specs.Story.{IsContent, IsImage, IsImageAbove, IsImageSince, IsSound, LeftBy, Story, held_before, looked, moment, unsynced}
+use Rattle.outside_traits.specs.Story.{IsContent, IsImage, IsImageAbove, IsImageSince, IsSound, LeftBy, LeftSince, Story, before, held_before, looked, moment, unsynced}
 use Rattle.outside_traits.proofs.Calls.{then_same}
 use Rattle.outside_traits.proofs.Images.{left_more, now-since}
 use Rattle.outside_traits.proofs.Runs.{each_since}
@@ -13,6 +14,16 @@ use Rattle.sub_disk.specs.Sub.{GoesOn, IsKept, IsPlace, IsReachable, IsSettledWh
 use Rattle.sub_disk.proofs.Texts.{split_at}
 use Rattle.sub_disk.proofs.Below.{Settled, below_content, held_below, leaves_below, left_below, length_below, since_below, unsynced_below, unsynced_bound}
 use Rattle.sub_disk.proofs.Outside.{look_passes, outside_run, sound_before}
+
+-- an image that was left at some moment was left before the last calls, or behind them
+since_split : (m t k : ℕ) (h : Store) (calls : List Call) → length calls ≡ m + k → (image : Store) → LeftSince h calls t image → LeftSince (held_before m h calls) (drop m calls) t image ⊎ LeftSince h calls k image
+since_split zero t k h calls count image left = inl left
+since_split (suc m) t k h [] count image left = absurd (omega (arith, count))
+since_split (suc m) t k h (call ∷ calls) count image (inl now) = inr (inl (omega (arith, count), now.1))
+since_split (suc m) t k h (call ∷ calls) count image (inr past) = elim (since_split m t k (before call h) calls (omega (arith, count)) image past) [
+  | inl first ↦ inl first
+  | inr last ↦ inr (inr last)
+]
 
 module _ (prefix : List ℕ) (place : IsPlace prefix) (made : ℕ) (start story : Story) (sub : IsSub prefix made start story) (sound : IsSound story) where
   within : made ≤ length story.calls
@@ -82,6 +93,8 @@ module _ (prefix : List ℕ) (place : IsPlace prefix) (made : ℕ) (start story 
     now = λ image left. let w = run_outside.now image left in subst (λ (h : Store). SameOutside prefix h image) (sub.settled w.0 w.1) w.2;
     since = λ image left. let w = each_since (λ i path out. refl) run_outside image left in subst (λ (h : Store). SameOutside prefix h image) (sub.settled w.0 w.1) w.2;
     run = run_outside;
+    split = λ t image left. subst (λ (s : Story). IsImageSince s t image ⊎ IsImageSince story (moment start) image) there_is (since_split made t (moment start) story.held story.calls sub.counted image left);
+    lawful = sound_below;
     held_below = refl;
     now_below = image_below;
     since_below = λ t image le left. image_since t image left;
@@ -95,6 +108,8 @@ goes_on_look prefix start story sub long known = record {
   now = known.now;
   since = λ image left. by image left;
   run = then_same known.run (look_passes story);
+  split = λ t image left. split t image left;
+  lawful = known.lawful;
   held_below = known.held_below;
   now_below = known.now_below;
   since_below = λ t image le left. elim left [
@@ -106,6 +121,13 @@ goes_on_look prefix start story sub long known = record {
   where
     now_here : (t : ℕ) (image : Store) → t ≤ moment sub → IsImage story image → IsImageSince story (moment start + t) image
     now_here t image le left = now-since story (moment start + t) image (omega (arith, le, long)) left
+
+    split : (t : ℕ) (image : Store) → IsImageSince (looked story) t image → IsImageSince start t image ⊎ IsImageSince (looked story) (moment start) image
+    split t image (inl now) = inr (inl (omega (arith, long), now.1))
+    split t image (inr past) = elim (known.split t image past) [
+      | inl first ↦ inl first
+      | inr last ↦ inr (inr last)
+    ]
 
     by : (image : Store) → IsImageSince (looked story) (moment start) image → SameOutside prefix start.held image
     by image (inl now) = known.now image now.1

@@ -113,13 +113,15 @@ abbrev pub SameOutside : List ℕ → Store → Store → Type 0
 SameOutside prefix old new = (path : List ℕ) → (BeginsWith prefix path → ⊥) → new path ≡ old path
 
 -- What is known of a disk's story that goes on from the start, where the folder's disk told the story `sub`. Outside of the folder nothing has
--- changed, neither in what is held nor in what a crash leaves, now or at any moment since; and in the folder stands what its disk holds, and a crash
+-- changed, neither in what is held nor in what a crash leaves, now or at any moment since, and what a crash left before is as it was; and in the folder stands what its disk holds, and a crash
 -- leaves there what one leaves of its disk, now, at any moment since a moment of its own, and where besides such a moment is durable.
 pub record GoesOn (prefix : List ℕ) (start story sub : Story) : Type 0 where
   pub held : SameOutside prefix start.held story.held
   pub now : (image : Store) → IsImage story image → SameOutside prefix start.held image
   pub since : (image : Store) → IsImageSince story (moment start) image → SameOutside prefix start.held image
   pub run : Passes start story (SameOutside prefix)
+  pub split : (t : ℕ) (image : Store) → IsImageSince story t image → IsImageSince start t image ⊎ IsImageSince story (moment start) image
+  pub lawful : IsSound sub
   pub held_below : below prefix story.held ≡ sub.held
   pub now_below : (image : Store) → IsImage story image → IsImage sub (below prefix image)
   pub since_below : (t : ℕ) (image : Store) → t ≤ moment sub → IsImageSince story (moment start + t) image → IsImageSince sub t (below prefix image)

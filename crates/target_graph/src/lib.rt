@@ -22,6 +22,6 @@ mod targets;
 pub use asked::Asked;
 pub use laws::run_law;
 pub use multi_config::{is_elsewhere, target_name};
-pub use part::find_part_run;
+pub use part::{find_part_run, named_config};
 pub use parts::find_parts;
 pub use run::{Run, find_run};

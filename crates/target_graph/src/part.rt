@@ -88,8 +88,8 @@ fn asked_under<L: Layers>(
     }
 }
 
-/// Reads the configuration of a name.
-fn named_config<L: Layers>(alloc: Global, layers: &mut L, name: &str) -> Result<Config, Status>
+/// Reads the configuration of a name, over the default one; without a name it is that.
+pub fn named_config<L: Layers>(alloc: Global, layers: &mut L, name: &str) -> Result<Config, Status>
     ensures ok { IfOk result (λ made. L.tells → (paths : List (List ℕ)) → IsListing [] (L.files layers.old) paths
         → meant.read_named (sources_of (L.files layers.old)) paths name.now ≡ Ok (config_meant made)) }
     ensures err { IfErr result (λ status. L.tells → (paths : List (List ℕ)) → IsListing [] (L.files layers.old) paths

@@ -3,7 +3,9 @@ use Rattle.bitbake_top.proofs.Begun.{words_not_ok, words_refusal, words_steady}
 use Rattle.bitbake_top.proofs.Devices.{unchanged_rose}
 use Rattle.bitbake_top.proofs.Drying.{asks_dry, at_dry, dry_exactly}
 use Rattle.bitbake_top.proofs.Kept.{unbegun_keeps}
-use Rattle.bitbake_top.proofs.Runs.{asks_for, at_request}
+use Rattle.bitbake_top.proofs.Runs.{asks_for, asks_shows, at_request, at_shows}
+use Rattle.multi_config.specs.Parts.{Standing, stands}
+use Rattle.multi_config.specs.Shown.{ShowsConfigs}
 use Rattle.bitbake_top.proofs.top.bitbake.Goals as goal
 
 pub returns-in-Ok-Runs-clause-keeps : goal.returns-in-Ok-Runs-clause-keeps
@@ -39,3 +41,10 @@ returns-in-Err-clause-keeps g c request asks l d b paths lists plan planned give
 
 pub returns-in-Ok-Runs-clause-concludes : goal.returns-in-Ok-Runs-clause-concludes
 returns-in-Ok-Runs-clause-concludes g c = at_request _ c.args.words.now _ (asks_for _ _ _ c.in-Ok-Runs.ensures.ok c.in-Ok-Runs.field-0-is) c.run.ensures.concludes
+
+pub returns-in-Ok-Shows-clause-shows : goal.returns-in-Ok-Shows-clause-shows
+returns-in-Ok-Shows-clause-shows g c =
+    let before : Standing = stands g.D.Disk.story g.D.Disk.faults g.B.Bench.gives g.B.Bench.place g.B.Bench.faults g.W.Sink.written g.W.Sink.faults (g.L.Layers.faults c.args.layers) c.args.disk c.args.benches.items c.args.sink in
+    let now : Standing = stands g.D.Disk.story g.D.Disk.faults g.B.Bench.gives g.B.Bench.place g.B.Bench.faults g.W.Sink.written g.W.Sink.faults (g.L.Layers.faults c.show_configs.new.layers) c.args.disk c.args.benches.items c.show_configs.new.sink in
+    at_shows (λ what request. ShowsConfigs g.L.Layers.tells g.W.Sink.tells what (g.L.Layers.files c.args.layers) request before now c.show_configs.result) c.args.words.now c.in-Ok-Shows.what c.in-Ok-Shows.request
+    (asks_shows _ _ _ _ c.in-Ok-Shows.ensures.ok c.in-Ok-Shows.field-0-is) (c.show_configs.ensures.shows before)

@@ -1,0 +1,63 @@
+-- What a run would do, asked before there is one.
+use Rattle.std.proofs.Common.{◌≡◌, ◌∙◌, sym, subst, ◌⊎◌, true, ℕ, List, [], inl, inr}
+use Rattle.std.proofs.lemmas.Bool.{false≢true}
+use Rattle.outside_traits.specs.Store.{IsListing, Store}
+use Rattle.meta_model.specs.declared.event.Status.{Status}
+use Rattle.meta_model.specs.declared.event.Status.TheVariants as status
+use Rattle.meta_model.specs.declared.plan.Plan.{Plan}
+use Rattle.answer_model.specs.Answers.{is_refusal}
+use Rattle.answer_model.specs.declared.asked.RunRequest.{RunRequest}
+use Rattle.answer_model.specs.Asked.{AskRun}
+use Rattle.answer_model.specs.Run.{Files, IsRunPlan, IsUnrun}
+use Rattle.why_model.specs.Answered.{HasWhy, IsPlanned, Prints, PrintsFront}
+use Rattle.bitbake_top.specs.Why.{IsWhyStatus}
+use Rattle.bitbake_top.proofs.Begun.{one_plan}
+
+-- where there is a plan its statuses fit
+pub planned_why : (s : Status) (files : Files) (paths : List (List ℕ)) (request : RunRequest) → IsWhyStatus s → IsPlanned files paths request → HasWhy s files paths request
+planned_why status.Ok files paths request is planned = planned
+planned_why status.WriteFault files paths request is planned = planned
+planned_why status.DiskFault files paths request is planned = planned
+planned_why (status.Collision name held given) files paths request is planned = planned
+planned_why status.OutOfMemory files paths request is planned = tt
+planned_why status.ReadFault files paths request is planned = absurd is
+planned_why (status.Metadata file line kind detail) files paths request is planned = absurd is
+planned_why (status.Limit kind) files paths request is planned = absurd is
+planned_why status.TaskFailed files paths request is planned = absurd is
+planned_why status.Usage files paths request is planned = absurd is
+planned_why status.BenchFault files paths request is planned = absurd is
+planned_why (status.Unsteady pn task held given) files paths request is planned = absurd is
+
+-- a refusal is answered as it is
+refusal_why : (s : Status) (files : Files) (paths : List (List ℕ)) (request : RunRequest) → is_refusal s ≡ true → IsUnrun files paths request s → HasWhy s files paths request
+refusal_why status.ReadFault files paths request refusal unrun = tt
+refusal_why status.OutOfMemory files paths request refusal unrun = tt
+refusal_why (status.Metadata file line kind detail) files paths request refusal (inl is) = let e : status.Metadata file line kind detail ≡ status.OutOfMemory = is in absurd (cc)
+refusal_why (status.Metadata file line kind detail) files paths request refusal (inr (inl is)) = let e : status.Metadata file line kind detail ≡ status.ReadFault = is in absurd (cc)
+refusal_why (status.Metadata file line kind detail) files paths request refusal (inr (inr refused)) = refused
+refusal_why (status.Limit kind) files paths request refusal (inl is) = let e : status.Limit kind ≡ status.OutOfMemory = is in absurd (cc)
+refusal_why (status.Limit kind) files paths request refusal (inr (inl is)) = let e : status.Limit kind ≡ status.ReadFault = is in absurd (cc)
+refusal_why (status.Limit kind) files paths request refusal (inr (inr refused)) = refused
+refusal_why status.Ok files paths request refusal unrun = absurd (false≢true refusal)
+refusal_why status.WriteFault files paths request refusal unrun = absurd (false≢true refusal)
+refusal_why status.TaskFailed files paths request refusal unrun = absurd (false≢true refusal)
+refusal_why status.Usage files paths request refusal unrun = absurd (false≢true refusal)
+refusal_why status.DiskFault files paths request refusal unrun = absurd (false≢true refusal)
+refusal_why status.BenchFault files paths request refusal unrun = absurd (false≢true refusal)
+refusal_why (status.Collision name held given) files paths request refusal unrun = absurd (false≢true refusal)
+refusal_why (status.Unsteady pn task held given) files paths request refusal unrun = absurd (false≢true refusal)
+
+pub refused_why : (s t : Status) (files : Files) (paths : List (List ℕ)) (request : RunRequest) → is_refusal s ≡ true → IsUnrun files paths request s → (t ≡ s) ⊎ (t ≡ status.OutOfMemory) → HasWhy t files paths request
+refused_why s t files paths request refusal unrun (inl same) = subst (λ (x : Status). HasWhy x files paths request) (sym same) (refusal_why s files paths request refusal unrun)
+refused_why s t files paths request refusal unrun (inr memory) = subst (λ (x : Status). HasWhy x files paths request) (sym memory) tt
+
+-- the request has one plan
+pub prints_at : (files : Files) (paths : List (List ℕ)) (request : RunRequest) (one plan : Plan) (held : Store) (old new : List ℕ) → IsListing [] files paths → IsRunPlan files paths request one → IsRunPlan files paths request plan → Prints request one held old new → Prints request plan held old new
+prints_at files paths request one plan held old new lists first second prints = subst (λ (p : Plan). Prints request p held old new) (one_plan files paths request one plan lists first second) prints
+
+pub front_at : (files : Files) (paths : List (List ℕ)) (request : RunRequest) (one plan : Plan) (held : Store) (old new : List ℕ) → IsListing [] files paths → IsRunPlan files paths request one → IsRunPlan files paths request plan → PrintsFront request one held old new → PrintsFront request plan held old new
+front_at files paths request one plan held old new lists first second prints = subst (λ (p : Plan). PrintsFront request p held old new) (one_plan files paths request one plan lists first second) prints
+
+-- words ask for one run alone
+pub at_run : (P : RunRequest → Type 0) (words : List (List ℕ)) (one : RunRequest) → AskRun words one → P one → (request : RunRequest) → AskRun words request → P request
+at_run P words one first holds request second = subst P (let both = sym first ∙ second in cc) holds

@@ -1,0 +1,11 @@
+//! The run of a plan over the store of a configuration, which stands in a folder of the disk.
+//!
+//! `build_config` makes the folder ready, and runs the plan by `build_resume` over a disk of its own there (`sub_disk`). Promised is what `build` promises
+//! over that disk's story, and of the whole disk that nothing outside of the folder is changed but what was in the folder's way (`DidFolder` of
+//! `multi_config`). The default configuration, which has no name, has no folder: its store is the whole disk.
+#![tactic(auto)]
+
+mod below;
+mod config;
+
+pub use config::build_config;
