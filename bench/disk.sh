@@ -232,8 +232,9 @@ aim 'one file of 16,384 changed' 'v1 - v3 <= 0.05 * (v2 - v3)' "$again" "$first"
 rm -rf "$disk/large/build"
 (cd "$disk/large" && "$program" large beside) | awk '{
     if ("date +%s%N" | getline now) close("date +%s%N")
-    if ($1 == "ended" && before && now - before > longest) longest = now - before
-    if ($1 == "ended") before = now
+    if ($1 != "ended" || $2 !~ /^beside:/) next
+    if (before && now - before > longest) longest = now - before
+    before = now
 } END { printf "%d\n", longest / 1000 }' >"$scratch/longest"
 longest=$(cat "$scratch/longest")
 echo "the longest time without an end beside it: $((longest / 1000)) ms"
