@@ -24,8 +24,9 @@ use tree_model::Text;
 /// `words` are those of a run: with the options `-f` and `--no-setscene` it is told what a run with these would do, and `-k` has no bearing. Other words are
 /// refused as `Usage`. (BitBake User Manual, "The BitBake Command"; that the program tells this, and the text, are own rules.)
 ///
-/// Under `Ok` the text is the one that is meant (`why_model`). Metadata is refused as for a run. It is refused besides where the disk failed, and where two
-/// signatures have one digest. Each refusal's line is printed. Want of memory is free.
+/// Under `Ok` the text is the one that is meant (`why_model`). Metadata is refused as for a run. It is refused besides where the disk failed. `Collision`
+/// comes only where the words have a plan; that two signatures have one digest then is said by `why_text`, and not here. Each refusal's line is printed.
+/// Want of memory is free.
 pub fn why<L: Layers, D: Disk, W: Sink>(
     alloc: Global,
     words: &[Text],
