@@ -1,5 +1,5 @@
 // The datastore.
-ghost use Rattle.std.specs.Prelude.{◌≡◌, ◌++◌, ◌∷◌, [], OnOk, OnErr, IfOk, IfErr, Ok, Some, None, option_copied, filter, fold, true, List};
+ghost use Rattle.std.specs.Prelude.{◌≡◌, ◌++◌, ◌∷◌, [], OnOk, OnErr, IfOk, IfErr, Ok, Some, None, option_copied, is_some, filter, fold, true, List};
 ghost use Rattle.std.specs.Option.{option_map};
 ghost use Rattle.std.specs.Rc.{rc_value};
 ghost use Rattle.meta_model.specs.declared.entry.EntryLine.{EntryLine as Line};
@@ -266,6 +266,15 @@ impl Datastore {
         ensures { IfOk result (λ made. made ≡ base.names self.now) }
     {
         self.maps.names(alloc)
+    }
+
+    /// The names that have the flag, in byte order. It looks at each name that is kept once, and copies those alone that have the
+    /// flag.
+    pub fn flagged(&self, alloc: Global, flag: &str) -> Result<Texts, Mem>
+        ensures { IfOk result (λ made. made ≡ filter (λ t. is_some (base.flag self.now t flag.now))
+            (base.names self.now)) }
+    {
+        self.maps.flagged(alloc, flag)
     }
 
     /// The tasks in byte order, each with the tasks that it comes after, in byte order ("Promoting a Function to a Task",

@@ -6,5 +6,6 @@ pub mod Steps
 pub mod Naming
 pub mod Winning
 pub mod Keeping
+pub mod Flagging
 pub mod Hiding
 pub mod Lines

@@ -8,3 +8,4 @@ pub mod Picked
 pub mod Left
 pub mod Keys
 pub mod Telling
+pub mod Flagged

@@ -11,6 +11,7 @@ ghost use Rattle.value_maps.specs.Found.{own_at, form_of, is_present, present_fo
 
 use crate::forms::Forms;
 use crate::maps::Maps;
+use crate::named::Named;
 use crate::names::push_if;
 use meta_model::{LateLine, Resolved};
 use override_eval::{apply_ops, choose, is_counted};
@@ -47,6 +48,103 @@ fn push_all(list: &mut Texts, more: &[Text]) -> Result<(), Mem>
     Ok(())
 }
 
+/// The value of a name of which this is kept as assignments leave it, without late entries.
+fn base_in(named: Option<&Named>) -> Option<&str>
+    ensures { option_copied result ≡ at_end (slot_at (option_copied named.entry)) }
+{
+    match named {
+        Some(named) => named.kept.at_end(),
+        None => None,
+    }
+}
+
+/// The late entries of a name of which this is kept.
+fn lates_in(named: Option<&Named>) -> &[LateLine]
+    ensures { result.now ≡ lates_at (option_copied named.entry) }
+{
+    match named {
+        Some(named) => named.lates.as_slice(),
+        None => &[],
+    }
+}
+
+/// A flag of a name of which this is kept, unexpanded.
+fn flag_in<'a>(named: Option<&'a Named>, flag: &str) -> Option<&'a str>
+    ensures { option_copied result ≡ at_end (flag_at (option_copied named.entry) flag.now) }
+{
+    match named {
+        Some(named) => match named.flags.get(flag) {
+            Some(kept) => kept.at_end(),
+            None => None,
+        },
+        None => None,
+    }
+}
+
+/// The own value of a name of which this is kept.
+fn own_in(
+    alloc: Global,
+    named: Option<&Named>,
+    active: &[Text],
+) -> Result<Option<Resolved>, Mem>
+    ensures { IfOk result (λ made. made ≡ own_at active.now (option_copied named.entry)) }
+{
+    apply_ops(alloc, base_in(named), lates_in(named), active)
+}
+
+/// The flags that are told with a value.
+fn told_flags(alloc: Global, named: Option<&Named>) -> Result<ListOf<(Text, Text)>, Mem>
+    ensures { IfOk result (λ made. made ≡ told_flag (option_copied named.entry) (codes "export")
+        ++ told_flag (option_copied named.entry) (codes "func")) }
+{
+    let mut made = ListOf::new(alloc);
+    push_flag(&mut made, alloc, "export", flag_in(named, "export"))?;
+    push_flag(&mut made, alloc, "func", flag_in(named, "func"))?;
+    Ok(made)
+}
+
+/// A text and removes with the flags of a name of which this is kept.
+fn with_flags(
+    alloc: Global,
+    named: Option<&Named>,
+    text: Text,
+    removes: Texts,
+) -> Result<Option<Resolved>, Mem>
+    ensures { IfOk result (λ made. made ≡ Some (record {
+      text = text;
+      removes = removes;
+      flags = told_flag (option_copied named.entry) (codes "export")
+          ++ told_flag (option_copied named.entry) (codes "func");
+    })) }
+{
+    let flags = told_flags(alloc, named)?;
+    Ok(Some(Resolved {
+        text,
+        removes,
+        flags,
+    }))
+}
+
+/// A value with the late entries of a name of which this is kept, and the removes behind these.
+fn with_lates(
+    alloc: Global,
+    named: Option<&Named>,
+    value: Option<&str>,
+    removes: Texts,
+    active: &[Text],
+) -> Result<Option<Resolved>, Mem>
+    ensures { IfOk result (λ made. made ≡ joined_at active.now (option_copied named.entry) (option_copied value.entry)
+        removes) }
+{
+    match apply_ops(alloc, value, lates_in(named), active)? {
+        Some(own) => {
+            let (text, removes) = parts_behind(own, removes)?;
+            with_flags(alloc, named, text, removes)
+        }
+        None => Ok(None),
+    }
+}
+
 /// The text of a value, and its removes behind others.
 fn parts_behind(own: Resolved, removes: Texts) -> Result<(Text, Texts), Mem>
     ensures text { IfOk result (λ made. made.0 ≡ own.text) }
@@ -58,44 +156,25 @@ fn parts_behind(own: Resolved, removes: Texts) -> Result<(Text, Texts), Mem>
 }
 
 impl Maps {
-    /// The value of a name as assignments leave it, without late entries.
-    fn base_of(&self, name: &str) -> Option<&str>
-        ensures { option_copied result ≡ at_end (slot_at (named_at self.now name.now)) }
-    {
-        match self.of(name) {
-            Some(named) => named.kept.at_end(),
-            None => None,
-        }
-    }
-
     /// The late entries of a name.
     pub fn lates_of(&self, name: &str) -> &[LateLine]
         ensures { result.now ≡ lates_at (named_at self.now name.now) }
     {
-        match self.of(name) {
-            Some(named) => named.lates.as_slice(),
-            None => &[],
-        }
+        lates_in(self.of(name))
     }
 
     /// A flag, unexpanded.
     pub fn flag_of(&self, name: &str, flag: &str) -> Option<&str>
         ensures { option_copied result ≡ at_end (flag_at (named_at self.now name.now) flag.now) }
     {
-        match self.of(name) {
-            Some(named) => match named.flags.get(flag) {
-                Some(kept) => kept.at_end(),
-                None => None,
-            },
-            None => None,
-        }
+        flag_in(self.of(name), flag)
     }
 
     /// The own value of a name.
     fn own(&self, alloc: Global, name: &str, active: &[Text]) -> Result<Option<Resolved>, Mem>
         ensures { IfOk result (λ made. made ≡ own_at active.now (named_at self.now name.now)) }
     {
-        apply_ops(alloc, self.base_of(name), self.lates_of(name), active)
+        own_in(alloc, self.of(name), active)
     }
 
     /// Whether a name has an own value.
@@ -193,61 +272,6 @@ impl Maps {
         }
     }
 
-    /// The flags that are told with a value.
-    fn told_flags(&self, alloc: Global, name: &str) -> Result<ListOf<(Text, Text)>, Mem>
-        ensures { IfOk result (λ made. made ≡ told_flag (named_at self.now name.now) (codes "export")
-            ++ told_flag (named_at self.now name.now) (codes "func")) }
-    {
-        let mut made = ListOf::new(alloc);
-        push_flag(&mut made, alloc, "export", self.flag_of(name, "export"))?;
-        push_flag(&mut made, alloc, "func", self.flag_of(name, "func"))?;
-        Ok(made)
-    }
-
-    /// A text and removes with the flags of a name.
-    fn with_flags(
-        &self,
-        alloc: Global,
-        name: &str,
-        text: Text,
-        removes: Texts,
-    ) -> Result<Option<Resolved>, Mem>
-        ensures { IfOk result (λ made. made ≡ Some (record {
-          text = text;
-          removes = removes;
-          flags = told_flag (named_at self.now name.now) (codes "export")
-              ++ told_flag (named_at self.now name.now) (codes "func");
-        })) }
-    {
-        let flags = self.told_flags(alloc, name)?;
-        Ok(Some(Resolved {
-            text,
-            removes,
-            flags,
-        }))
-    }
-
-    /// A value with the late entries of its name, and the removes behind these.
-    fn with_lates(
-        &self,
-        alloc: Global,
-        name: &str,
-        value: Option<&str>,
-        removes: Texts,
-        active: &[Text],
-    ) -> Result<Option<Resolved>, Mem>
-        ensures { IfOk result (λ made. made ≡ joined_at active.now (named_at self.now name.now)
-            (option_copied value.entry) removes) }
-    {
-        match apply_ops(alloc, value, self.lates_of(name), active)? {
-            Some(own) => {
-                let (text, removes) = parts_behind(own, removes)?;
-                self.with_flags(alloc, name, text, removes)
-            }
-            None => Ok(None),
-        }
-    }
-
     /// The resolved value of a name.
     pub fn resolve(
         &self,
@@ -258,6 +282,7 @@ impl Maps {
         ensures { (list : List Line) → Keeps list self.now
             → IfOk result (λ made. made ≡ resolved list active.now name.now) }
     {
+        let named = self.of(name);
         match self.winner(alloc, name, active)? {
             Some(own) => {
                 let Resolved {
@@ -265,9 +290,9 @@ impl Maps {
                     removes,
                     flags: _,
                 } = own;
-                self.with_lates(alloc, name, Some(text.as_str()), removes, active)
+                with_lates(alloc, named, Some(text.as_str()), removes, active)
             }
-            None => self.with_lates(alloc, name, self.base_of(name), Texts::new(alloc), active),
+            None => with_lates(alloc, named, base_in(named), Texts::new(alloc), active),
         }
     }
 }

@@ -12,6 +12,7 @@
 
 mod by_name;
 mod copies;
+mod flagged;
 mod forms;
 mod found;
 mod kept;

@@ -35,7 +35,7 @@ pub(crate) fn own_keys(alloc: Global, named: &BTreeMap<String, Named>) -> Result
 }
 
 /// Puts names into a set.
-fn put_all(set: &mut Names, alloc: Global, names: &[Text]) -> Result<(), Mem>
+pub(crate) fn put_all(set: &mut Names, alloc: Global, names: &[Text]) -> Result<(), Mem>
     ensures { OnOk result ((t : List ℕ) → is_some (get_by_text set.new t)
         ≡ (is_in t names.now || is_some (get_by_text set.old t))) }
 {

@@ -77,27 +77,11 @@ fn is_bare_name(alloc: Global, store: &Datastore, name: &str) -> Result<bool, Me
     }
 }
 
-/// Puts a name at the end, where it has the flag `export`.
-fn push_exported(list: &mut Texts, store: &Datastore, name: &Text) -> Result<(), Mem>
-    ensures { OnOk result (list.new ≡ list.old ++ (if is_some (flag store.now name.now (codes "export")) then name.now
-        ∷ [] else [])) }
-{
-    if store.flag(name.as_str(), "export").is_some() {
-        list.push(name.copy()?)?;
-    }
-    Ok(())
-}
-
 /// The names with the flag `export`, in byte order.
 fn exported_names(alloc: Global, store: &Datastore) -> Result<Texts, Mem>
     ensures { IfOk result (λ made. made ≡ filter (λ n. is_some (flag store.now n (codes "export"))) (names store.now)) }
 {
-    let names = store.names(alloc)?;
-    let mut list = Texts::new(alloc);
-    for name in names.as_slice() {
-        push_exported(&mut list, store, name)?;
-    }
-    Ok(list)
+    store.flagged(alloc, "export")
 }
 
 /// A table in which nothing is kept yet.
