@@ -29,7 +29,7 @@ use Rattle.datastore.specs.Parts.{moved_with}
 use Rattle.datastore.specs.Anew.{or_given, moved, IsAnew}
 use Rattle.meta_model.proofs.Ordered.{above_not_in, ordered_in, ordered_ascending, filtered_in, filter_ascending, ascending_same}
 use Rattle.value_maps.proofs.Naming.{left_named, left_kept}
-use Rattle.value_maps.proofs.Hiding.{unmarked, plain_lates_at, no_reference, same_under, plain_of, anew_kept, under_kept}
+use Rattle.value_maps.proofs.Hiding.{unmarked, plain_lates_at, no_reference, plain_of, anew_kept}
 use Rattle.datastore.proofs.Freezing.{ok_pair, no_fault, moves_fault, told_all_fault}
 use Rattle.datastore.proofs.Retelling.{State, run, begin, run_is, run_append, run_where, run_tasks, run_told, Told, sources, Once, part, part_same, part_none, part_absent, part_told, where_filtered, where_moving, all_mapped, moves_filtered, told_filtered, told_targets, told_moves, move_sources, plain_stay, told_plain, where_tasks, tasks_again, gone_is, clean}
 use Rattle.datastore.proofs.Unexported.{clean_is, flag_told_is}
@@ -107,11 +107,11 @@ keeps_run a b after h k =
 hidden_there : (list : List EntryLine) (maps hid : Maps) (anew : Anew) → Keeps list maps → AreKeys anew.names (is_anew maps) → IsHidden maps hid anew.names → (n : List ℕ) → is_some (named_at hid n) ≡ true → is_some (named_at maps n) ≡ true
 hidden_there list maps hid anew k keys hidden n h = elim (either_way (is_anew maps n)) [
   | inl a ↦ anew_kept list maps k n a
-  | inr a ↦ under_kept maps n (sym (ap is_some (hidden.others n (keys.are n ∙ a))) ∙ h)
+  | inr a ↦ sym (ap is_some (hidden.others n (keys.are n ∙ a))) ∙ h
 ]
 
 shown_at : (maps hid : Maps) (anew : Anew) → AreKeys anew.names (is_anew maps) → IsHidden maps hid anew.names → (n : List ℕ) → is_anew maps n ≡ false → named_at hid n ≡ named_at maps n
-shown_at maps hid anew keys hidden n h = hidden.others n (keys.are n ∙ h) ∙ sym (same_under maps n h)
+shown_at maps hid anew keys hidden n h = hidden.others n (keys.are n ∙ h)
 
 -- what names tell that aren't told again
 abbrev pub kept_lines : Maps → Told → List EntryLine

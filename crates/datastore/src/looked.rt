@@ -1,6 +1,7 @@
 // Values and texts over a store.
 ghost use Rattle.std.specs.Prelude.{◌≡◌, List, ℕ, Result, IfOk, IfErr, IfSome, Ok, Err};
 ghost use Rattle.meta_model.specs.Refusal.{Refusal};
+ghost use Rattle.meta_model.specs.declared.entry.EntryLine.{EntryLine as Line};
 ghost use Rattle.meta_model.specs.Active as entries;
 ghost use Rattle.meta_model.specs.Expansion.{value_by};
 ghost use Rattle.var_expand.specs.Faults.{IsFaultOf};
@@ -22,6 +23,17 @@ pub(crate) enum Overrides {
     Settled(Texts),
     /// They don't. It is never want of memory.
     Refused(ExpandFault),
+}
+
+/// The active overrides, where there are some.
+pub(crate) fn settled_in(overrides: &Overrides) -> Option<&[Text]>
+    ensures { (list : List Line) → AreOf list overrides.now → IfSome result (λ active. entries.active list
+        ≡ Ok active.now) }
+{
+    match overrides {
+        Overrides::Settled(active) => Some(active.as_slice()),
+        Overrides::Refused(_) => None,
+    }
 }
 
 /// A store as a map from names to what they have under these active overrides.

@@ -1,5 +1,5 @@
 // The datastore.
-ghost use Rattle.std.specs.Prelude.{◌≡◌, ◌++◌, ◌∷◌, [], OnOk, OnErr, IfOk, IfErr, Ok, Some, None, option_copied, is_some, filter, fold, true, List};
+ghost use Rattle.std.specs.Prelude.{◌≡◌, ◌++◌, ◌∷◌, [], OnOk, OnErr, IfOk, IfErr, IfSome, Ok, Some, None, option_copied, is_some, filter, fold, true, List, ℕ};
 ghost use Rattle.std.specs.Option.{option_map};
 ghost use Rattle.std.specs.Rc.{rc_value};
 ghost use Rattle.meta_model.specs.declared.entry.EntryLine.{EntryLine as Line};
@@ -7,6 +7,7 @@ ghost use Rattle.meta_model.specs.Active as entries;
 ghost use Rattle.meta_model.specs.Base as base;
 ghost use Rattle.meta_model.specs.Overrides as under;
 ghost use Rattle.meta_model.specs.Tasks as tasks;
+ghost use Rattle.meta_model.specs.Text.{is_in};
 ghost use Rattle.meta_model.specs.Frozen as frozen;
 ghost use Rattle.datastore.specs.Faults.{IsDataFault};
 ghost use Rattle.datastore.specs.Looked.{AreOf};
@@ -18,8 +19,8 @@ use crate::fault::DataFault;
 use crate::freeze::{apply_all, retell, tell_anew};
 use crate::line::{copy_line, push_tasks};
 use crate::looked::{
-    Overrides, expand_anew, expand_over, overrides_of, resolved_anew, resolved_over, value_anew,
-    value_over,
+    Overrides, expand_anew, expand_over, overrides_of, resolved_anew, resolved_over, settled_in,
+    value_anew, value_over,
 };
 use crate::tasks::ordered_tasks;
 use meta_model::{EntryLine, Resolved};
@@ -271,10 +272,21 @@ impl Datastore {
     /// The names that have the flag, in byte order. It looks at each name that is kept once, and copies those alone that have the
     /// flag.
     pub fn flagged(&self, alloc: Global, flag: &str) -> Result<Texts, Mem>
-        ensures { IfOk result (λ made. made ≡ filter (λ t. is_some (base.flag self.now t flag.now))
+        ensures names { IfOk result (λ made. made ≡ filter (λ t. is_some (base.flag self.now t flag.now))
             (base.names self.now)) }
+        ensures all { IfOk result (λ made. (t : List ℕ) → is_in t made ≡ is_some (base.flag self.now t flag.now)) }
     {
         self.maps.flagged(alloc, flag)
+    }
+
+    /// The active overrides, where they are worked out and kept: then no look-up of a name is refused.
+    pub fn active(&self) -> Option<&[Text]>
+        ensures { IfSome result (λ active. entries.active self.now ≡ Ok active.now) }
+    {
+        match &self.settled {
+            Some(overrides) => settled_in(overrides),
+            None => None,
+        }
     }
 
     /// The tasks in byte order, each with the tasks that it comes after, in byte order ("Promoting a Function to a Task",

@@ -65,6 +65,11 @@ either_flagged : (f : List ℕ) (a b : Option Named) → is_flagged f (option_or
 either_flagged f None b h = rw h refl
 either_flagged f (Some a) b h = or_last (is_flagged f b) (is_flagged f (Some a)) h
 
+-- and no other name
+pub if_flagged_are : {E : Type 0} (list : List EntryLine) (f : List ℕ) (r : Result (List (List ℕ)) E) → IfOk r (λ made. made ≡ filter (λ t. is_some (flag list t f)) (names list)) → IfOk r (λ made. (t : List ℕ) → is_in t made ≡ is_some (flag list t f))
+if_flagged_are list f (Ok made) e = λ t. ap (is_in t) e ∙ filtered_in (λ t. is_some (flag list t f)) (names list) t (flag_named list t f)
+if_flagged_are list f (Err fault) e = tt
+
 pub flagged_are : (list : List EntryLine) (maps : Maps) (f : List ℕ) (keys : List (List ℕ)) → Keeps list maps → AreKeys keys (λ t. is_flagged f (under_named (base_of maps) t) || is_flagged f (get_by_text maps.named t))
     → filter (λ t. is_flagged f (named_at maps t)) keys ≡ filter (λ t. is_some (flag list t f)) (names list)
 flagged_are list maps f keys keeps all =

@@ -13,6 +13,7 @@ use Rattle.value_maps.specs.declared.maps.Maps.{Maps}
 use Rattle.value_maps.specs.declared.named.Named.{Named}
 use Rattle.value_maps.specs.Named.{slot_at, lates_at, IsAlike}
 use Rattle.value_maps.specs.Plain.{is_plain_late, is_plain}
+use Rattle.value_maps.specs.Hidden.{AreEmpty}
 use Rattle.value_maps.specs.Keys.{AreKeys}
 use Rattle.value_maps.specs.Maps.{named_at, base_of, under_named, under_special, is_anew, Keeps, IsHidden}
 use Rattle.value_maps.proofs.Steps.{none_of}
@@ -49,11 +50,25 @@ pub no_reference : (n : List ℕ) (o : Option Named) → is_some o ≡ true → 
 no_reference n None s h = absurd cc
 no_reference n (Some named) s h = not_true (holds_reference n) (and_left (not (holds_reference n)) (not named.kept.exported && list_all is_plain_late named.lates.items) h)
 
-pub same_under : (maps : Maps) (n : List ℕ) → is_anew maps n ≡ false → named_at maps n ≡ under_named (base_of maps) n
-same_under maps n h = ap (λ o. option_or o (under_named (base_of maps) n)) (none_of (get_by_text maps.named n) (or_left (is_some (get_by_text maps.named n)) (is_in n (under_special (base_of maps))) h))
+plain_not : (b : Bool) → not b ≡ false → b ≡ true
+plain_not true e = refl
+plain_not false e = absurd cc
+
+plain_at : (n : List ℕ) (own under : Option Named) → is_plain n own ≡ true → is_plain n under ≡ true → is_plain n (option_or own under) ≡ true
+plain_at n None under h u = u
+plain_at n (Some named) under h u = h
 
 pub plain_of : (list : List EntryLine) (maps : Maps) (n : List ℕ) → Keeps list maps → is_anew maps n ≡ false → is_plain n (named_at maps n) ≡ true
-plain_of list maps n k h = ap (is_plain n) (same_under maps n h) ∙ k.shared.plain n (or_right (is_some (get_by_text maps.named n)) (is_in n (under_special (base_of maps))) h)
+plain_of list maps n k h =
+    let own = is_plain n (get_by_text maps.named n) in
+    let special = is_in n (under_special (base_of maps)) in
+    plain_at n (get_by_text maps.named n) (under_named (base_of maps) n) (plain_not own (or_left (not own) special h)) (k.shared.plain n (or_right (not own) special h))
+
+pub or_turned : (a b : Bool) → (a || b) ≡ (b || a)
+or_turned true true = refl
+or_turned true false = refl
+or_turned false true = refl
+or_turned false false = refl
 
 -- a name that is told again
 
@@ -70,23 +85,18 @@ pub anew_kept : (list : List EntryLine) (maps : Maps) → Keeps list maps → (n
 anew_kept list maps k n h =
     let own = get_by_text maps.named n in
     let under = under_named (base_of maps) n in
-    sym (or_some own under) ∙ (elim (left_kept_of (is_some own) (is_in n (under_special (base_of maps))) h) [
-      | inl o ↦ or_first (is_some own) (is_some under) o
+    sym (or_some own under) ∙ (elim (left_kept_of (not (is_plain n own)) (is_in n (under_special (base_of maps))) h) [
+      | inl o ↦ or_first (is_some own) (is_some under) (special_there n own o)
       | inr i ↦ or_later (is_some own) (is_some under) (k.shared.there n i)
     ])
 
--- so is one that the shared entries keep
-pub under_kept : (maps : Maps) (n : List ℕ) → is_some (under_named (base_of maps) n) ≡ true → is_some (named_at maps n) ≡ true
-under_kept maps n h = sym (or_some (get_by_text maps.named n) (under_named (base_of maps) n)) ∙ or_later (is_some (get_by_text maps.named n)) (is_some (under_named (base_of maps) n)) h
-
 -- maps in which nothing is kept of some names
-pub hidden_is : (maps : Maps) (named : BTreeMap (String Global) Named) (names : List (List ℕ)) → ((n : List ℕ) → is_some (get_by_text named n) ≡ is_in n names) → ((n : List ℕ) → IsAlike None (get_by_text named n))
-    → IsHidden maps (record maps { named = named }) names
-hidden_is maps named names there empty = record {
+pub hidden_is : (maps : Maps) (named : BTreeMap (String Global) Named) (names : List (List ℕ)) → AreEmpty (get_by_text maps.named) (get_by_text named) names → IsHidden maps (record maps { named = named }) names
+hidden_is maps named names empty = record {
   same = refl;
   noted = λ n. refl;
-  none = λ n h. at n (get_by_text named n) (there n ∙ h) (empty n);
-  others = λ n h. ap (λ o. option_or o (under_named (base_of maps) n)) (none_of (get_by_text named n) (there n ∙ h));
+  none = λ n h. at n (get_by_text named n) (empty.there n h) (empty.none n h);
+  others = λ n h. ap (λ o. option_or o (under_named (base_of maps) n)) (empty.others n h);
 }
   where
     at : (n : List ℕ) (o : Option Named) → is_some o ≡ true → IsAlike None o → IsAlike None (option_or o (under_named (base_of maps) n))

@@ -7,5 +7,6 @@ pub mod Naming
 pub mod Winning
 pub mod Keeping
 pub mod Flagging
+pub mod Emptied
 pub mod Hiding
 pub mod Lines

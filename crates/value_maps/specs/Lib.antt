@@ -9,3 +9,4 @@ pub mod Left
 pub mod Keys
 pub mod Telling
 pub mod Flagged
+pub mod Hidden

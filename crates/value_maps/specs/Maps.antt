@@ -1,5 +1,5 @@
 -- What the maps of a store say of a list of entries.
-use Rattle.std.specs.Prelude.{◌≡◌, ℕ, Bool, true, false, ◌||◌, List, [], ◌++◌, Option, Some, None, is_some}
+use Rattle.std.specs.Prelude.{◌≡◌, ℕ, Bool, true, false, not, ◌||◌, List, [], ◌++◌, Option, Some, None, is_some}
 use Rattle.std.specs.Option.{option_map, option_or}
 use Rattle.std.specs.BTreeMap.{get_by_text}
 use Rattle.std.specs.Rc.{rc_value}
@@ -45,9 +45,9 @@ abbrev pub under_special : Option Base → List (List ℕ)
 under_special None = []
 under_special (Some base) = base.special
 
--- a name is told again where names are moved
+-- a name is told again where names are moved: a store's own, unless what is told of it is what it has, and one of these shared ones
 abbrev pub is_anew : Maps → List ℕ → Bool
-is_anew maps name = is_some (get_by_text maps.named name) || is_in name (under_special (base_of maps))
+is_anew maps name = not (is_plain name (get_by_text maps.named name)) || is_in name (under_special (base_of maps))
 
 -- each name that is kept is noted as a form
 abbrev pub HasAllForms : Maps → Type 0
@@ -74,12 +74,12 @@ pub record Stays (old new : Maps) : Type 0 where
   pub alike : (name : List ℕ) → IsAlike (named_at old name) (named_at new name)
   pub forms : HasAllForms old → HasAllForms new
 
--- Nothing is kept of these names, and of all others what the shared entries leave.
+-- Nothing is kept of these names, and of all others what was kept.
 pub record IsHidden (old new : Maps) (names : List (List ℕ)) : Type 0 where
   pub same : base_of new ≡ base_of old
   pub noted : (name : List ℕ) → noted_at new name ≡ noted_at old name
   pub none : (name : List ℕ) → is_in name names ≡ true → IsAlike None (named_at new name)
-  pub others : (name : List ℕ) → is_in name names ≡ false → named_at new name ≡ under_named (base_of old) name
+  pub others : (name : List ℕ) → is_in name names ≡ false → named_at new name ≡ named_at old name
 
 -- The maps keep of each name what a list of entries makes of it, and note each of their names as a form.
 pub record Keeps (list : List EntryLine) (maps : Maps) : Type 0 where

@@ -10,10 +10,10 @@ ghost use Rattle.value_maps.specs.Keys.{AreKeys};
 ghost use Rattle.value_maps.specs.Maps.{Keeps, named_at, base_of, under_named};
 ghost use Rattle.value_maps.specs.Picked.{picked};
 
-use crate::by_name::{names_of, push_name};
+use crate::by_name::push_name;
 use crate::maps::Maps;
 use crate::named::Named;
-use crate::names::{push_if, put_all};
+use crate::names::{joined_names, push_if};
 use std::alloc::Global;
 use std::collections::BTreeMap;
 use tree_model::{Mem, Text, Texts};
@@ -53,16 +53,6 @@ fn flagged_in(alloc: Global, named: &BTreeMap<String, Named>, flag: &str) -> Res
     picked_names(alloc, named, flag)
 }
 
-/// The names of two lists, in byte order and each once.
-fn joined_names(alloc: Global, first: &[Text], second: &[Text]) -> Result<Texts, Mem>
-    ensures { IfOk result (λ made. AreKeys made (λ t. is_in t second.now || is_in t first.now)) }
-{
-    let mut set = BTreeMap::new(alloc);
-    put_all(&mut set, alloc, first)?;
-    put_all(&mut set, alloc, second)?;
-    names_of(alloc, &set)
-}
-
 impl Maps {
     /// The shared names that have the flag as the shared entries leave it.
     fn flagged_under(&self, alloc: Global, flag: &str) -> Result<Texts, Mem>
@@ -99,8 +89,10 @@ impl Maps {
     /// The names that have the flag, in byte order. It costs a step for each name that is kept, and a look-up for each that has the
     /// flag.
     pub fn flagged(&self, alloc: Global, flag: &str) -> Result<Texts, Mem>
-        ensures { (list : List Line) → Keeps list self.now
+        ensures names { (list : List Line) → Keeps list self.now
             → IfOk result (λ made. made ≡ filter (λ t. is_some (base.flag list t flag.now)) (base.names list)) }
+        ensures all { (list : List Line) → Keeps list self.now
+            → IfOk result (λ made. (t : List ℕ) → is_in t made ≡ is_some (base.flag list t flag.now)) }
     {
         let names = self.flagged_among(alloc, flag)?;
         self.with_flag(alloc, names.as_slice(), flag)

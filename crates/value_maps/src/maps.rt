@@ -8,6 +8,7 @@ ghost use Rattle.meta_model.specs.Frozen.{is_task_line};
 ghost use Rattle.meta_model.specs.Text.{is_in};
 ghost use Rattle.value_maps.specs.Named.{Steps, IsAlike, subject};
 ghost use Rattle.value_maps.specs.Maps.{Goes, Stays, Keeps, KeepsBase, IsHidden, named_at, base_of, under_named, under_entries, under_special};
+ghost use Rattle.value_maps.specs.Hidden.{AreEmpty};
 
 use crate::by_name::put_value;
 use crate::forms::{Forms, note_forms};
@@ -119,16 +120,12 @@ impl Maps {
         )?)
     }
 
-    /// The same maps, in which nothing is kept of these names, and of all others what the shared entries leave.
+    /// The same maps, in which nothing is kept of these names.
     pub fn hide(self, alloc: Global, names: &[Text]) -> Result<Maps, Mem>
         ensures { IfOk result (λ made. IsHidden self made names.now) }
     {
-        let Maps {
-            base,
-            named: _,
-            forms,
-        } = self;
-        let named = nothing_of(alloc, names)?;
+        let Maps { base, named, forms } = self;
+        let named = without(alloc, named, names)?;
         Ok(Maps { base, named, forms })
     }
 
@@ -221,12 +218,15 @@ impl Maps {
     }
 }
 
-/// Maps in which nothing is kept of these names, and of no other.
-fn nothing_of(alloc: Global, names: &[Text]) -> Result<BTreeMap<String, Named>, Mem>
-    ensures there { IfOk result (λ made. (name : List ℕ) → is_some (get_by_text made name) ≡ is_in name names.now) }
-    ensures empty { IfOk result (λ made. (name : List ℕ) → IsAlike None (get_by_text made name)) }
+/// The same map, in which nothing is kept of these names.
+fn without(
+    alloc: Global,
+    named: BTreeMap<String, Named>,
+    names: &[Text],
+) -> Result<BTreeMap<String, Named>, Mem>
+    ensures { IfOk result (λ made. AreEmpty (get_by_text named) (get_by_text made) names.now) }
 {
-    let mut made = BTreeMap::new(alloc);
+    let mut made = named;
     for name in names {
         put_value(&mut made, alloc, name.as_str(), Named::new(alloc))?;
     }

@@ -15,6 +15,7 @@ use crate::by_name::{Names, names_of, put_name};
 use crate::kept::Kept;
 use crate::maps::Maps;
 use crate::named::Named;
+use crate::special::special_of;
 use std::alloc::Global;
 use std::collections::BTreeMap;
 use tree_model::{Mem, Text, Texts};
@@ -35,7 +36,7 @@ pub(crate) fn own_keys(alloc: Global, named: &BTreeMap<String, Named>) -> Result
 }
 
 /// Puts names into a set.
-pub(crate) fn put_all(set: &mut Names, alloc: Global, names: &[Text]) -> Result<(), Mem>
+fn put_all(set: &mut Names, alloc: Global, names: &[Text]) -> Result<(), Mem>
     ensures { OnOk result ((t : List ℕ) → is_some (get_by_text set.new t)
         ≡ (is_in t names.now || is_some (get_by_text set.old t))) }
 {
@@ -62,14 +63,13 @@ fn joined_keys(
     names_of(alloc, &set)
 }
 
-/// The names of a map and some more, in byte order and each once.
-fn keys_with(alloc: Global, own: &BTreeMap<String, Named>, more: &[Text]) -> Result<Texts, Mem>
-    ensures { IfOk result (λ made. AreKeys made (λ name. is_some (get_by_text own.now name) || is_in name more.now)) }
+/// The names of two lists, in byte order and each once.
+pub(crate) fn joined_names(alloc: Global, first: &[Text], second: &[Text]) -> Result<Texts, Mem>
+    ensures { IfOk result (λ made. AreKeys made (λ t. is_in t second.now || is_in t first.now)) }
 {
-    let first = own_keys(alloc, own)?;
     let mut set = BTreeMap::new(alloc);
-    put_all(&mut set, alloc, first.as_slice())?;
-    put_all(&mut set, alloc, more)?;
+    put_all(&mut set, alloc, first)?;
+    put_all(&mut set, alloc, second)?;
     names_of(alloc, &set)
 }
 
@@ -119,7 +119,8 @@ impl Maps {
     pub fn anew(&self, alloc: Global) -> Result<Texts, Mem>
         ensures { IfOk result (λ made. AreKeys made (is_anew self.now)) }
     {
-        keys_with(alloc, &self.named, self.special())
+        let own = special_of(alloc, &self.named)?;
+        joined_names(alloc, own.as_slice(), self.special())
     }
 
     /// Those of some names of which something is left.

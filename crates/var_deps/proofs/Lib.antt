@@ -10,3 +10,4 @@ pub mod Stores
 pub mod Lines
 pub mod Starting
 pub mod GoingOn
+pub mod Unflagged

@@ -3,6 +3,7 @@ ghost use Rattle.std.specs.Prelude.{◌≡◌, ◌++◌, ◌∷◌, [], List, �
 ghost use Rattle.meta_model.specs.declared.value.Resolved.{Resolved as Has};
 ghost use Rattle.meta_model.specs.Active.{find_in};
 ghost use Rattle.meta_model.specs.Base.{flag, names};
+ghost use Rattle.meta_model.specs.Text.{is_in};
 ghost use Rattle.datastore.specs.Faults.{IsDataFault, refusal_of};
 ghost use Rattle.task_model.specs.Views.{is_bare};
 ghost use Rattle.task_model.specs.Leads.{value_words};
@@ -85,7 +86,13 @@ fn exported_names(alloc: Global, store: &Datastore) -> Result<Texts, Mem>
 }
 
 /// A table in which nothing is kept yet.
-fn empty_table<'a>(alloc: Global, store: &'a Datastore, ignored: Texts) -> Table<'a>
+fn empty_table<'a>(
+    alloc: Global,
+    store: &'a Datastore,
+    ignored: Texts,
+    functions: Texts,
+) -> Table<'a>
+    requires { (t : List ℕ) → is_in t functions ≡ is_some (flag store.now t (codes "func")) }
     ensures store { result.shared.seen.store.now ≡ store.now }
     ensures task { result.shared.seen.task ≡ None }
     ensures ignored { result.shared.ignored ≡ ignored }
@@ -93,7 +100,11 @@ fn empty_table<'a>(alloc: Global, store: &'a Datastore, ignored: Texts) -> Table
 {
     Table {
         shared: Shared {
-            seen: Seen { store, task: None },
+            seen: Seen {
+                store,
+                task: None,
+                functions,
+            },
             ignored,
             known: BTreeMap::new(alloc),
         },
@@ -122,7 +133,8 @@ impl StoreKeys<'_> {
         let ignored = words_of(alloc, store, "BB_BASEHASH_IGNORE_VARS")?;
         let sstate = words_of(alloc, store, "SSTATETASKS")?;
         let exported = exported_names(alloc, store)?;
-        let mut table = empty_table(alloc, store, ignored);
+        let functions = store.flagged(alloc, "func")?;
+        let mut table = empty_table(alloc, store, ignored, functions);
         let exports = exports_of(alloc, &mut table.shared, exported)?;
         Ok(StoreKeys {
             table,

@@ -102,6 +102,9 @@ fn push_if_function(
     ensures err { IfErr result (λ fault. IsFaultOf fault
         (function_named (seen_with seen.now.store.now seen.now.task) name.now)) }
 {
+    if seen.is_no_function(name.as_str()) {
+        return Ok(());
+    }
     if found_is_function(seen.find(alloc, name.as_str())?) {
         list.push(name.copy()?)?;
     }

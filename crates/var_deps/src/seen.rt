@@ -1,14 +1,18 @@
 // A store as a task sees it.
-ghost use Rattle.std.specs.Prelude.{◌≡◌, Result, Option, Some, true, IfOk, IfErr, Ok, option_copied, if◌then◌else◌};
+ghost use Rattle.std.specs.Prelude.{◌≡◌, ℕ, [], List, Result, Option, Some, true, IfOk, IfErr, Ok, codes, is_some, option_copied, if◌then◌else◌};
+ghost use Rattle.meta_model.specs.Base.{flag};
+ghost use Rattle.meta_model.specs.Text.{is_in};
 ghost use Rattle.meta_model.specs.Active.{find_in};
 ghost use Rattle.meta_model.specs.Refusal.{Refusal};
 ghost use Rattle.meta_model.specs.declared.value.Resolved.{Resolved as Has};
 ghost use Rattle.var_expand.specs.Faults.{IsFaultOf};
 ghost use Rattle.datastore.specs.Faults.{IsDataFault};
+ghost use Rattle.var_deps.specs.Seen.{seen_with};
+ghost use Rattle.var_deps.specs.Reading.{function_named};
 ghost use Rattle.task_model.specs.Views.{flag_of, is_bare, is_function, seen_by, unless_bare};
 
 use datastore::{DataFault, Datastore};
-use meta_model::Resolved;
+use meta_model::{Resolved, is_among};
 use std::alloc::Global;
 use tree_model::{Mem, Text, Texts};
 use var_expand::{ExpandFault, Lookup};
@@ -20,6 +24,18 @@ pub(crate) struct Seen<'a> {
     pub(crate) store: &'a Datastore,
     /// The task whose name counts as absent where it is bare: it has an empty text, no removes, and is no function.
     pub(crate) task: Option<Text>,
+    /// The names with the flag `func`.
+    pub(crate) functions: Texts,
+    ghost functions_are: { (t : List ℕ) → is_in t functions ≡ is_some (flag store.now t (codes "func")) },
+}
+
+impl Seen<'_> {
+    /// Whether it is known without a look-up that a name is no function.
+    pub(crate) fn is_no_function(&self, name: &str) -> bool
+        ensures { result ≡ true → function_named (seen_with self.now.store.now self.now.task) name.now ≡ Ok [] }
+    {
+        self.store.active().is_some() && !is_among(name, self.functions.as_slice())
+    }
 }
 
 impl Lookup for Seen<'_> {

@@ -39,3 +39,7 @@ invariant_of-result c =
     of_store made c.args.store.now c.in_ok-ignored.ignored c.in_ok-sstate.sstate c.in_ok-exports.exports c.exports_of.ensures.right (c.exports_of.ensures.same.store ∙ store) (c.exports_of.ensures.same.ignored ∙ ignored)
     (subst (λ l. AreExports l c.in_ok-ignored.ignored c.in_ok-exports.exports) store (subst (λ l. AreExports t.shared.seen.store.now l c.in_ok-exports.exports) ignored c.in_ok-exports.ensures.exports))
     c.in_ok-ignored.ensures.ok c.in_ok-sstate.ensures.ok
+
+pub returns-in_err-functions-clause-err : goal.returns-in_err-functions-clause-err
+returns-in_err-functions-clause-err c =
+    want_data c.from_residual-in_err-functions.result (λ f. (task : List ℕ) → IsDataFault f (key c.args.store.now task)) c.from_residual-in_err-functions.ensures.1 (λ task. tt)

@@ -3,7 +3,7 @@ use Rattle.std.specs.BTreeMap.{get_by_text}
 use Rattle.meta_model.specs.Text.{is_in}
 use Rattle.value_maps.proofs.Naming.{if_same_keys, if_keys}
 use Rattle.value_maps.proofs.Flagging.{or_none}
-use Rattle.value_maps.proofs.flagged.joined_names.Goals as goal
+use Rattle.value_maps.proofs.names.joined_names.Goals as goal
 
 pub returns : goal.returns
 returns c =
