@@ -7,3 +7,4 @@ pub mod Exports
 pub mod Pairs
 pub mod Lines
 pub mod Texts
+pub mod Lacking

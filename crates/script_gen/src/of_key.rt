@@ -135,4 +135,8 @@ impl Sight for OfKey<'_> {
             None => None,
         }
     }
+
+    fn lacks(&self, _name: &str, _flag: &str) -> bool {
+        false
+    }
 }

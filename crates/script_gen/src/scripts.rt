@@ -10,7 +10,7 @@ ghost use Rattle.script_gen.specs.Steps.{finished, written};
 use crate::fault::ScriptFault;
 use crate::frame::{Frame, begun};
 use crate::of_key::OfKey;
-use crate::sight::OfStore;
+use crate::sight::{OfStore, Sight};
 use crate::text::text_of;
 use crate::told::{told_lines, told_names, told_values};
 use datastore::Datastore;
@@ -18,10 +18,9 @@ use meta_model::{Key, KeyLine};
 use std::alloc::Global;
 use tree_model::Text;
 use var_deps::StoreKeys;
-use var_expand::Lookup;
 
 /// The script of a task that isn't `noexec` and has a function, with these exported names, and the functions of these lines.
-fn finished<L: Lookup>(
+fn finished<L: Sight>(
     alloc: Global,
     from: &L,
     exports: &[Text],
@@ -43,7 +42,7 @@ fn finished<L: Lookup>(
 }
 
 /// The script of a task with these exported names, and the functions of these lines: it does nothing where there is no frame.
-fn written<L: Lookup>(
+fn written<L: Sight>(
     alloc: Global,
     from: &L,
     exports: &[Text],

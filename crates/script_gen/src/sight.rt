@@ -1,5 +1,7 @@
 // What a task's script is made from, and a store as a task sees it.
-ghost use Rattle.std.specs.Prelude.{◌≡◌, List, ℕ, Option, option_copied};
+ghost use Rattle.std.specs.Prelude.{◌≡◌, List, ℕ, Option, false, option_copied, true};
+ghost use Rattle.task_model.specs.Views.{has_flag};
+ghost use Rattle.task_model.specs.Scripts.{known};
 
 use datastore::Datastore;
 use meta_model::Resolved;
@@ -16,6 +18,10 @@ pub(crate) trait Sight: Lookup {
     /// A flag of the task, unexpanded.
     fn flag(&self, name: &str) -> Option<&str>
         ensures { option_copied result ≡ flags self.now name.now };
+
+    /// Whether it is known without a look-up that a name has no value with the flag.
+    fn lacks(&self, name: &str, flag: &str) -> bool
+        ensures { result ≡ true → has_flag flag.now (known ((Self.finds self.now).at name.now)) ≡ false };
 }
 
 /// A store as a task sees it.
@@ -47,5 +53,12 @@ impl Sight for OfStore<'_> {
 
     fn flag(&self, name: &str) -> Option<&str> {
         self.store.flag(self.task, name)
+    }
+
+    fn lacks(&self, name: &str, flag: &str) -> bool {
+        match self.store.flag(name, flag) {
+            Some(_) => false,
+            None => true,
+        }
     }
 }

@@ -7,6 +7,7 @@ ghost use Rattle.script_gen.specs.Faults.{IsScriptFault};
 ghost use Rattle.script_gen.specs.Steps.{told_value, taken_up};
 
 use crate::fault::ScriptFault;
+use crate::sight::Sight;
 use meta_model::{KeyLine, is_shell_name};
 use name_walk::place_of;
 use std::alloc::Global;
@@ -15,9 +16,12 @@ use var_deps::flag_of;
 use var_expand::{ExpandFault, Lookup, value};
 
 /// Whether a name has a value and the flag. A name of which nothing can be found has none.
-fn is_flagged<L: Lookup>(alloc: Global, from: &L, flag: &str, name: &str) -> Result<bool, Mem>
+fn is_flagged<L: Sight>(alloc: Global, from: &L, flag: &str, name: &str) -> Result<bool, Mem>
     ensures { IfOk result (λ made. made ≡ has_flag flag.now (known ((L.finds from.now).at name.now))) }
 {
+    if from.lacks(name, flag) {
+        return Ok(false);
+    }
     match from.find(alloc, name) {
         Ok(Some(found)) => Ok(flag_of(&found, flag).is_some()),
         Ok(None) => Ok(false),
@@ -27,7 +31,7 @@ fn is_flagged<L: Lookup>(alloc: Global, from: &L, flag: &str, name: &str) -> Res
 }
 
 /// Whether a name is a shell name that has a value and the flag.
-fn is_told<L: Lookup>(alloc: Global, from: &L, flag: &str, name: &str) -> Result<bool, Mem>
+fn is_told<L: Sight>(alloc: Global, from: &L, flag: &str, name: &str) -> Result<bool, Mem>
     ensures { IfOk result (λ made. made ≡ is_told flag.now (L.finds from.now) name.now) }
 {
     if !is_shell_name(name.as_bytes()) {
@@ -48,7 +52,7 @@ fn put_in_order(names: &mut Vec<Text>, name: Text) -> Result<(), Mem>
 }
 
 /// Takes a name up that is told.
-fn take_up<L: Lookup>(
+fn take_up<L: Sight>(
     alloc: Global,
     from: &L,
     flag: &str,
@@ -65,7 +69,7 @@ fn take_up<L: Lookup>(
 }
 
 /// Those of the names that are shell names with a value and the flag, in byte order.
-pub(crate) fn told_names<L: Lookup>(
+pub(crate) fn told_names<L: Sight>(
     alloc: Global,
     from: &L,
     flag: &str,
@@ -81,7 +85,7 @@ pub(crate) fn told_names<L: Lookup>(
 }
 
 /// The same of the names of lines.
-pub(crate) fn told_lines<L: Lookup>(
+pub(crate) fn told_lines<L: Sight>(
     alloc: Global,
     from: &L,
     flag: &str,

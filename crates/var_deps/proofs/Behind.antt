@@ -95,7 +95,7 @@ function_step (Err refusal) n name = refl
 pub functions_in_turn : (find : Find) → IsInTurn (function_named find) (functions_of find)
 functions_in_turn find name names = function_step (find.at name) (functions_of find names) name
 
-bind_ok : {A : Type 0} (m : Result A Refusal) → (m >>= λ a. Ok a) ≡ m
+pub bind_ok : {A : Type 0} (m : Result A Refusal) → (m >>= λ a. Ok a) ≡ m
 bind_ok (Ok a) = refl
 bind_ok (Err refusal) = refl
 

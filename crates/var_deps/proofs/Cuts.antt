@@ -13,7 +13,7 @@ split_at [] i lt at before = absurd (omega arith)
 split_at (b ∷ bs) zero lt at before = rw at refl
 split_at (b ∷ bs) (suc i) lt at before = rw (before 0 (omega arith), split_at bs i (omega arith) at (λ k h. before (suc k) (omega arith))) refl
 
-runs_at : (bs : List ℕ) (i : ℕ) → position separates bs ≡ Some i → runs bs ≡ non_empty (take i bs ∷ []) ++ runs (drop (suc i) bs)
+pub runs_at : (bs : List ℕ) (i : ℕ) → position separates bs ≡ Some i → runs bs ≡ non_empty (take i bs ∷ []) ++ runs (drop (suc i) bs)
 runs_at bs i e =
     let h = position-Some separates bs i 0 e in
     ap non_empty (split_at bs i h.0 h.1 h.2) ∙ first (is_empty (take i bs)) (take i bs) (runs (drop (suc i) bs))
@@ -29,15 +29,6 @@ split_none (b ∷ bs) h = rw (h 0 (omega arith), split_none bs (λ k lt. h (suc 
 -- the last run
 pub runs_last : (bs : List ℕ) → position separates bs ≡ None → runs bs ≡ non_empty (bs ∷ [])
 runs_last bs e = ap non_empty (split_none bs (none_before separates bs 0 e))
-
--- one run more
-pub runs_step : (rest piece after : List ℕ) (list made : List (List ℕ)) (i : ℕ) → Some i ≡ position separates rest → piece ≡ take i rest → made ≡ list ++ non_empty (piece ∷ []) → after ≡ drop (i + 1) rest
-    → made ++ runs after ≡ list ++ runs rest
-runs_step rest piece after list made i e p n a =
-    ap (λ l. l ++ runs after) (n ∙ ap (λ q. list ++ non_empty (q ∷ [])) p)
-    ∙ append_assoc list (non_empty (take i rest ∷ [])) (runs after)
-    ∙ ap (λ q. list ++ (non_empty (take i rest ∷ []) ++ runs q)) (a ∙ ap (λ j. drop j rest) (add-one i))
-    ∙ ap (λ l. list ++ l) (sym (runs_at rest i (sym e)))
 
 -- what stands before the first such byte is a run
 

@@ -11,3 +11,4 @@ pub mod Lines
 pub mod Starting
 pub mod GoingOn
 pub mod Unflagged
+pub mod Calling

@@ -102,9 +102,6 @@ fn push_if_function(
     ensures err { IfErr result (λ fault. IsFaultOf fault
         (function_named (seen_with seen.now.store.now seen.now.task) name.now)) }
 {
-    if seen.is_no_function(name.as_str()) {
-        return Ok(());
-    }
     if found_is_function(seen.find(alloc, name.as_str())?) {
         list.push(name.copy()?)?;
     }
@@ -144,7 +141,7 @@ fn push_called(
     let text = value(alloc, name, seen)?;
     match text {
         Some(text) => {
-            let names = runs(alloc, text.as_str())?;
+            let names = runs(alloc, seen, text.as_str())?;
             push_functions(list, alloc, seen, names.as_slice())
         }
         None => Ok(()),
