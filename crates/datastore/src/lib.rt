@@ -18,4 +18,4 @@ mod tasks;
 
 pub use fault::{DataFault, copy_fault};
 pub use store::{Datastore, SharedStore};
-pub use value_maps::{names_of, put_value};
+pub use value_maps::{AllFlags, names_of, put_value};

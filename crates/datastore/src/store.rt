@@ -12,6 +12,7 @@ ghost use Rattle.meta_model.specs.Frozen as frozen;
 ghost use Rattle.datastore.specs.Faults.{IsDataFault};
 ghost use Rattle.datastore.specs.Looked.{AreOf};
 ghost use Rattle.value_maps.specs.Maps.{Keeps, KeepsBase, base_of, under_entries};
+ghost use Rattle.value_maps.specs.FlagsTold.{flag_told};
 ghost use Rattle.datastore.specs.Anew.{moved};
 ghost use Rattle.datastore.specs.Parts.{moved_with};
 
@@ -28,7 +29,7 @@ use std::alloc::Global;
 use std::marker::Model;
 use std::rc::Rc;
 use tree_model::{Mem, Text, Texts};
-use value_maps::{Base, Maps};
+use value_maps::{AllFlags, Base, Maps};
 
 /// What entries give. Contracts see the list of the entries, in the order in which they were applied: those that are shared, and
 /// behind them the store's own. Where names were moved, it begins with what that made of all entries before.
@@ -260,6 +261,13 @@ impl Datastore {
         ensures { option_copied result ≡ base.flag self.now name.now flag.now }
     {
         self.maps.flag_of(name, flag)
+    }
+
+    /// The flags of a name, which is looked up once for all of them.
+    pub fn flags(&self, name: &str) -> AllFlags<'_>
+        ensures { (f : List ℕ) → flag_told result f ≡ base.flag self.now name.now f }
+    {
+        self.maps.flags(name)
     }
 
     /// The names of which entries leave something, in byte order: a value, a weak default, a late entry or a flag.

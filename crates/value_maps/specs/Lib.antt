@@ -10,3 +10,4 @@ pub mod Keys
 pub mod Telling
 pub mod Flagged
 pub mod Hidden
+pub mod FlagsTold

@@ -69,7 +69,7 @@ fn lates_in(named: Option<&Named>) -> &[LateLine]
 }
 
 /// A flag of a name of which this is kept, unexpanded.
-fn flag_in<'a>(named: Option<&'a Named>, flag: &str) -> Option<&'a str>
+pub(crate) fn flag_in<'a>(named: Option<&'a Named>, flag: &str) -> Option<&'a str>
     ensures { option_copied result ≡ at_end (flag_at (option_copied named.entry) flag.now) }
 {
     match named {

@@ -10,6 +10,7 @@
 //! lines, and maps in which names are hidden, are what a store needs to move names.
 #![tactic(auto)]
 
+mod all_flags;
 mod by_name;
 mod copies;
 mod flagged;
@@ -23,6 +24,7 @@ mod names;
 mod special;
 mod telling;
 
+pub use all_flags::AllFlags;
 pub use by_name::{Names, drop_value, names_of, put_name, put_value};
 pub use line::{flag_line, push_line, set_line, unset_flag_line};
 pub use maps::{Base, Maps};

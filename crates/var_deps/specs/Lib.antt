@@ -8,3 +8,4 @@ pub mod Exports
 pub mod OfStore
 pub mod Absent
 pub mod Leaders
+pub mod FlagsOf

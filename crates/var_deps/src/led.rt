@@ -5,6 +5,7 @@ ghost use Rattle.var_expand.specs.Faults.{IsFaultOf};
 ghost use Rattle.meta_model.specs.References.{looked_up};
 ghost use Rattle.task_model.specs.Views.{is_function};
 ghost use Rattle.task_model.specs.Leads.{flag_words, all_looked_up, functions_of, called_by, by_text, by_value, by_flags, read_flags, without};
+ghost use Rattle.var_deps.specs.FlagsOf.{AreFlags};
 ghost use Rattle.var_deps.specs.Seen.{seen_with};
 ghost use Rattle.var_deps.specs.Reading.{view_by, function_named, flag_looked_up, all_led, led_behind};
 ghost use Rattle.meta_model.specs.Passing.{behind};
@@ -12,7 +13,8 @@ ghost use Rattle.var_deps.specs.Led.{led_of, kept_more};
 
 use crate::asked::{asked_by, is_omitted};
 use crate::runs::runs;
-use crate::seen::{Seen, is_function};
+use crate::seen::{Seen, flag_in, is_function};
+use datastore::AllFlags;
 use meta_model::Resolved;
 use std::alloc::Global;
 use tree_model::{Mem, Text, Texts};
@@ -154,15 +156,17 @@ fn push_by_text(
     alloc: Global,
     seen: &Seen,
     name: &str,
+    flags: &AllFlags,
     found: &Resolved,
 ) -> Result<(), ExpandFault>
+    requires { AreFlags flags.now seen.now.store.now name.now }
     ensures ok { OnOk result (behind list.old.items (by_text (view_by seen.now.store.now seen.now.task [] false [])
         name.now found.now (flag seen.now.store.now name.now (codes "vardepvalue"))) ≡ Ok list.new.items) }
     ensures err { IfErr result (λ fault. IsFaultOf fault
         (by_text (view_by seen.now.store.now seen.now.task [] false []) name.now found.now
         (flag seen.now.store.now name.now (codes "vardepvalue")))) }
 {
-    if seen.store.flag(name, "vardepvalue").is_some() {
+    if flag_in(seen.store, name, flags, "vardepvalue").is_some() {
         return Ok(());
     }
     push_looked_up(list, alloc, seen, found.text.as_str())?;
@@ -178,8 +182,10 @@ fn push_by_value(
     alloc: Global,
     seen: &Seen,
     name: &str,
+    flags: &AllFlags,
     found: &Option<Resolved>,
 ) -> Result<(), ExpandFault>
+    requires { AreFlags flags.now seen.now.store.now name.now }
     ensures ok { OnOk result (behind list.old.items (by_value (view_by seen.now.store.now seen.now.task [] false [])
         name.now found.now) ≡ Ok list.new.items) }
     ensures err { IfErr result (λ fault. IsFaultOf fault
@@ -187,7 +193,7 @@ fn push_by_value(
 {
     match found {
         Some(found) => {
-            push_by_text(list, alloc, seen, name, found)?;
+            push_by_text(list, alloc, seen, name, flags, found)?;
             push_all_looked_up(list, alloc, seen, found.removes.as_slice())
         }
         None => Ok(()),
@@ -216,14 +222,16 @@ fn push_flag(
     alloc: Global,
     seen: &Seen,
     name: &str,
+    flags: &AllFlags,
     which: &str,
 ) -> Result<(), ExpandFault>
+    requires { AreFlags flags.now seen.now.store.now name.now }
     ensures ok { OnOk result (behind list.old.items (flag_looked_up (seen_with seen.now.store.now seen.now.task)
         (flag seen.now.store.now name.now which.now)) ≡ Ok list.new.items) }
     ensures err { IfErr result (λ fault. IsFaultOf fault
         (flag_looked_up (seen_with seen.now.store.now seen.now.task) (flag seen.now.store.now name.now which.now))) }
 {
-    match seen.store.flag(name, which) {
+    match flag_in(seen.store, name, flags, which) {
         Some(text) => push_looked_up(list, alloc, seen, text),
         None => Ok(()),
     }
@@ -235,14 +243,16 @@ fn push_flags(
     alloc: Global,
     seen: &Seen,
     task: &str,
+    flags: &AllFlags,
 ) -> Result<(), ExpandFault>
+    requires { AreFlags flags.now seen.now.store.now task.now }
     ensures ok { OnOk result (behind list.old.items (by_flags
         (view_by seen.now.store.now seen.now.task [] false task.now) true) ≡ Ok list.new.items) }
     ensures err { IfErr result (λ fault. IsFaultOf fault
         (by_flags (view_by seen.now.store.now seen.now.task [] false task.now) true)) }
 {
     for place in 0..7 {
-        push_flag(list, alloc, seen, task, read_flag(place))?;
+        push_flag(list, alloc, seen, task, flags, read_flag(place))?;
     }
     Ok(())
 }
@@ -254,14 +264,16 @@ fn push_by_flags(
     seen: &Seen,
     own: bool,
     name: &str,
+    flags: &AllFlags,
 ) -> Result<(), ExpandFault>
+    requires { AreFlags flags.now seen.now.store.now name.now }
     ensures ok { OnOk result (behind list.old.items (by_flags
         (view_by seen.now.store.now seen.now.task [] false name.now) own) ≡ Ok list.new.items) }
     ensures err { IfErr result (λ fault. IsFaultOf fault
         (by_flags (view_by seen.now.store.now seen.now.task [] false name.now) own)) }
 {
     if own {
-        return push_flags(list, alloc, seen, name);
+        return push_flags(list, alloc, seen, name, flags);
     }
     Ok(())
 }
@@ -271,14 +283,17 @@ pub(crate) fn words_of_flag(
     alloc: Global,
     seen: &Seen,
     name: &str,
+    flags: &AllFlags,
     which: &str,
 ) -> Result<Texts, ExpandFault>
+    requires { AreFlags flags.now seen.now.store.now name.now }
     ensures ok { IfOk result (λ made. flag_words (view_by seen.now.store.now seen.now.task [] false []) name.now
         which.now ≡ Ok made) }
     ensures err { IfErr result (λ fault. IsFaultOf fault
         (flag_words (view_by seen.now.store.now seen.now.task [] false []) name.now which.now)) }
 {
-    let text = expand(alloc, seen.store.flag(name, which).unwrap_or(""), seen)?;
+    let told = flag_in(seen.store, name, flags, which);
+    let text = expand(alloc, told.unwrap_or(""), seen)?;
     Ok(words(alloc, text.as_str())?)
 }
 
@@ -288,14 +303,16 @@ fn push_words(
     alloc: Global,
     seen: &Seen,
     name: &str,
+    flags: &AllFlags,
     which: &str,
 ) -> Result<(), ExpandFault>
+    requires { AreFlags flags.now seen.now.store.now name.now }
     ensures ok { OnOk result (behind list.old.items (flag_words (view_by seen.now.store.now seen.now.task [] false [])
         name.now which.now) ≡ Ok list.new.items) }
     ensures err { IfErr result (λ fault. IsFaultOf fault
         (flag_words (view_by seen.now.store.now seen.now.task [] false []) name.now which.now)) }
 {
-    let more = words_of_flag(alloc, seen, name, which)?;
+    let more = words_of_flag(alloc, seen, name, flags, which)?;
     push_all(list, more.as_slice())?;
     Ok(())
 }
@@ -307,16 +324,18 @@ fn push_led(
     seen: &Seen,
     own: bool,
     name: &str,
+    flags: &AllFlags,
     found: &Option<Resolved>,
 ) -> Result<(), ExpandFault>
+    requires { AreFlags flags.now seen.now.store.now name.now }
     ensures ok { OnOk result (behind list.old.items (all_led
         (view_by seen.now.store.now seen.now.task [] false name.now) own name.now found.now) ≡ Ok list.new.items) }
     ensures err { IfErr result (λ fault. IsFaultOf fault
         (all_led (view_by seen.now.store.now seen.now.task [] false name.now) own name.now found.now)) }
 {
-    push_by_value(list, alloc, seen, name, found)?;
-    push_by_flags(list, alloc, seen, own, name)?;
-    push_words(list, alloc, seen, name, "vardeps")
+    push_by_value(list, alloc, seen, name, flags, found)?;
+    push_by_flags(list, alloc, seen, own, name, flags)?;
+    push_words(list, alloc, seen, name, flags, "vardeps")
 }
 
 /// Takes a name up, unless it is left out on request. One that has no part in keys isn't counted.
@@ -366,15 +385,17 @@ pub(crate) fn leads(
     ignored: &[Text],
     own: bool,
     name: &str,
+    flags: &AllFlags,
     found: &Option<Resolved>,
 ) -> Result<Led, ExpandFault>
+    requires { AreFlags flags.now seen.now.store.now name.now }
     ensures ok { IfOk result (λ made. led_behind (view_by seen.now.store.now seen.now.task ignored.now false name.now)
         own name.now found.now ≡ Ok (led_of made)) }
     ensures err { IfErr result (λ fault. IsFaultOf fault
         (led_behind (view_by seen.now.store.now seen.now.task ignored.now false name.now) own name.now found.now)) }
 {
     let mut list = Vec::new(alloc);
-    push_led(&mut list, alloc, seen, own, name, found)?;
-    let excluded = words_of_flag(alloc, seen, name, "vardepsexclude")?;
+    push_led(&mut list, alloc, seen, own, name, flags, found)?;
+    let excluded = words_of_flag(alloc, seen, name, flags, "vardepsexclude")?;
     Ok(without(alloc, list, ignored, excluded.as_slice())?)
 }

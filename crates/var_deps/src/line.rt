@@ -6,6 +6,7 @@ ghost use Rattle.var_expand.specs.Faults.{IsFaultOf};
 ghost use Rattle.datastore.specs.Faults.{refusal_of};
 ghost use Rattle.task_model.specs.Leads.{Led as LedNames};
 ghost use Rattle.task_model.specs.Keys.{Told, kept_flag, kept_flags, line_value, own_value, task_value, told_flags};
+ghost use Rattle.var_deps.specs.FlagsOf.{AreFlags};
 ghost use Rattle.var_deps.specs.Seen.{seen_with};
 ghost use Rattle.var_deps.specs.Reading.{view_by, led_behind, line_behind, told_value};
 ghost use Rattle.var_deps.specs.Led.{led_of};
@@ -13,8 +14,8 @@ ghost use Rattle.var_deps.specs.Known.{IsKnown, IsLine, read_led, told_at};
 
 use crate::asked::asked_value;
 use crate::led::{Led, leads};
-use crate::seen::Seen;
-use datastore::Datastore;
+use crate::seen::{Seen, flag_in, flags_of};
+use datastore::{AllFlags, Datastore};
 use meta_model::Resolved;
 use std::alloc::Global;
 use tree_model::{ListOf, Mem, Text, Texts};
@@ -61,12 +62,14 @@ fn kept_name(place: usize) -> &'static str
 /// What the line of a task keeps of a flag: its text, unexpanded; `sstate` is `1` where the task is one of the shared state, and
 /// a task without a value has no `func`.
 fn kept_text<'a>(
-    store: &'a Datastore,
+    store: &Datastore,
     task: &str,
+    flags: &AllFlags<'a>,
     sstate: bool,
     valued: bool,
     which: &str,
 ) -> Option<&'a str>
+    requires { AreFlags flags.now store.now task.now }
     ensures { option_copied result ≡ kept_flag (view_by store.now None [] sstate task.now) valued which.now }
 {
     if which == "sstate" {
@@ -75,7 +78,7 @@ fn kept_text<'a>(
     if which == "func" && !valued {
         return None;
     }
-    store.flag(task, which)
+    flag_in(store, task, flags, which)
 }
 
 /// Puts a flag with its text at the end, where it has one.
@@ -98,9 +101,11 @@ fn task_flags(
     alloc: Global,
     store: &Datastore,
     task: &str,
+    flags: &AllFlags,
     sstate: bool,
     valued: bool,
 ) -> Result<ListOf<(Text, Text)>, Mem>
+    requires { AreFlags flags.now store.now task.now }
     ensures { IfOk result (λ made. made ≡ told_flags (kept_flag (view_by store.now None [] sstate task.now) valued)
         kept_flags) }
 {
@@ -111,7 +116,7 @@ fn task_flags(
             &mut list,
             alloc,
             which,
-            kept_text(store, task, sstate, valued, which),
+            kept_text(store, task, flags, sstate, valued, which),
         )?;
     }
     Ok(list)
@@ -122,12 +127,14 @@ fn task_value(
     alloc: Global,
     store: &Datastore,
     task: &str,
+    flags: &AllFlags,
     sstate: bool,
     value: Option<Resolved>,
 ) -> Result<Resolved, Mem>
+    requires { AreFlags flags.now store.now task.now }
     ensures { IfOk result (λ made. made ≡ task_value (view_by store.now None [] sstate task.now) value) }
 {
-    let flags = task_flags(alloc, store, task, sstate, value.is_some())?;
+    let flags = task_flags(alloc, store, task, flags, sstate, value.is_some())?;
     match value {
         Some(found) => Ok(Resolved {
             text: found.text,
@@ -147,15 +154,17 @@ fn line_value(
     alloc: Global,
     seen: &Seen,
     name: &str,
+    flags: &AllFlags,
     found: Option<Resolved>,
 ) -> Result<Option<Resolved>, ExpandFault>
+    requires { AreFlags flags.now seen.now.store.now name.now }
     ensures ok { IfOk result (λ made. line_value (view_by seen.now.store.now seen.now.task [] false []) name.now found
         ≡ Ok made) }
     ensures err { IfErr result (λ fault. IsFaultOf fault
         (line_value (view_by seen.now.store.now seen.now.task [] false []) name.now found)) }
 {
     match found {
-        Some(found) => match seen.store.flag(name, "vardepvalue") {
+        Some(found) => match flag_in(seen.store, name, flags, "vardepvalue") {
             Some(text) => Ok(Some(Resolved {
                 text: expand(alloc, text, seen)?,
                 removes: found.removes,
@@ -172,14 +181,16 @@ fn own_value(
     alloc: Global,
     store: &Datastore,
     name: &str,
+    flags: &AllFlags,
     sstate: Option<bool>,
     value: Option<Resolved>,
 ) -> Result<Option<Resolved>, Mem>
+    requires { AreFlags flags.now store.now name.now }
     ensures { IfOk result (λ made. made ≡ own_value (view_by store.now None [] (unwrap_or sstate false) name.now)
         (is_some sstate) value) }
 {
     match sstate {
-        Some(sstate) => Ok(Some(task_value(alloc, store, name, sstate, value)?)),
+        Some(sstate) => Ok(Some(task_value(alloc, store, name, flags, sstate, value)?)),
         None => Ok(value),
     }
 }
@@ -189,14 +200,16 @@ fn told_value(
     alloc: Global,
     seen: &Seen,
     name: &str,
+    flags: &AllFlags,
     found: Option<Resolved>,
 ) -> Result<Option<Resolved>, ExpandFault>
+    requires { AreFlags flags.now seen.now.store.now name.now }
     ensures ok { IfOk result (λ made. told_value (view_by seen.now.store.now seen.now.task [] false []) name.now found
         ≡ Ok made) }
     ensures err { IfErr result (λ fault. IsFaultOf fault
         (told_value (view_by seen.now.store.now seen.now.task [] false []) name.now found)) }
 {
-    let value = line_value(alloc, seen, name, found)?;
+    let value = line_value(alloc, seen, name, flags, found)?;
     asked_value(alloc, seen, name, value)
 }
 
@@ -206,18 +219,21 @@ fn line_of(
     seen: &Seen,
     sstate: Option<bool>,
     name: &str,
+    flags: &AllFlags,
     found: Option<Resolved>,
     left_out: bool,
 ) -> Result<Line, Mem>
+    requires { AreFlags flags.now seen.now.store.now name.now }
     ensures { (led : LedNames) → led.left_out ≡ left_out
         → IfOk result (λ made. IsLine made name.now (line_behind
         (view_by seen.now.store.now seen.now.task [] (unwrap_or sstate false) name.now) (is_some sstate) name.now
         found led)) }
 {
-    let replaced = found.is_some() && seen.store.flag(name, "vardepvalue").is_some();
-    match told_value(alloc, seen, name, found) {
+    let told = flag_in(seen.store, name, flags, "vardepvalue");
+    let replaced = found.is_some() && told.is_some();
+    match told_value(alloc, seen, name, flags, found) {
         Ok(value) => Ok(Line::Told {
-            value: own_value(alloc, seen.store, name, sstate, value)?,
+            value: own_value(alloc, seen.store, name, flags, sstate, value)?,
             left_out: left_out || replaced,
         }),
         Err(fault) => refused(fault),
@@ -243,7 +259,9 @@ fn read_name(
     ignored: &[Text],
     own: bool,
     name: &str,
+    flags: &AllFlags,
 ) -> Result<(Option<Resolved>, Led), ExpandFault>
+    requires { AreFlags flags.now seen.now.store.now name.now }
     ensures found { IfOk result (λ made. (seen_with seen.now.store.now seen.now.task).at name.now ≡ Ok made.0) }
     ensures led { IfOk result (λ made. led_behind (view_by seen.now.store.now seen.now.task ignored.now false
         name.now) own name.now made.0 ≡ Ok (led_of made.1)) }
@@ -251,7 +269,7 @@ fn read_name(
         (read_led (view_by seen.now.store.now seen.now.task ignored.now false name.now) own name.now)) }
 {
     let found = seen.find(alloc, name)?;
-    let led = leads(alloc, seen, ignored, own, name, &found)?;
+    let led = leads(alloc, seen, ignored, own, name, flags, &found)?;
     Ok((found, led))
 }
 
@@ -267,9 +285,10 @@ pub(crate) fn know(
     ensures { IfOk result (λ made. IsKnown (view_by seen.now.store.now seen.now.task ignored.now
         (unwrap_or sstate false) name.now) (is_some sstate) name.now made) }
 {
-    match read_name(alloc, seen, ignored, sstate.is_some(), name) {
+    let flags = flags_of(seen.store, name);
+    match read_name(alloc, seen, ignored, sstate.is_some(), name, &flags) {
         Ok((found, led)) => {
-            let line = line_of(alloc, seen, sstate, name, found, led.left_out)?;
+            let line = line_of(alloc, seen, sstate, name, &flags, found, led.left_out)?;
             Ok(Known {
                 led: led.names,
                 line,

@@ -7,11 +7,12 @@ ghost use Rattle.meta_model.specs.Refusal.{Refusal};
 ghost use Rattle.meta_model.specs.declared.value.Resolved.{Resolved as Has};
 ghost use Rattle.var_expand.specs.Faults.{IsFaultOf};
 ghost use Rattle.datastore.specs.Faults.{IsDataFault};
+ghost use Rattle.var_deps.specs.FlagsOf.{AreFlags};
 ghost use Rattle.var_deps.specs.Seen.{seen_with};
 ghost use Rattle.var_deps.specs.Reading.{function_named};
 ghost use Rattle.task_model.specs.Views.{flag_of, is_bare, is_function, seen_by, unless_bare};
 
-use datastore::{DataFault, Datastore};
+use datastore::{AllFlags, DataFault, Datastore};
 use meta_model::{Resolved, is_among};
 use std::alloc::Global;
 use tree_model::{Mem, Text, Texts};
@@ -53,6 +54,26 @@ impl Lookup for Seen<'_> {
     fn known(&self, _alloc: Global, _name: &str, _wanted: &[Text]) -> Result<Option<Texts>, Mem> {
         Ok(None)
     }
+}
+
+/// The flags of a name, which is looked up once for all of them.
+pub(crate) fn flags_of<'a>(store: &'a Datastore, name: &str) -> AllFlags<'a>
+    ensures { AreFlags result store.now name.now }
+{
+    store.flags(name)
+}
+
+/// A flag of a name of a store, of whose flags these are.
+pub(crate) fn flag_in<'a>(
+    _store: &Datastore,
+    _name: &str,
+    flags: &AllFlags<'a>,
+    which: &str,
+) -> Option<&'a str>
+    requires { AreFlags flags.now _store.now _name.now }
+    ensures { option_copied result ≡ flag _store.now _name.now which.now }
+{
+    flags.get(which)
 }
 
 /// A flag of a value that was found.

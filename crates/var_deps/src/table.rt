@@ -20,7 +20,7 @@ use crate::asked::is_left_out;
 use crate::exports::Exports;
 use crate::led::{Led, all_of, push_all, without, words_of_flag};
 use crate::line::{Known, Line, know};
-use crate::seen::Seen;
+use crate::seen::{Seen, flags_of};
 use datastore::{copy_fault, put_value};
 use meta_model::{Key, KeyLine, copy_value};
 use name_walk::{Leading, holds, least_of, reach};
@@ -270,8 +270,10 @@ impl Table<'_> {
         ensures ok { IfOk result (λ made. starting_with (task_view self.now) [] ≡ Ok (led_of made)) }
         ensures err { IfErr result (λ fault. IsFaultOf fault (starting_with (task_view self.now) [])) }
     {
-        let after = words_of_flag(alloc, &self.shared.seen, self.task.as_str(), "postfuncs")?;
-        let before = words_of_flag(alloc, &self.shared.seen, self.task.as_str(), "prefuncs")?;
+        let task = self.task.as_str();
+        let flags = flags_of(self.shared.seen.store, task);
+        let after = words_of_flag(alloc, &self.shared.seen, task, &flags, "postfuncs")?;
+        let before = words_of_flag(alloc, &self.shared.seen, task, &flags, "prefuncs")?;
         let words = all_of(alloc, before.as_slice(), after.as_slice())?;
         let mut led = without(alloc, words, self.shared.ignored.as_slice(), &[])?;
         led.names.insert(0, self.task.copy()?)?;
