@@ -1,5 +1,5 @@
 -- A name without a flag isn't told as one that has it.
-use Rattle.std.proofs.Common.{◌≡◌, refl, sym, ◌∙◌, ap, subst, ℕ, List, [], ◌∷◌, ◌++◌, Bool, true, false, ◌&&◌, inl, inr, Option, Some, None, is_some, option_map, option_to_list, append-nil, Result, Ok, Err, codes, bytes_eq}
+use Rattle.std.proofs.Common.{◌≡◌, refl, sym, ◌∙◌, ap, subst, ℕ, List, [], ◌++◌, Bool, false, ◌&&◌, inl, inr, Option, Some, None, is_some, option_map, option_to_list, append-nil, Result, Ok, Err, codes, bytes_eq}
 use Rattle.std.specs.Map.{lookup}
 use Rattle.meta_model.proofs.Bools.{either_way, same_text}
 use Rattle.meta_model.specs.declared.entry.EntryLine.{EntryLine}

@@ -16,7 +16,6 @@ use Rattle.value_maps.specs.Plain.{is_plain_late, is_plain}
 use Rattle.value_maps.specs.Hidden.{AreEmpty}
 use Rattle.value_maps.specs.Keys.{AreKeys}
 use Rattle.value_maps.specs.Maps.{named_at, base_of, under_named, under_special, is_anew, Keeps, IsHidden}
-use Rattle.value_maps.proofs.Steps.{none_of}
 
 -- names that have to be told again
 

@@ -1,5 +1,5 @@
 -- What the maps keep, entry by entry.
-use Rattle.std.proofs.Common.{◌≡◌, refl, sym, ◌∙◌, ap, subst, Option, Some, None, Bool, true, false, not, ◌+◌, List, [], ◌∷◌, ◌++◌}
+use Rattle.std.proofs.Common.{◌≡◌, refl, sym, ◌∙◌, ap, subst, Option, Some, None, Bool, true, false, not, List, [], ◌∷◌, ◌++◌}
 use Rattle.meta_model.proofs.Steps.{value_slot-push, flag_slot-push, lates-push}
 use Rattle.meta_model.specs.declared.entry.EntryLine.{EntryLine}
 use Rattle.meta_model.specs.Base.{value_slot, value_after, flag_after, lates_after}

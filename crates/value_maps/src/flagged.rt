@@ -31,11 +31,7 @@ impl Named {
 }
 
 /// The names of a map that have the flag, in byte order.
-fn picked_names(
-    alloc: Global,
-    named: &BTreeMap<String, Named>,
-    flag: &str,
-) -> Result<Texts, Mem>
+fn picked_names(alloc: Global, named: &BTreeMap<String, Named>, flag: &str) -> Result<Texts, Mem>
     ensures names { IfOk result (λ made. made ≡ picked (has_flag flag.now) named.now.entries) }
     ensures ordered { OnOk result (IsOrdered string_cmp named.now) }
 {

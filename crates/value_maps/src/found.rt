@@ -82,11 +82,7 @@ pub(crate) fn flag_in<'a>(named: Option<&'a Named>, flag: &str) -> Option<&'a st
 }
 
 /// The own value of a name of which this is kept.
-fn own_in(
-    alloc: Global,
-    named: Option<&Named>,
-    active: &[Text],
-) -> Result<Option<Resolved>, Mem>
+fn own_in(alloc: Global, named: Option<&Named>, active: &[Text]) -> Result<Option<Resolved>, Mem>
     ensures { IfOk result (λ made. made ≡ own_at active.now (option_copied named.entry)) }
 {
     apply_ops(alloc, base_in(named), lates_in(named), active)

@@ -1,12 +1,11 @@
 // What a store keeps of all names, by name.
-ghost use Rattle.std.specs.Prelude.{◌≡◌, ◌++◌, [], List, ℕ, None, IfOk, OnOk, OnErr, MatchOption, true, Some, is_some, option_copied};
+ghost use Rattle.std.specs.Prelude.{◌≡◌, ◌++◌, [], List, None, IfOk, OnOk, OnErr, MatchOption, true, Some, option_copied};
 ghost use Rattle.std.specs.BTreeMap.{get_by_text};
 ghost use Rattle.std.specs.Option.{option_map};
 ghost use Rattle.std.specs.Rc.{rc_value};
 ghost use Rattle.meta_model.specs.declared.entry.EntryLine.{EntryLine as Line};
 ghost use Rattle.meta_model.specs.Frozen.{is_task_line};
-ghost use Rattle.meta_model.specs.Text.{is_in};
-ghost use Rattle.value_maps.specs.Named.{Steps, IsAlike, subject};
+ghost use Rattle.value_maps.specs.Named.{Steps, subject};
 ghost use Rattle.value_maps.specs.Maps.{Goes, Stays, Keeps, KeepsBase, IsHidden, named_at, base_of, under_named, under_entries, under_special};
 ghost use Rattle.value_maps.specs.Hidden.{AreEmpty};
 

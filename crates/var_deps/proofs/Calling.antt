@@ -1,5 +1,5 @@
 -- Runs that are passed over, since they are no functions.
-use Rattle.std.proofs.Common.{◌≡◌, refl, sym, ◌∙◌, ap, ℕ, ◌+◌, List, [], ◌∷◌, ◌++◌, take, drop, Some, None, Ok, position, append_assoc, append-nil, add-one, Bool, true, false, cond, not, if◌then◌else◌}
+use Rattle.std.proofs.Common.{◌≡◌, refl, sym, ◌∙◌, ap, ℕ, ◌+◌, List, [], ◌∷◌, ◌++◌, take, drop, Some, None, Ok, position, append_assoc, append-nil, add-one, false, if◌then◌else◌}
 use Rattle.meta_model.specs.Expansion.{Find}
 use Rattle.meta_model.specs.Refusal.{◌>>=◌}
 use Rattle.meta_model.specs.Text.{non_empty, is_empty}

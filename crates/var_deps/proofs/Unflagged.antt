@@ -1,11 +1,10 @@
 -- A name without the flag `func` is no function.
-use Rattle.std.proofs.Common.{◌≡◌, refl, sym, ◌∙◌, ap, ℕ, List, [], ◌∷◌, ◌++◌, Bool, true, false, ◌&&◌, inl, inr, Option, Some, None, is_some, option_map, option_to_list, Ok, codes, bytes_eq, if◌then◌else◌}
+use Rattle.std.proofs.Common.{◌≡◌, refl, ap, ℕ, List, [], ◌∷◌, ◌++◌, Bool, false, ◌&&◌, inl, inr, Option, Some, None, is_some, option_map, option_to_list, Ok, codes, bytes_eq, if◌then◌else◌}
 use Rattle.std.specs.Map.{lookup}
 use Rattle.meta_model.proofs.Bools.{either_way}
 use Rattle.meta_model.specs.declared.entry.EntryLine.{EntryLine}
 use Rattle.meta_model.specs.declared.value.Resolved.{Resolved}
-use Rattle.meta_model.specs.Base.{flag, lates}
-use Rattle.meta_model.specs.Refusal.{◌>>=◌}
+use Rattle.meta_model.specs.Base.{flag}
 use Rattle.meta_model.specs.Overrides.{resolved}
 use Rattle.meta_model.specs.Active.{active}
 use Rattle.task_model.specs.Views.{is_function, is_bare, unless_bare}

@@ -1,5 +1,5 @@
 -- A name that no entry's name begins with has nothing.
-use Rattle.std.proofs.Common.{◌≡◌, ◌+◌, refl, ◌∙◌, ap, ℕ, List, [], ◌++◌, flat_map, false, ◌⊎◌, Option, Some, None, unwrap_or, Result, Ok, Err, inl, inr, bytes_eq, codes}
+use Rattle.std.proofs.Common.{◌≡◌, refl, ◌∙◌, ap, ℕ, List, [], ◌++◌, flat_map, false, ◌⊎◌, Option, Some, None, unwrap_or, Result, Ok, Err, inl, inr, bytes_eq, codes}
 use Rattle.meta_model.specs.declared.entry.EntryLine.{EntryLine}
 use Rattle.meta_model.specs.declared.value.Resolved.{Resolved}
 use Rattle.meta_model.specs.Refusal.{Refusal, ◌>>=◌}

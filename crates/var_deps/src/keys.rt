@@ -1,5 +1,5 @@
 // The keys of the tasks of a store.
-ghost use Rattle.std.specs.Prelude.{◌≡◌, ◌++◌, ◌∷◌, [], List, ℕ, Some, None, true, false, IfOk, IfErr, OnOk, Ok, codes, is_some, filter, if◌then◌else◌};
+ghost use Rattle.std.specs.Prelude.{◌≡◌, List, ℕ, Some, None, true, false, IfOk, IfErr, OnOk, Ok, codes, is_some, filter};
 ghost use Rattle.meta_model.specs.declared.value.Resolved.{Resolved as Has};
 ghost use Rattle.meta_model.specs.Active.{find_in};
 ghost use Rattle.meta_model.specs.Base.{flag, names};

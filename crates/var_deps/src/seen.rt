@@ -63,7 +63,7 @@ pub(crate) fn flags_of<'a>(store: &'a Datastore, name: &str) -> AllFlags<'a>
     store.flags(name)
 }
 
-/// A flag of a name of a store, of whose flags these are.
+/// A flag of a name of a store, whose flags these are: what stands for store and name is there for the contract alone.
 pub(crate) fn flag_in<'a>(
     _store: &Datastore,
     _name: &str,

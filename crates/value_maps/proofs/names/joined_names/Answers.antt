@@ -1,4 +1,4 @@
-use Rattle.std.proofs.Common.{refl, ◌∙◌, ap, ◌||◌, is_some, false}
+use Rattle.std.proofs.Common.{refl, ◌∙◌, ap, ◌||◌, is_some}
 use Rattle.std.specs.BTreeMap.{get_by_text}
 use Rattle.meta_model.specs.Text.{is_in}
 use Rattle.value_maps.proofs.Naming.{if_same_keys, if_keys}

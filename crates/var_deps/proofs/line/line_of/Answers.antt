@@ -1,5 +1,4 @@
 use Rattle.std.proofs.Common.{[], false, unwrap_or, is_some}
-use Rattle.task_model.specs.Keys.{line_value}
 use Rattle.var_deps.specs.Reading.{view_by, line_behind}
 use Rattle.var_deps.proofs.Knowing.{told_fault}
 use Rattle.var_deps.proofs.line.line_of.Goals as goal

@@ -1,5 +1,5 @@
 use Rattle.var_deps.specs.Seen.{seen_with}
-use Rattle.var_deps.proofs.Calling.{passed, taken}
+use Rattle.var_deps.proofs.Calling.{passed}
 use Rattle.var_deps.proofs.runs.push_named.Goals as goal
 
 pub returns-then-is_no_function : goal.returns-then-is_no_function

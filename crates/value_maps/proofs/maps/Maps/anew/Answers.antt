@@ -1,7 +1,5 @@
-use Rattle.std.proofs.Common.{◌∙◌, ap, not, ◌||◌}
-use Rattle.std.specs.BTreeMap.{get_by_text}
+use Rattle.std.proofs.Common.{◌∙◌, ap, ◌||◌}
 use Rattle.meta_model.specs.Text.{is_in}
-use Rattle.value_maps.specs.Plain.{is_plain}
 use Rattle.value_maps.specs.Maps.{base_of, under_special, is_anew}
 use Rattle.value_maps.proofs.Naming.{if_same_keys}
 use Rattle.value_maps.proofs.Hiding.{or_turned}

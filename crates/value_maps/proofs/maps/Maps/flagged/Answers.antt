@@ -1,9 +1,8 @@
-use Rattle.std.proofs.Common.{◌≡◌, ◌∙◌, ap, filter, is_some, IfOk, List, ℕ}
+use Rattle.std.proofs.Common.{◌≡◌, ◌∙◌, ap, filter, is_some}
 use Rattle.std.proofs.lemmas.Result.{IfOk-weaker}
-use Rattle.meta_model.specs.declared.entry.EntryLine.{EntryLine}
 use Rattle.meta_model.specs.Base.{flag, names}
 use Rattle.value_maps.specs.Flagged.{is_flagged}
-use Rattle.value_maps.specs.Maps.{named_at, Keeps}
+use Rattle.value_maps.specs.Maps.{named_at}
 use Rattle.value_maps.proofs.Flagging.{flagged_are, if_flagged_are}
 use Rattle.value_maps.proofs.maps.Maps.flagged.Goals as goal
 

@@ -1,4 +1,4 @@
-use Rattle.std.proofs.Common.{◌≡◌, ◌∙◌, sym, subst, ℕ, true, false, List, Some, Ok}
+use Rattle.std.proofs.Common.{◌≡◌, ◌∙◌, sym, subst, true, false, Some, Ok}
 use Rattle.meta_model.specs.Active.{find_in}
 use Rattle.task_model.specs.Views.{seen_by, is_bare}
 use Rattle.meta_model.specs.declared.value.Resolved.{Resolved}
