@@ -222,12 +222,13 @@ clock in_folder "$disk/large" "$program" large
 again=$took
 echo "large, again with one file changed: $((again / 1000)) ms on the disk"
 fresh() { rm -rf "$disk/hand"; }
+# (the program's bench removes what the script made, so this does, too)
 splits() {
-    mkdir "$1" && cd "$1" && head -c 33554432 /dev/zero >all && split -a 5 -b 2048 -d all f && rm all
+    mkdir "$1" && cd "$1" && head -c 33554432 /dev/zero >all && split -a 5 -b 2048 -d all f && rm all && cd / && rm -r "$1"
 }
 least 3 splits "$disk/hand"
 script=$took
-echo "  its script by hand: $((script / 1000)) ms"
+echo "  its script by hand, with the removal of what it made: $((script / 1000)) ms"
 aim 'one file of 16,384 changed' 'v1 - v3 <= 0.05 * (v2 - v3)' "$again" "$first" "$script"
 rm -rf "$disk/large/build"
 (cd "$disk/large" && "$program" large beside) | awk '{
