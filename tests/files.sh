@@ -91,7 +91,7 @@ canaries() {
 
 # The store's folders, each in turn a link to a folder outside: the link goes, and what it leads to stays.
 links_in_place_of_folders() {
-    for part in rec stamp work obj tmp stamp/hello work/hello work/hello/do_build work/shared; do
+    for part in rec2 key stamp work obj tmp stamp/hello work/hello work/hello/do_build work/shared; do
         project "links-$(echo "$part" | tr / -)"
         two_recipes
         runs "$program" hello shared:do_share
@@ -116,7 +116,7 @@ names_of_files_outside() {
     runs "$program" hello shared:do_share
     echo other >../other.txt
     canaries .. | grep other.txt >"$room/before"
-    for file in build/work/hello/do_build/hello.txt build/work/shared/do_share/here/shared.txt build/rec/x build/stamp/hello/do_build build/tmp/x; do
+    for file in build/work/hello/do_build/hello.txt build/work/shared/do_share/here/shared.txt build/rec2/x build/stamp/hello/do_build build/tmp/x; do
         mkdir -p "$(dirname "$file")" && ln -f ../other.txt "$file"
     done
     runs "$program" hello shared:do_share
@@ -130,17 +130,17 @@ other_kinds() {
     project kinds
     two_recipes
     runs "$program" hello shared:do_share
-    name=$(ls build/rec | head -n 1)
-    rm -r "build/rec/$name" build/work/hello/do_build/hello.txt build/stamp/hello/do_build build/work/shared
-    mkfifo build/rec/x "build/rec/$name" build/work/hello/do_build/hello.txt build/stamp/hello/do_build build/work/shared
+    name=$(ls build/rec2 | head -n 1)
+    rm -r "build/rec2/$name" build/work/hello/do_build/hello.txt build/stamp/hello/do_build build/work/shared
+    mkfifo build/rec2/x "build/rec2/$name" build/work/hello/do_build/hello.txt build/stamp/hello/do_build build/work/shared
     runs "$program" hello shared:do_share
     holds "pipes" are_right
-    rm -rf build/rec build/stamp build/work build/obj build/tmp
-    mkfifo build/rec build/stamp build/work build/obj build/tmp
+    rm -rf build/rec2 build/key build/stamp build/work build/obj build/tmp
+    mkfifo build/rec build/rec2 build/key build/format build/stamp build/work build/obj build/tmp
     runs "$program" hello shared:do_share
     holds "pipes in place of folders" are_right
-    rm -r build/rec build/stamp build/work build/obj
-    echo x >build/rec && echo x >build/stamp && echo x >build/work && echo x >build/obj
+    rm -rf build/rec build/rec2 build/key build/format build/stamp build/work build/obj
+    echo x >build/rec && echo x >build/rec2 && echo x >build/key && echo x >build/format && echo x >build/stamp && echo x >build/work && echo x >build/obj
     runs "$program" hello shared:do_share
     holds "files in place of folders" are_right
     rm build/work/hello/do_build/hello.txt && mkdir -p build/work/hello/do_build/hello.txt/inner "build/stamp/hello/do_build.d"
@@ -171,7 +171,7 @@ closed_below_build() {
     two_recipes
     chmod -R a+rwX .
     runs $as_user "$program" hello shared:do_share
-    for part in build build/rec build/stamp build/stamp/hello build/work build/work/hello build/work/hello/do_build build/obj build/bench; do
+    for part in build build/rec2 build/key build/stamp build/stamp/hello build/work build/work/hello build/work/hello/do_build build/obj build/bench; do
         for mode in 000 400 100 500 300; do
             $as_user chmod "$mode" "$part"
             runs $as_user "$program" hello shared:do_share
@@ -186,7 +186,7 @@ closed_below_build() {
     runs $as_user "$program" hello shared:do_share
     holds "closed folders that are too many" are_right
     holds "they are gone" test ! -e build/work/hello/do_build/deep
-    for file in "build/rec/$(ls build/rec | head -n 1)" build/stamp/hello/do_build build/work/hello/do_build/hello.txt; do
+    for file in "build/rec2/$(ls build/rec2 | head -n 1)" "build/key/$(ls build/key | head -n 1)" build/stamp/hello/do_build build/work/hello/do_build/hello.txt; do
         $as_user chmod 000 "$file"
         runs $as_user "$program" hello shared:do_share
         holds "$file of mode 000" are_right
@@ -256,10 +256,10 @@ odd_names_below_build() {
     project odd-build
     two_recipes
     runs "$program" hello shared:do_share
-    touch "build/rec/$(printf 'x\377')"
+    touch "build/rec2/$(printf 'x\377')"
     runs "$program" hello
     holds "an odd name below build/" test "$status $(tail -n 1 "$room/text")" = "4 fault 4 disk"
-    holds "it is named" said "bitbake: disk: listing of build/rec/x\\xff: its name isn't UTF-8"
+    holds "it is named" said "bitbake: disk: listing of build/rec2/x\\xff: its name isn't UTF-8"
 }
 
 # Files of a tebibyte, without a block: none is read.
@@ -267,19 +267,19 @@ sizes_beyond_the_formats() {
     project sizes
     two_recipes
     runs "$program" hello shared:do_share
-    if ! truncate -s 1T build/rec/x 2>/dev/null; then
+    if ! truncate -s 1T build/rec2/x 2>/dev/null; then
         echo "skipped large files: this file system has none"
         return
     fi
     object=$(find build/obj -name shared.txt | head -n 1)
-    for file in build/rec/x "build/rec/$(ls build/rec | head -n 1)" build/stamp/hello/do_build build/stamp/hello/x build/tmp/x build/work/hello/do_build/hello.txt \
+    for file in build/rec2/x "build/rec2/$(ls build/rec2 | head -n 1)" build/key/x "build/key/$(ls build/key | head -n 1)" build/stamp/hello/do_build build/stamp/hello/x build/tmp/x build/work/hello/do_build/hello.txt \
         build/work/hello/do_build/x "$object" build/work/shared/do_share/here/shared.txt; do
         mkdir -p "$(dirname "$file")"
         truncate -s 1T "$file"
         runs "$program" hello shared:do_share
         holds "a tebibyte at $file" are_right
         case $file in
-            build/rec/* | build/stamp/hello/do_build | build/tmp/*) holds "$file is no tebibyte any more" test -z "$(find "$file" -size +1M 2>/dev/null)" ;;
+            build/rec2/* | build/stamp/hello/do_build | build/tmp/*) holds "$file is no tebibyte any more" test -z "$(find "$file" -size +1M 2>/dev/null)" ;;
         esac
     done
     truncate -s 1T build/work/shared/do_share/here/shared.txt "$object"
@@ -382,8 +382,8 @@ the_record_of_an_unsteady_task() {
     echo two >../value
     runs "$program" -f hello
     holds "an unsteady task" test "$status $(tail -n 1 "$room/text")" = "9 fault 9 unsteady hello:do_build"
-    holds "its record is named" said "bitbake: record: build/rec/$first tells what hello:do_build gave before: where a tool on the search path has changed, remove this file and run again"
-    rm "build/rec/$first"
+    holds "its record is named" said "bitbake: record: build/rec2/$first tells what hello:do_build gave before: where a tool on the search path has changed, remove this file and run again"
+    rm "build/rec2/$first"
     runs "$program" hello other
     holds "its record is enough" test "$status $(cat build/work/hello/do_build/hello.txt)" = "0 two"
     holds "the other task's is still there" grep -qx 'found other:do_build' "$room/text"
@@ -393,7 +393,7 @@ the_record_of_an_unsteady_task() {
     second=$(cat build/stamp/hello/do_build)
     echo three >../value
     runs "$program" -f hello
-    holds "both records are named" said "bitbake: record: one of these tells what hello:do_build gave before, each for a signature of its own: $(printf 'build/rec/%s\nbuild/rec/%s\n' "$first" "$second" | sort | tr '\n' ' ' | sed 's/ build/, build/; s/ $//'); where a tool on the search path has changed, remove them and run again"
+    holds "both records are named" said "bitbake: record: one of these tells what hello:do_build gave before, each for a signature of its own: $(printf 'build/rec2/%s\nbuild/rec2/%s\n' "$first" "$second" | sort | tr '\n' ' ' | sed 's/ build/, build/; s/ $//'); where a tool on the search path has changed, remove them and run again"
 }
 
 links_in_place_of_folders

@@ -11,6 +11,8 @@ aren't UTF-8) and runs the program. Then:
   files and links of a clean build, and so it is after one more run;
 - where it didn't, a run behind `rm -rf build` answers 0 with them.
 
+With `--built-by` another program built the projects, so that damaged stores of an older format are moved.
+
 A part of the rounds runs the program as the user `nobody`, where this is run as root. A failure is printed with its seed; `--seed N
 --rounds 1` does that round again, and `--keep` leaves its folder. The last line is 'N passed, M failed', and the status is 0 where M is 0.
 """
@@ -204,7 +206,7 @@ class Round:
     def a_name(self):
         """A path for something new: a likely name or litter, in some folder."""
         name = self.random.choice([
-            b"x", b"one", b"do_build", b"lock", b"0.lock", b"rec", b"tmp", b"old", b"log", b"a b", b"0" * 64, b"n" * 255, b".hidden", b"\xff", b"new\nline"])
+            b"x", b"one", b"do_build", b"lock", b"0.lock", b"rec", b"rec2", b"key", b"format", b"tmp", b"old", b"log", b"a b", b"0" * 64, b"n" * 255, b".hidden", b"\xff", b"new\nline"])
         return os.path.join(self.any_folder(), name)
 
     @staticmethod
@@ -447,6 +449,7 @@ def play(given, seed):
 def main():
     words = argparse.ArgumentParser(description="damages build/ at random")
     words.add_argument("--program", default=os.path.join(TOP, "crates/bitbake_cli/out/bitbake_cli"))
+    words.add_argument("--built-by", help="the program that builds the projects before they are damaged, if not the same: one of before, whose stores are moved")
     words.add_argument("--rounds", type=int, default=300)
     words.add_argument("--seed", type=int, default=1)
     words.add_argument("--jobs", type=int, default=os.cpu_count() or 1)
@@ -462,7 +465,7 @@ def main():
         project = os.path.join(given.room, "project")
         for path, text in RECIPES.items():
             write(os.path.join(project, path), text.encode())
-        done = subprocess.run([given.program, *TARGETS], cwd=project, stdin=subprocess.DEVNULL, capture_output=True, check=False)
+        done = subprocess.run([os.path.abspath(given.built_by or given.program), *TARGETS], cwd=project, stdin=subprocess.DEVNULL, capture_output=True, check=False)
         if done.returncode != 0:
             sys.exit(f"the clean build answers {done.returncode}: {done.stdout!r} {done.stderr!r}")
         given.wanted = outputs(os.fsencode(project), named(done.stdout))

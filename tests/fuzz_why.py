@@ -176,7 +176,7 @@ class Round:
         return sorted(found)
 
     def take_some(self):
-        paths = self.paths(self.random.choice(["work", "work", "stamp", "obj", "obj", "rec"]))
+        paths = self.paths(self.random.choice(["work", "work", "stamp", "obj", "obj", "rec2", "key"]))
         if paths:
             path = self.random.choice(paths)
             if os.path.isdir(path):

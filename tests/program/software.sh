@@ -101,9 +101,9 @@ A WELL-KNOWN TEXT!'
 A WELL-KNOWN TEXT!'
         holds "flags of one machine, $threads threads" grep -q -e '-Os' build/log/mc/panel/text/do_compile
         holds "flags of the other one, $threads threads" grep -q -e '-O2' build/log/mc/desk/text/do_compile
-        holds "nothing of the default one, $threads threads" test ! -e build/rec -a ! -e build/work -a ! -e build/log/text
+        holds "nothing of the default one, $threads threads" test ! -e build/rec2 -a ! -e build/work -a ! -e build/log/text
     done
-    holds "one thread and eight leave the same files of both machines" diff -r -x rec -x stamp -x why -x trace.json "$room/machines-1/build/mc" build/mc
+    holds "one thread and eight leave the same files of both machines" diff -r -x rec2 -x stamp -x why -x trace.json "$room/machines-1/build/mc" build/mc
     sed -i 's/-Os/-Os -DPANEL/' conf/multiconfig/panel.conf
     runs "$bitbake" mc:desk:image mc:panel:image
     sed '/^mc panel$/,$d' "$room/text" >"$room/told"

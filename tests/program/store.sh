@@ -6,7 +6,7 @@ recipe hello 'echo hello > hello.txt'
 runs "$bitbake" hello
 wants "a run over an empty store" 0 "$done_text"
 digest=$(cat build/stamp/hello/do_build)
-record=build/rec/$digest
+record=build/rec2/$digest
 sed -n 's/^    \(0[0-9a-f]\{7\}: .*\)$/\1/p' "$top/docs/STORE.md" >"$room/dump"
 holds "the documents have a dump" test -s "$room/dump"
 if command -v xxd >/dev/null 2>&1; then
@@ -15,29 +15,34 @@ if command -v xxd >/dev/null 2>&1; then
 else
     echo "skipped the dump in the documents: there is no xxd"
 fi
-holds "a record's name" test "$(tail -c +13 "$record" | head -c 92 | sha256sum)" = "$digest  -"
+holds "a record's name" test "$(tail -c +14 "$record" | head -c 100 | sha256sum)" = "$digest  -"
+key=$(find build/key -type f)
+holds "a key's name" test "$(sha256sum <"$key")" = "$(basename "$key")  -"
+holds "a record's key" grep -aq ",64:$(basename "$key")," "$record"
+sed -n '/^    \$ cat build\/key\//,/^$/s/^    \([^$].*\)$/\1/p' "$top/docs/STORE.md" >"$room/dump"
+holds "the key in the documents" test "$(cat "$room/dump")" = "$(cat "$key")"
 holds "a digest of the manifest" grep -aq "$(sha256sum <build/work/hello/do_build/hello.txt | cut -c 1-64)" "$record"
 
-# Records, the stamp and work folders are as they were when they were kept.
+# Records, keys, the stamp and work folders are as they were when they were kept.
 cp -R build "$room/kept" || exit 1
 is_as_kept() {
-    for folder in rec stamp/hello work; do
+    for folder in rec2 key stamp/hello work; do
         diff -r "$room/kept/$folder" "build/$folder" >/dev/null || return 1
     done
 }
 
 # Files of random bytes go, where records should stand; so does what else a store has no place for. Under `stamp/` they stay, and are no stamps.
 mkdir build/stamp/p || exit 1
-head -c 256000 /dev/urandom | split -b 256 -a 4 -x - "build/rec/$(printf '%060d' 0)" || exit 1
+head -c 256000 /dev/urandom | split -b 256 -a 4 -x - "build/rec2/$(printf '%060d' 0)" || exit 1
 head -c 65000 /dev/urandom | split -b 65 -a 4 -x - build/stamp/p/do_ || exit 1
-holds "2,000 files of random bytes" test "$(find build/rec build/stamp -type f | wc -l)" -eq 2002
+holds "2,000 files of random bytes" test "$(find build/rec2 build/stamp -type f | wc -l)" -eq 2002
 runs "$bitbake" hello
 wants "a run over random files" 0 "$found_text"
 holds "random files are gone" is_as_kept
 holds "random files under stamp/ stay" test "$(find build/stamp/p -type f | wc -l)" -eq 1000
-mkdir -p build/rec/deep/er build/stamp/p build/tmp/rec && ln -s "$digest" build/rec/link && cp "$record" build/rec/deep/er/record || exit 1
-cp "$record" "build/rec/$(printf '%064d' 1)" && printf '%.63s\n' "$digest" >build/stamp/p/do_short || exit 1
-cp build/stamp/hello/do_build build/stamp/p.txt && cp "$record" build/tmp/rec/ && echo file >build/tmp/file || exit 1
+mkdir -p build/rec2/deep/er build/stamp/p build/tmp/rec2 && ln -s "$digest" build/rec2/link && cp "$record" build/rec2/deep/er/record || exit 1
+cp "$record" "build/rec2/$(printf '%064d' 1)" && printf '%.63s\n' "$digest" >build/stamp/p/do_short || exit 1
+cp build/stamp/hello/do_build build/stamp/p.txt && cp "$record" build/tmp/rec2/ && echo file >build/tmp/file || exit 1
 runs "$bitbake" hello
 wants "a run over odd files" 0 "$found_text"
 holds "odd files are gone" is_as_kept
@@ -52,10 +57,10 @@ holds "folders are there again" is_as_kept
 # is that of a task that gave something else.
 for change in byte unihash end manifest; do
     case $change in
-        byte) printf x | dd of="$record" bs=1 seek=120 conv=notrunc 2>/dev/null ;;
-        unihash) printf f | dd of="$record" bs=1 seek=193 conv=notrunc 2>/dev/null ;;
+        byte) printf x | dd of="$record" bs=1 seek=129 conv=notrunc 2>/dev/null ;;
+        unihash) printf f | dd of="$record" bs=1 seek=202 conv=notrunc 2>/dev/null ;;
         end) truncate -s -1 "$record" ;;
-        manifest) printf 6 | dd of="$record" bs=1 seek=125 conv=notrunc 2>/dev/null ;;
+        manifest) printf 6 | dd of="$record" bs=1 seek=134 conv=notrunc 2>/dev/null ;;
     esac
     runs "$bitbake" hello
     if [ "$change" = manifest ]; then
@@ -111,7 +116,7 @@ rm build/stamp/hello/do_build || exit 1
 runs "$bitbake" hello
 wants "an object of which one byte is another one" 0 "$done_text"
 holds "the object is as it was" test "$(cat "$object")" = hello
-rm build/rec/* || exit 1
+rm build/rec2/* || exit 1
 runs "$bitbake" hello
 wants "without its record" 0 "$done_text"
 rm -r build || exit 1

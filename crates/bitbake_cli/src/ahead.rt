@@ -4,6 +4,7 @@ use build_store::{Ahead, Known};
 use command_words::{mode_of, read_words};
 use outside_os::ReadAhead;
 use std::alloc::{AllocError, Global};
+use std::io;
 use tree_model::Text;
 
 /// Whether these words ask for a run.
@@ -56,12 +57,52 @@ pub fn is_forced(rt: &HostRuntime, words: &[Text]) -> bool {
     }
 }
 
-/// Reads what opening a store will ask of the disk, and works out what the files under `rec/` say. What fails is left to the run.
+/// The bytes of a piece of room. For a larger one the C library asks the system by itself, and gives it back at once.
+const PIECE: u64 = 114_688;
+
+/// The most bytes of room that are taken beforehand.
+const MOST_ROOM: u64 = 50_331_648;
+
+/// About how many bytes are taken of a file beside twice its own.
+const ROOM_OF_FILE: u64 = 512;
+
+/// Takes room in large pieces, and gives it back to this thread: one that isn't the first gets it page by page else, with a call to the system for each. Want
+/// of memory is met where the room is needed.
+fn take_room(alloc: Global, bytes: u64) {
+    let mut pieces = Vec::new(alloc);
+    for _ in 0..bytes.min(MOST_ROOM) / PIECE {
+        let Ok(piece) = Vec::<u8>::with_capacity(alloc, PIECE as usize) else {
+            return;
+        };
+        if pieces.push(piece).is_err() {
+            return;
+        }
+    }
+}
+
+/// Takes the room for what is worked out of the files that were read.
+fn take_room_for(alloc: Global, reading: &ReadAhead) {
+    let (count, bytes) = reading.size();
+    let beside = (count as u64).saturating_mul(ROOM_OF_FILE);
+    take_room(alloc, bytes.saturating_mul(2).saturating_add(beside));
+}
+
+/// Works out what the files say that were read ahead, where those under `rec2/` and under `key/` were.
+fn known_of(rt: &HostRuntime, reading: &ReadAhead) -> io::Result<Option<Known>> {
+    take_room_for(rt.alloc(), reading);
+    let Some(records) = reading.records(rt.alloc())? else {
+        return Ok(None);
+    };
+    match reading.keys(rt.alloc())? {
+        Some(keys) => Ok(Known::of_files(rt.alloc(), records, keys).ok()),
+        None => Ok(None),
+    }
+}
+
+/// Reads what opening a store will ask of the disk, and works out what the files under `rec2/` and `key/` say. What fails is left to the run.
 pub fn read_ahead(rt: &HostRuntime, reading: &ReadAhead, ahead: &Ahead) {
     reading.read(rt);
-    if let Ok(Some(files)) = reading.records(rt.alloc()) {
-        if let Ok(known) = Known::of_files(rt.alloc(), files) {
-            ahead.put(known);
-        }
+    if let Ok(Some(known)) = known_of(rt, reading) {
+        ahead.put(known);
     }
 }

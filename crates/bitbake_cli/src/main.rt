@@ -5,6 +5,7 @@
 //! error tells of what failed, beside the ends of logs, which the benches show: which tasks gave too much, what is wrong with the metadata
 //! and what to do, who asks for what isn't there, and what a device says of its first fault.
 //! Where that is a terminal, one line there says what a run is doing (`progress_line`), unless `--quiet` is among the words.
+//! Before a run the stores that it will open are brought to the present format of records, where they have any of the first one (`upgrading`).
 //! Help, the version, remarks and the graph are modes of this program alone, whose words go to no top call (`own_modes`, `linting` over
 //! `recipe_lint`, `graphing` over `target_graph`).
 //! `tests/program.sh` tests it by runs.
@@ -25,6 +26,8 @@ mod records;
 mod sentences;
 mod streams;
 mod traces;
+mod upgrading;
+mod watching;
 mod whying;
 
 use about::tell_about;
@@ -36,6 +39,7 @@ use faults::{tell_fault, tell_passed};
 use graphing::run_graph;
 use host_files::{Syncs, is_memory};
 use linting::{run_lint, tell_count};
+use meta_model::Status;
 use outside_os::{FolderDisk, FolderLayers, ReadAhead, StdSink};
 use own_modes::{OwnMode, other_words, own_mode, run_help, run_version};
 use progress_line::{Progress, Shown, has_place};
@@ -51,6 +55,7 @@ use std::{env, io};
 use streams::closed_streams;
 use traces::{Lines, keep_trace};
 use tree_model::Text;
+use upgrading::bring_up;
 use whying::run_why;
 
 /// The number of the last bench, from 0 on. The folders of benches are made at first use.
@@ -103,16 +108,23 @@ fn run<R: Threads + Wait + Clock + Sync>(rt: &HostRuntime, threads: &R) -> io::R
         Some(OwnMode::Help) => return run_help(rt),
         Some(OwnMode::Version) => return run_version(rt),
         Some(OwnMode::Lint) => return run_lint(rt, &all),
-        Some(OwnMode::Why) => return run_why(rt, &all),
+        Some(OwnMode::Why) => return run_why(rt, threads, &all),
         Some(OwnMode::Graph) => return run_graph(rt, &all),
         None => {}
     }
     let words = other_words(rt.alloc(), &all, QUIET)?;
     let is_run = is_run(rt, &words);
+    let configs = configs_in(rt.alloc(), &words)?;
+    if is_run {
+        let status = bring_up(rt, configs.as_slice(), words.len() == all.len())?;
+        if !matches!(status, Status::Ok) {
+            return Ok(status.code());
+        }
+    }
     let beside = Beside {
         syncs: Syncs::none(),
         sandboxes: Sandboxes::unknown(),
-        configs: Configs::of(configs_in(rt.alloc(), &words)?),
+        configs: Configs::of(configs),
         progress: Progress::new(rt.alloc(), begun),
         is_shown: is_run && words.len() == all.len() && has_place(rt),
         begun,

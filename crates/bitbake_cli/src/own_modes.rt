@@ -141,6 +141,12 @@ pub fn print_answer(
     Ok(status)
 }
 
+/// Prints the line of a status that isn't Ok, and gives the status: that of want of memory, or of a fault of standard output, where it can't be printed.
+pub fn print_refused(rt: &HostRuntime, status: Status) -> io::Result<Status> {
+    let (status, text) = refused(rt.alloc(), status);
+    print_text(rt, status, text.as_str())
+}
+
 /// Prints the options, and gives the exit status.
 pub fn run_help(rt: &HostRuntime) -> io::Result<u8> {
     Ok(print_text(rt, Status::Ok, HELP)?.code())

@@ -1,11 +1,11 @@
 // Which of the store's records tell what a task gave before.
-use sig_gen::{decode_stored, encode_manifest};
+use sig_gen::{decode_short_stored, encode_manifest};
 use std::alloc::Global;
 use std::{fs, io};
 use tree_model::{Bytes, Manifest};
 
 /// Where the records stand, from the current folder.
-const RECORDS: &str = "build/rec";
+const RECORDS: &str = "build/rec2";
 
 /// The most bytes of a record that is looked at.
 const MOST: u64 = 268_435_456;
@@ -70,7 +70,7 @@ fn holds(rt: &HostRuntime, path: &str, pn: &str, task: &str, spelled: &Bytes) ->
 
 /// Whether these bytes are a record of this task with this manifest.
 fn is_record(alloc: Global, bytes: &[u8], pn: &str, task: &str, spelled: &Bytes) -> bool {
-    let Ok(stored) = decode_stored(alloc, bytes) else {
+    let Ok(stored) = decode_short_stored(alloc, bytes) else {
         return false;
     };
     if stored.sig.pn.as_str() != pn || stored.sig.task.as_str() != task {

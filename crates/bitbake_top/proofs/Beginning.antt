@@ -25,14 +25,15 @@ use Rattle.meta_model.specs.Worked.{shell}
 use Rattle.store_model.specs.Origins.{Book, Line, origin, rows_of}
 use Rattle.store_model.specs.Premises.{HasOneSignature, IsBlind, IsContent, IsSoundTask, IsTreeOf, IsWord}
 use Rattle.store_model.specs.Premises as of
+use Rattle.store_model.specs.Paths.{key_path, record_path}
 use Rattle.store_model.specs.Publication.{stamp_text}
 use Rattle.store_model.specs.Readable.{IsReadable}
 use Rattle.store_model.specs.Reuse.{MayReuse}
 use Rattle.store_model.specs.Rows.{hash_eq}
 use Rattle.store_model.specs.Signatures.{is_order, signatures}
 use Rattle.store_model.specs.Sound.{IsText}
-use Rattle.store_model.specs.Spelling.{name_of, record_bytes, signature_bytes}
-use Rattle.store_model.specs.Valid.{IsPlain, IsValid, StandsIn, record_entry, stored_of}
+use Rattle.store_model.specs.Spelling.{key_bytes, key_name, name_of, record_bytes, short_bytes, short_of, short_record}
+use Rattle.store_model.specs.Valid.{IsPlain, IsValid, StandsIn, key_file, record_entry, stored_of}
 use Rattle.store_model.specs.Available.{stamp_path, work_folder}
 use Rattle.store_model.specs.Hello.{chain_reading, first_line, hello_name, hello_reading, hello_signed, hello_task, hello_tree, top_task, top_tree}
 use Rattle.store_model.proofs.Hello.{empty_tree, hello_is_recorded, nothing_stands}
@@ -157,7 +158,7 @@ digest_is_hash m = record { size = length-sha256 m; bytes = digest_is_bytes m }
 
 name_is_hash : IsHash (name_of hello_signed.sig)
 unfolding name_of
-name_is_hash = digest_is_hash (signature_bytes hello_signed.sig)
+name_is_hash = digest_is_hash (short_bytes (short_of hello_signed.sig))
 
 n_clean : IsClean (codes "n")
 n_clean = record {
@@ -178,8 +179,8 @@ n_clean = record {
     only_byte (zero, lt, e) = e
     only_byte (suc k, lt, e) = absurd (omega arith)
 
-few : length (signature_bytes hello_signed.sig) < 2 ^ 64
-unfolding signature_bytes digits
+few : length (short_bytes (short_of hello_signed.sig)) < 2 ^ 64
+unfolding short_bytes key_name key_bytes digits encode_with first_words schedule rounds compress hash_after digest_bytes sha256
 few = lit< tt
 
 line_readable : IsReadable first_line
@@ -220,7 +221,7 @@ line_readable = record {
 }
 
 left_valid : IsValid shell hello_reading hello_left hello_book
-left_valid = record { records = λ path. hello_is_recorded.after.records path; lines = hello_is_recorded.after.lines }
+left_valid = record { records = λ path. hello_is_recorded.after.records path; lines = hello_is_recorded.after.lines; keys = λ before line stands. hello_is_recorded.after.keys before line stands }
 
 -- where a line stands in a book of one
 in_one : (x : Line) (before : Book) (line : Line) → StandsIn (x ∷ []) before line → (before ≡ []) × (line ≡ x)
@@ -242,30 +243,37 @@ again_tree tree (of.files before line s) = let p = in_one first_line before line
 again_tree tree (of.clean b t among o) = each GivesOne (hello_built ∷ []) (hello_gives, tt) b (subst (λ l. Contains l b) hello_is_built among) t o
 again_tree tree (of.inputs task among) = each (λ task. IsOnly task.files) hello_plan.tasks (tt, tt) task among
 
--- what is held: the output's one file, the record and the stamp
+-- what is held: the output's one file, the record, its key and the stamp
 record_text : List ℕ
 record_text = record_bytes (stored_of first_line)
 
-abbrev IsOfThree : List ℕ → Type 0
-IsOfThree bytes = (bytes ≡ codes "1") ⊎ ((bytes ≡ record_text) ⊎ (bytes ≡ stamp_text hello_name))
+key_text : List ℕ
+key_text = key_bytes first_line.sig.key
 
-held_of_three : (a b c : Bool) (x y z entry : Entry) → (if a then Some x else if b then Some y else if c then Some z else None) ≡ Some entry → (x ≡ entry) ⊎ ((y ≡ entry) ⊎ (z ≡ entry))
-held_of_three true b c x y z entry e = inl cc
-held_of_three false true c x y z entry e = inr (inl cc)
-held_of_three false false true x y z entry e = inr (inr cc)
-held_of_three false false false x y z entry e = absurd (cc)
+abbrev IsOfFour : List ℕ → Type 0
+IsOfFour bytes = (bytes ≡ codes "1") ⊎ ((bytes ≡ record_text) ⊎ ((bytes ≡ stamp_text hello_name) ⊎ (bytes ≡ key_text)))
 
-again_content : (bytes : List ℕ) → IsContent shell hello_reading hello_left hello_book hello_plan.tasks bytes → IsOfThree bytes
-unfolding record_text
+held_of_four : (a b c d : Bool) (x y z w entry : Entry) → (if a then Some x else if b then Some y else if c then Some z else if d then Some w else None) ≡ Some entry → (x ≡ entry) ⊎ ((y ≡ entry) ⊎ ((z ≡ entry) ⊎ (w ≡ entry)))
+held_of_four true b c d x y z w entry e = inl cc
+held_of_four false true c d x y z w entry e = inr (inl cc)
+held_of_four false false true d x y z w entry e = inr (inr (inl cc))
+held_of_four false false false true x y z w entry e = inr (inr (inr cc))
+held_of_four false false false false x y z w entry e = absurd (cc)
+
+again_content : (bytes : List ℕ) → IsContent shell hello_reading hello_left hello_book hello_plan.tasks bytes → IsOfFour bytes
+unfolding record_text key_text
 again_content bytes (inl (tree, is, any)) = inl (any_one tree (again_tree tree is) bytes any)
 again_content bytes (inr (path, entry, held, is)) =
-    let three = held_of_three (bytes_eq (stamp_path hello_task) path) (bytes_eq (inside (work_folder hello_task) (codes "n")) path) (bytes_eq (inside (codes "rec") (hash_text (name_of first_line.sig))) path)
-    (File false (stamp_text hello_name)) (File false (codes "1")) (record_entry first_line).1 entry held in
-    elim three [
-      | inl e ↦ inr (inr (sym is ∙ sym (ap content_of e)))
+    let four = held_of_four (bytes_eq (stamp_path hello_task) path) (bytes_eq (inside (work_folder hello_task) (codes "n")) path) (bytes_eq (record_path (name_of first_line.sig)) path) (bytes_eq (key_path (key_name first_line.sig.key)) path)
+    (File false (stamp_text hello_name)) (File false (codes "1")) (record_entry first_line).1 (key_file first_line.sig.key) entry held in
+    elim four [
+      | inl e ↦ inr (inr (inl (sym is ∙ sym (ap content_of e))))
       | inr rest ↦ elim rest [
         | inl e ↦ inl (sym is ∙ sym (ap content_of e))
-        | inr e ↦ inr (inl (sym is ∙ sym (ap content_of e)))
+        | inr more ↦ elim more [
+          | inl e ↦ inr (inl (sym is ∙ sym (ap content_of e)))
+          | inr e ↦ inr (inr (inr (sym is ∙ sym (ap content_of e))))
+        ]
       ]
     ]
 
@@ -276,31 +284,53 @@ apart : (a b : List ℕ) → hash_eq (digest a) (digest b) ≡ false → sha256 
 apart a b other e = let yes : hash_eq (digest a) (digest b) ≡ true = hash_itself (digest a) (digest b) (ap (λ x. record { bytes = x }) e) in absurd (cc)
 
 one_and_record : hash_eq (digest (codes "1")) (digest record_text) ≡ false
-unfolding name_of signature_bytes digits encode_with first_words schedule rounds compress hash_after digest_bytes sha256 record_bytes record_text
+unfolding name_of short_bytes key_name key_bytes digits encode_with first_words schedule rounds compress hash_after digest_bytes sha256 record_bytes short_record record_text key_text
 one_and_record = refl
 
 one_and_stamp : hash_eq (digest (codes "1")) (digest (stamp_text hello_name)) ≡ false
-unfolding digits encode_with first_words schedule rounds compress hash_after digest_bytes sha256
+unfolding name_of short_bytes key_name key_bytes digits encode_with first_words schedule rounds compress hash_after digest_bytes sha256 record_bytes short_record record_text key_text
 one_and_stamp = refl
 
+one_and_key : hash_eq (digest (codes "1")) (digest key_text) ≡ false
+unfolding name_of short_bytes key_name key_bytes digits encode_with first_words schedule rounds compress hash_after digest_bytes sha256 record_bytes short_record record_text key_text
+one_and_key = refl
+
 record_and_stamp : hash_eq (digest record_text) (digest (stamp_text hello_name)) ≡ false
-unfolding name_of signature_bytes digits encode_with first_words schedule rounds compress hash_after digest_bytes sha256 record_bytes record_text
+unfolding name_of short_bytes key_name key_bytes digits encode_with first_words schedule rounds compress hash_after digest_bytes sha256 record_bytes short_record record_text key_text
 record_and_stamp = refl
 
--- contents are one where they are the same as some that are
-moved : (a b x y : List ℕ) → a ≡ x → b ≡ y → (sha256 x ≡ sha256 y → x ≡ y) → sha256 a ≡ sha256 b → a ≡ b
-moved a b x y p q same e = p ∙ same (sym (ap sha256 p) ∙ e ∙ ap sha256 q) ∙ sym q
+record_and_key : hash_eq (digest record_text) (digest key_text) ≡ false
+unfolding name_of short_bytes key_name key_bytes digits encode_with first_words schedule rounds compress hash_after digest_bytes sha256 record_bytes short_record record_text key_text
+record_and_key = refl
 
-no_clash : (a b : List ℕ) → IsOfThree a → IsOfThree b → sha256 a ≡ sha256 b → a ≡ b
+stamp_and_key : hash_eq (digest (stamp_text hello_name)) (digest key_text) ≡ false
+unfolding name_of short_bytes key_name key_bytes digits encode_with first_words schedule rounds compress hash_after digest_bytes sha256 record_bytes short_record record_text key_text
+stamp_and_key = refl
+
+-- contents are one where they are the same as some that are
+moved : (x y : List ℕ) → hash_eq (digest x) (digest y) ≡ false → (a b : List ℕ) → a ≡ x → b ≡ y → sha256 a ≡ sha256 b → a ≡ b
+moved x y other a b p q same = p ∙ apart x y other (sym (ap sha256 p) ∙ same ∙ ap sha256 q) ∙ sym q
+
+moved_back : (x y : List ℕ) → hash_eq (digest x) (digest y) ≡ false → (a b : List ℕ) → a ≡ y → b ≡ x → sha256 a ≡ sha256 b → a ≡ b
+moved_back x y other a b p q same = sym (moved x y other b a q p (sym same))
+
+no_clash : (a b : List ℕ) → IsOfFour a → IsOfFour b → sha256 a ≡ sha256 b → a ≡ b
 no_clash a b (inl p) (inl q) e = p ∙ sym q
-no_clash a b (inl p) (inr (inl q)) e = moved a b (codes "1") record_text p q (apart (codes "1") record_text one_and_record) e
-no_clash a b (inl p) (inr (inr q)) e = moved a b (codes "1") (stamp_text hello_name) p q (apart (codes "1") (stamp_text hello_name) one_and_stamp) e
-no_clash a b (inr (inl p)) (inl q) e = sym (moved b a (codes "1") record_text q p (apart (codes "1") record_text one_and_record) (sym e))
+no_clash a b (inl p) (inr (inl q)) e = moved (codes "1") record_text one_and_record a b p q e
+no_clash a b (inl p) (inr (inr (inl q))) e = moved (codes "1") (stamp_text hello_name) one_and_stamp a b p q e
+no_clash a b (inl p) (inr (inr (inr q))) e = moved (codes "1") key_text one_and_key a b p q e
+no_clash a b (inr (inl p)) (inl q) e = moved_back (codes "1") record_text one_and_record a b p q e
 no_clash a b (inr (inl p)) (inr (inl q)) e = p ∙ sym q
-no_clash a b (inr (inl p)) (inr (inr q)) e = moved a b record_text (stamp_text hello_name) p q (apart record_text (stamp_text hello_name) record_and_stamp) e
-no_clash a b (inr (inr p)) (inl q) e = sym (moved b a (codes "1") (stamp_text hello_name) q p (apart (codes "1") (stamp_text hello_name) one_and_stamp) (sym e))
-no_clash a b (inr (inr p)) (inr (inl q)) e = sym (moved b a record_text (stamp_text hello_name) q p (apart record_text (stamp_text hello_name) record_and_stamp) (sym e))
-no_clash a b (inr (inr p)) (inr (inr q)) e = p ∙ sym q
+no_clash a b (inr (inl p)) (inr (inr (inl q))) e = moved record_text (stamp_text hello_name) record_and_stamp a b p q e
+no_clash a b (inr (inl p)) (inr (inr (inr q))) e = moved record_text key_text record_and_key a b p q e
+no_clash a b (inr (inr (inl p))) (inl q) e = moved_back (codes "1") (stamp_text hello_name) one_and_stamp a b p q e
+no_clash a b (inr (inr (inl p))) (inr (inl q)) e = moved_back record_text (stamp_text hello_name) record_and_stamp a b p q e
+no_clash a b (inr (inr (inl p))) (inr (inr (inl q))) e = p ∙ sym q
+no_clash a b (inr (inr (inl p))) (inr (inr (inr q))) e = moved (stamp_text hello_name) key_text stamp_and_key a b p q e
+no_clash a b (inr (inr (inr p))) (inl q) e = moved_back (codes "1") key_text one_and_key a b p q e
+no_clash a b (inr (inr (inr p))) (inr (inl q)) e = moved_back record_text key_text record_and_key a b p q e
+no_clash a b (inr (inr (inr p))) (inr (inr (inl q))) e = moved_back (stamp_text hello_name) key_text stamp_and_key a b p q e
+no_clash a b (inr (inr (inr p))) (inr (inr (inr q))) e = p ∙ sym q
 
 one_signature : HasOneSignature hello_book hello_signed
 one_signature before line stands same = ap (λ l. l.sig) (in_one first_line before line stands).1

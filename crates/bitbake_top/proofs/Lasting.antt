@@ -25,7 +25,7 @@ use Rattle.store_model.specs.Available.{IsInObject, IsInWork, object_folder, sta
 use Rattle.store_model.specs.Lines.{HaveSameLines}
 use Rattle.store_model.specs.Opened.{IsLeft}
 use Rattle.store_model.specs.Origins.{Book, Line, Reading, row_of, rows_of}
-use Rattle.store_model.specs.Paths.{slashes}
+use Rattle.outside_traits.specs.Store.{slashes}
 use Rattle.store_model.specs.Premises.{HasOneSignature}
 use Rattle.store_model.specs.Reuse.{MayReuse}
 use Rattle.store_model.specs.Rows.{hash_eq, row_at}
@@ -234,7 +234,7 @@ module _ (gives : Gives) (reading : Reading) (book : Book) (held : Store) (plan 
     work_above w q up =
         let none : held q ≡ None = w.folder.holds.outside.above q up in
         let head = begins 119 (111 ∷ 114 ∷ 107 ∷ 47 ∷ task_folder sg.task) q (differ 119 47 refl) up in
-        leaves.paths image since q (inr (inr (inr none))) (record {
+        leaves.paths image since q (inr (inr (inr (inr none)))) (record {
           temporary = λ below. not_under 119 116 (109 ∷ 112 ∷ []) head.0 q (differ 119 116 refl) head.1 (inr below);
           folder = λ u task at touched own. elim own [
             | inl at_or_below ↦ too_high sg.task task q place (has_place plan u task sound at) up at_or_below
@@ -242,8 +242,11 @@ module _ (gives : Gives) (reading : Reading) (book : Book) (held : Store) (plan 
           ];
           above = λ u task at touched below. none;
           output = λ u published shared. absurd (elim shared [
-            | inl records ↦ not_under 119 114 (101 ∷ 99 ∷ []) head.0 q (differ 119 114 refl) head.1 records
-            | inr objects ↦ not_under 119 111 (98 ∷ 106 ∷ []) head.0 q (differ 119 111 refl) head.1 objects
+            | inl records ↦ not_under 119 114 (101 ∷ 99 ∷ 50 ∷ []) head.0 q (differ 119 114 refl) head.1 records
+            | inr others ↦ elim others [
+              | inl keys ↦ not_under 119 107 (101 ∷ 121 ∷ []) head.0 q (differ 119 107 refl) head.1 keys
+              | inr objects ↦ not_under 119 111 (98 ∷ 106 ∷ []) head.0 q (differ 119 111 refl) head.1 objects
+            ]
           ]);
         }) ∙ none
 
@@ -251,7 +254,7 @@ module _ (gives : Gives) (reading : Reading) (book : Book) (held : Store) (plan 
     alone w = leaves.others image since t sg.task at_task (untouched w)
 
     is_left_stamp : IsInWork held Rows sg → IsLeft held (stamp_path sg.task)
-    is_left_stamp w = inr (inr (inl (task_folder sg.task, record { name = name_of sg.sig; is_hash = name_is_hash sg.sig; two = folder_slashes sg.task place; file = w.stamp; way = w.folder.holds.outside.above }, refl)))
+    is_left_stamp w = inr (inr (inr (inl (task_folder sg.task, record { name = name_of sg.sig; is_hash = name_is_hash sg.sig; two = folder_slashes sg.task place; file = w.stamp; way = w.folder.holds.outside.above }, refl))))
 
     work_in_image : IsInWork held Rows sg → IsInWork image Rows sg
     work_in_image w = record {
@@ -315,7 +318,7 @@ module _ (gives : Gives) (reading : Reading) (book : Book) (held : Store) (plan 
       object_above q up =
           let none : held q ≡ None = o.object.holds.outside.above q up in
           let top = above_is q up in
-          leaves.paths image since q (inr (inr (inr none))) (record {
+          leaves.paths image since q (inr (inr (inr (inr none)))) (record {
             temporary = λ below. not_under 111 116 (109 ∷ 112 ∷ []) (98 ∷ 106 ∷ []) q (differ 111 116 refl) top (inr below);
             folder = λ u task at touched own. elim own [
               | inl at_or_below ↦ not_under 111 119 (111 ∷ 114 ∷ 107 ∷ 47 ∷ task_folder task) (98 ∷ 106 ∷ []) q (differ 111 119 refl) top at_or_below

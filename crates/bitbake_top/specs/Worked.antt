@@ -16,13 +16,13 @@ no_plan = record { threads = 1; targets = []; tasks = [] }
 
 -- the disk holds one empty file, among the records
 abbrev pub stray : Store
-stray path = if bytes_eq path (codes "rec/x") then Some (File false []) else None
+stray path = if bytes_eq path (codes "rec2/x") then Some (File false []) else None
 
 -- the line that the run of one task records
 abbrev pub hello_book : Book
 hello_book = first_line ∷ []
 
--- what the run of one task leaves of an empty disk: the record, the output in the task's work folder, and the stamp that names the record
+-- what the run of one task leaves of an empty disk: the record with its key, the output in the task's work folder, and the stamp that names the record
 abbrev pub hello_left : Store
 hello_left = put (put recorded_alone (inside (work_folder hello_task) (codes "n")) (Some (File false (codes "1")))) (stamp_path hello_task) (Some (stamp_file hello_name))
 

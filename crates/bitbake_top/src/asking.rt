@@ -9,13 +9,14 @@ ghost use Rattle.answer_model.specs.Answers.{Says};
 ghost use Rattle.answer_model.specs.Asked.{AskRun};
 ghost use Rattle.answer_model.specs.Run.{IsRunPlan};
 ghost use Rattle.run_model.specs.Texts.{fault_text};
-ghost use Rattle.why_model.specs.Answered.{HasWhy, Prints, PrintsFront};
+ghost use Rattle.why_model.specs.Answered.{HasWhy, Prints, PrintsFront, ToldClash};
 
 use crate::answer::refuse;
 use crate::reasons::{Told, run_asked, why_run};
 use meta_model::Status;
 use outside_traits::{Disk, Layers, Sink};
 use std::alloc::Global;
+use std::thread::Threads;
 use tree_model::Text;
 
 /// Prints what a run of these words would do with each task that it needs, and why, and changes nothing: no folder, no lock and no bench is touched, and the
@@ -24,10 +25,11 @@ use tree_model::Text;
 /// `words` are those of a run: with the options `-f` and `--no-setscene` it is told what a run with these would do, and `-k` has no bearing. Other words are
 /// refused as `Usage`. (BitBake User Manual, "The BitBake Command"; that the program tells this, and the text, are own rules.)
 ///
-/// Under `Ok` the text is the one that is meant (`why_model`). Metadata is refused as for a run. It is refused besides where the disk failed. `Collision`
-/// comes only where the words have a plan; that two signatures have one digest then is said by `why_text`, and not here. Each refusal's line is printed.
-/// Want of memory is free.
-pub fn why<L: Layers, D: Disk, W: Sink>(
+/// Under `Ok` the text is the one that is meant (`why_model`). Metadata is refused as for a run. It is refused besides where the disk failed, and as
+/// `Collision` where the words have a plan and two texts have one digest, of which one is that of a task of the plan. Each refusal's line is printed. Want of
+/// memory is free.
+pub fn why<R: Threads + Sync, L: Layers, D: Disk, W: Sink>(
+    rt: &R,
     alloc: Global,
     words: &[Text],
     layers: &mut L,
@@ -37,6 +39,11 @@ pub fn why<L: Layers, D: Disk, W: Sink>(
     // The status fits the plan that the words have, or the refusal.
     ensures has { (request : Request) → AskRun words.now request → L.tells → (paths : List (List ℕ))
         → IsListing [] (L.files layers.old) paths → HasWhy result.status (L.files layers.old) paths request }
+
+    // Of a collision the two texts differ and have one digest, and the one is a signature or a key of a task of the plan.
+    ensures clash { (request : Request) → AskRun words.now request → L.tells → (paths : List (List ℕ))
+        → IsListing [] (L.files layers.old) paths → (plan : Whole) → IsRunPlan (L.files layers.old) paths request plan
+        → ToldClash plan result.status }
 
     // Under Ok the text was printed, and where the sink failed a front of it.
     ensures text { (request : Request) → AskRun words.now request → L.tells → D.tells → W.tells
@@ -65,7 +72,7 @@ pub fn why<L: Layers, D: Disk, W: Sink>(
     ensures write_cause { result.status ≡ Status.WriteFault → Rose (W.faults sink.old) (W.faults sink.new) }
 {
     match run_asked(alloc, words) {
-        Ok(request) => why_run(alloc, &request, layers, disk, sink),
+        Ok(request) => why_run(rt, alloc, &request, layers, disk, sink),
         Err(status) => Told {
             status: refuse(alloc, status, sink),
             disk,

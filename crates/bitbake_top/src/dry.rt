@@ -18,11 +18,17 @@ use meta_model::Status;
 use outside_traits::{Layers, Sink};
 use project_reading::or_status;
 use std::alloc::Global;
+use std::thread::Threads;
 use target_plan::find_plan;
 use tree_model::Text;
 
 /// The text of the plan that a request has.
-fn dry_run<L: Layers>(alloc: Global, layers: &mut L, request: &DryRequest) -> Result<Text, Status>
+fn dry_run<R: Threads + Sync, L: Layers>(
+    rt: &R,
+    alloc: Global,
+    layers: &mut L,
+    request: &DryRequest,
+) -> Result<Text, Status>
     ensures ok { IfOk result (λ text. L.tells → (paths : List (List ℕ)) → IsListing [] (L.files layers.old) paths
         → IsDryText (L.files layers.old) paths request.now text) }
     ensures err { IfErr result (λ status. L.tells → (paths : List (List ℕ)) → IsListing [] (L.files layers.old) paths
@@ -31,6 +37,7 @@ fn dry_run<L: Layers>(alloc: Global, layers: &mut L, request: &DryRequest) -> Re
     ensures cause { Counts (L.faults layers.old) (L.faults layers.new) (mode_failed result) }
 {
     match find_plan(
+        rt,
         alloc,
         layers,
         request.targets.as_slice(),
@@ -43,7 +50,8 @@ fn dry_run<L: Layers>(alloc: Global, layers: &mut L, request: &DryRequest) -> Re
 }
 
 /// Prints the plan that a request has, or the line of its refusal.
-pub fn dry<L: Layers, W: Sink>(
+pub fn dry<R: Threads + Sync, L: Layers, W: Sink>(
+    rt: &R,
     alloc: Global,
     request: &DryRequest,
     layers: &mut L,
@@ -63,7 +71,7 @@ pub fn dry<L: Layers, W: Sink>(
     ensures read_cause { result ≡ Status.ReadFault → Rose (L.faults layers.old) (L.faults layers.new) }
     ensures write_cause { result ≡ Status.WriteFault → Rose (W.faults sink.old) (W.faults sink.new) }
 {
-    match dry_run(alloc, layers, request) {
+    match dry_run(rt, alloc, layers, request) {
         Ok(text) => print(sink, text.as_str()),
         Err(status) => refuse(alloc, status, sink),
     }

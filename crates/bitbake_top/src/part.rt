@@ -199,7 +199,7 @@ where
     ensures same { result.tales.items ≡ [] → (result.disk ≡ disk) × (result.benches.items ≡ benches.items) }
     ensures few { (length result.plans.items ≤ 1) × (length result.tales.items ≤ 1) }
 {
-    match find_part_plan(alloc, &mut layers, part, request.force) {
+    match find_part_plan(rt, alloc, &mut layers, part, request.force) {
         Ok(plan) => {
             let Ran {
                 status,

@@ -12,7 +12,7 @@ ghost use Rattle.plan_model.specs.Sound.{IsSound};
 ghost use Rattle.run_model.specs.Texts.{fault_text};
 ghost use Rattle.run_model.specs.Written.{WritesFront};
 ghost use Rattle.bitbake_top.specs.Why.{IsNoRun, IsToldAs, IsWhyStatus};
-ghost use Rattle.why_model.specs.Answered.{HasWhy, Prints, PrintsFront};
+ghost use Rattle.why_model.specs.Answered.{HasWhy, Prints, PrintsFront, ToldClash};
 
 use crate::answer::{print, refuse};
 use crate::asked::asked_of;
@@ -23,6 +23,7 @@ use build_store::StoreFault;
 use meta_model::{Plan, Status};
 use outside_traits::{Disk, Layers, Sink};
 use std::alloc::Global;
+use std::thread::Threads;
 use tree_model::Text;
 use why_text::{Looked, why_text};
 
@@ -62,6 +63,7 @@ fn why_plan<D: Disk, W: Sink>(
 ) -> Told<D>
     requires sound { IsSound plan.now }
     ensures status { IsWhyStatus result.status }
+    ensures clash { ToldClash plan.now result.status }
     ensures text { D.tells → W.tells → result.status ≡ Status.Ok
         → Prints request.now plan.now (D.story disk).held (W.written sink.old) (W.written sink.new) }
     ensures front { D.tells → W.tells → result.status ≡ Status.WriteFault
@@ -87,7 +89,8 @@ fn why_plan<D: Disk, W: Sink>(
 }
 
 /// Prints what the run of a request would do, or the line of a refusal.
-pub(crate) fn why_run<L: Layers, D: Disk, W: Sink>(
+pub(crate) fn why_run<R: Threads + Sync, L: Layers, D: Disk, W: Sink>(
+    rt: &R,
     alloc: Global,
     request: &RunRequest,
     layers: &mut L,
@@ -96,6 +99,8 @@ pub(crate) fn why_run<L: Layers, D: Disk, W: Sink>(
 ) -> Told<D>
     ensures has { L.tells → (paths : List (List ℕ)) → IsListing [] (L.files layers.old) paths
         → HasWhy result.status (L.files layers.old) paths request.now }
+    ensures clash { L.tells → (paths : List (List ℕ)) → IsListing [] (L.files layers.old) paths
+        → (plan : Whole) → IsRunPlan (L.files layers.old) paths request.now plan → ToldClash plan result.status }
     ensures text { L.tells → D.tells → W.tells → (paths : List (List ℕ)) → IsListing [] (L.files layers.old) paths
         → (plan : Whole) → IsRunPlan (L.files layers.old) paths request.now plan → result.status ≡ Status.Ok
         → Prints request.now plan (D.story disk).held (W.written sink.old) (W.written sink.new) }
@@ -111,7 +116,7 @@ pub(crate) fn why_run<L: Layers, D: Disk, W: Sink>(
     ensures write_cause { result.status ≡ Status.WriteFault → Rose (W.faults sink.old) (W.faults sink.new) }
     ensures usage { result.status ≢ Status.Usage }
 {
-    match find(alloc, layers, request) {
+    match find(rt, alloc, layers, request) {
         Ok(plan) => why_plan(alloc, &plan, request, disk, sink),
         Err(status) => Told {
             status: refuse(alloc, status, sink),

@@ -31,7 +31,8 @@ use std::thread::Threads;
 use target_plan::find_plan;
 
 /// Finds the plan that a request is a run of.
-pub(crate) fn find<L: Layers>(
+pub(crate) fn find<R: Threads + Sync, L: Layers>(
+    rt: &R,
     alloc: Global,
     layers: &mut L,
     request: &RunRequest,
@@ -46,6 +47,7 @@ pub(crate) fn find<L: Layers>(
     ensures cause { Counts (L.faults layers.old) (L.faults layers.new) (mode_failed result) }
 {
     find_plan(
+        rt,
         alloc,
         layers,
         request.targets.as_slice(),
@@ -116,7 +118,7 @@ where
         (SomeRose (map B.faults benches.items) (map B.faults result.benches.items))
         (Rose (W.faults sink) (W.faults result.sink)) result.status }
 {
-    match find(alloc, &mut layers, request) {
+    match find(rt, alloc, &mut layers, request) {
         Ok(plan) => {
             let Ran {
                 status,

@@ -20,12 +20,14 @@ use outside_traits::{Layers, Sink};
 use project_reading::or_status;
 use read_modes::read_part;
 use std::alloc::Global;
+use std::thread::Threads;
 use target_graph::find_parts;
 use target_plan::find_part_plan;
 use tree_model::Text;
 
 /// The text of a part's plan.
-fn part_plan_text<L: Layers>(
+fn part_plan_text<R: Threads + Sync, L: Layers>(
+    rt: &R,
     alloc: Global,
     layers: &mut L,
     part: &ConfigTargets,
@@ -38,14 +40,15 @@ fn part_plan_text<L: Layers>(
     ensures files { L.files layers.new ≡ L.files layers.old }
     ensures cause { Counts (L.faults layers.old) (L.faults layers.new) (mode_failed result) }
 {
-    match find_part_plan(alloc, layers, part, false) {
+    match find_part_plan(rt, alloc, layers, part, false) {
         Ok(plan) => or_status(dry_text(alloc, &plan)),
         Err(status) => Err(status),
     }
 }
 
 /// The text that is shown of a part.
-fn shown_text<L: Layers>(
+fn shown_text<R: Threads + Sync, L: Layers>(
+    rt: &R,
     alloc: Global,
     what: ShowMode,
     layers: &mut L,
@@ -60,13 +63,14 @@ fn shown_text<L: Layers>(
     ensures cause { Counts (L.faults layers.old) (L.faults layers.new) (mode_failed result) }
 {
     match what {
-        ShowMode::Plan => part_plan_text(alloc, layers, part),
+        ShowMode::Plan => part_plan_text(rt, alloc, layers, part),
         ShowMode::Values => read_part(alloc, layers, part),
     }
 }
 
 /// Shows a part whose line was written: its text, or the line of its refusal.
-fn show_behind<L: Layers, W: Sink>(
+fn show_behind<R: Threads + Sync, L: Layers, W: Sink>(
+    rt: &R,
     alloc: Global,
     what: ShowMode,
     part: &ConfigTargets,
@@ -85,14 +89,15 @@ fn show_behind<L: Layers, W: Sink>(
     ensures write_cause { result ≡ Status.WriteFault → Rose (W.faults sink.old) (W.faults sink.new) }
     ensures later { (L.faults layers.old ≤ L.faults layers.new) × (W.faults sink.old ≤ W.faults sink.new) }
 {
-    match shown_text(alloc, what, layers, part) {
+    match shown_text(rt, alloc, what, layers, part) {
         Ok(text) => print(sink, text.as_str()),
         Err(status) => refuse(alloc, status, sink),
     }
 }
 
 /// Shows a part: the line of its configuration, and behind that its text, or the line of its refusal.
-fn show_part<L: Layers, W: Sink>(
+fn show_part<R: Threads + Sync, L: Layers, W: Sink>(
+    rt: &R,
     alloc: Global,
     what: ShowMode,
     part: &ConfigTargets,
@@ -110,13 +115,14 @@ fn show_part<L: Layers, W: Sink>(
     ensures later { (L.faults layers.old ≤ L.faults layers.new) × (W.faults sink.old ≤ W.faults sink.new) }
 {
     match write_line(sink, part.mc.as_str()) {
-        Ok(()) => show_behind(alloc, what, part, layers, sink),
+        Ok(()) => show_behind(rt, alloc, what, part, layers, sink),
         Err(_) => Status::WriteFault,
     }
 }
 
 /// Shows parts, one after another, up to the first that isn't Ok.
-fn show_from<L: Layers, W: Sink>(
+fn show_from<R: Threads + Sync, L: Layers, W: Sink>(
+    rt: &R,
     alloc: Global,
     what: ShowMode,
     parts: &[ConfigTargets],
@@ -133,18 +139,19 @@ fn show_from<L: Layers, W: Sink>(
 {
     match parts.split_first() {
         Some((part, rest)) => {
-            let status = show_part(alloc, what, part, layers, sink);
+            let status = show_part(rt, alloc, what, part, layers, sink);
             if !goes_on(false, &status) {
                 return status;
             }
-            show_from(alloc, what, rest, layers, sink)
+            show_from(rt, alloc, what, rest, layers, sink)
         }
         None => Status::Ok,
     }
 }
 
 /// Shows what a request asks of several configurations, each behind its own line, or prints the line of its refusal.
-pub fn show_configs<L: Layers, W: Sink>(
+pub fn show_configs<R: Threads + Sync, L: Layers, W: Sink>(
+    rt: &R,
     alloc: Global,
     what: ShowMode,
     request: &RunRequest,
@@ -164,7 +171,7 @@ pub fn show_configs<L: Layers, W: Sink>(
         request.targets.as_slice(),
         request.task.as_ref(),
     ) {
-        Ok(parts) => show_from(alloc, what, parts.as_slice(), layers, sink),
+        Ok(parts) => show_from(rt, alloc, what, parts.as_slice(), layers, sink),
         Err(status) => refuse(alloc, status, sink),
     }
 }

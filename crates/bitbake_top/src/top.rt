@@ -56,7 +56,7 @@ use tree_model::Text;
 /// restores what it can trust, and runs what is missing. With `-f` the targets' tasks run in any case, with `-k` it goes on after
 /// failures, and with `--no-setscene` it restores no shared state object. The sample is built twice, over devices in memory of its own.
 ///
-/// Another thread may meanwhile leave in `ahead` what the files under `rec/` say. A run takes that only where it reads just these files, so
+/// Another thread may meanwhile leave in `ahead` what the files under `rec2/` and `key/` say. A run takes that only where it reads just these, so
 /// every clause holds whatever is left there, and whenever.
 pub fn bitbake<L, D, B, W, R>(
     rt: &R,
@@ -264,7 +264,7 @@ where
             sink,
         },
         Ok(Asked::Plans(request)) => Finish {
-            status: dry(alloc, &request, &mut layers, &mut sink),
+            status: dry(rt, alloc, &request, &mut layers, &mut sink),
             plans: Vec::new(alloc),
             tales: Vec::new(alloc),
             layers,
@@ -273,7 +273,7 @@ where
             sink,
         },
         Ok(Asked::Shows { what, request }) => Finish {
-            status: show_configs(alloc, what, &request, &mut layers, &mut sink),
+            status: show_configs(rt, alloc, what, &request, &mut layers, &mut sink),
             plans: Vec::new(alloc),
             tales: Vec::new(alloc),
             layers,

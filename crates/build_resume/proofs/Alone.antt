@@ -24,7 +24,7 @@ use Rattle.store_model.specs.Origins.{Book, Line, rows_of}
 use Rattle.store_model.specs.Signatures.{signatures}
 use Rattle.store_opening.specs.Opening.{Clears}
 use Rattle.store_model.specs.Opened.{IsElsewhere, IsLeft, IsOpened}
-use Rattle.store_model.specs.Paths.{slashes}
+use Rattle.outside_traits.specs.Store.{slashes}
 use Rattle.store_model.specs.Lines.{HaveSameLines}
 use Rattle.store_opening.proofs.Areas.{differ, heads_differ}
 use Rattle.store_opening.proofs.Doomed.{no_slash}
@@ -49,19 +49,20 @@ use Rattle.build_resume.proofs.Outcomes.{fresh_image}
 
 -- ---- work folders and objects stand apart from records, stamps and temporary files
 
-letter : (c : ℕ) (ps : List ℕ) → c ≢ 114 → c ≢ 115 → c ≢ 116 → c ∷ ps ≢ codes "obj" → IsElsewhere (c ∷ ps)
-letter c ps nr ns nt apart = record {
+letter : (c : ℕ) (ps : List ℕ) → c ≢ 114 → c ≢ 107 → c ≢ 115 → c ≢ 116 → c ∷ ps ≢ codes "obj" → IsElsewhere (c ∷ ps)
+letter c ps nr nk ns nt apart = record {
   records = λ at. elim at [ inl same ↦ heads_differ nr same | inr below ↦ heads_differ nr below.1 ];
+  keys = λ at. elim at [ inl same ↦ heads_differ nk same | inr below ↦ heads_differ nk below.1 ];
   stamps = λ at. elim at [ inl same ↦ heads_differ ns same | inr below ↦ heads_differ ns below.1 ];
   temporary = λ at. elim at [ inl same ↦ heads_differ nt same | inr below ↦ heads_differ nt below.1 ];
   objects = apart;
 }
 
 at_work : (ps : List ℕ) → IsElsewhere (119 ∷ ps)
-at_work ps = letter 119 ps (differ 119 114 refl) (differ 119 115 refl) (differ 119 116 refl) (heads_differ (differ 119 111 refl))
+at_work ps = letter 119 ps (differ 119 114 refl) (differ 119 107 refl) (differ 119 115 refl) (differ 119 116 refl) (heads_differ (differ 119 111 refl))
 
 below_objects : (ps : List ℕ) → IsElsewhere (111 ∷ 98 ∷ 106 ∷ 47 ∷ ps)
-below_objects ps = letter 111 (98 ∷ 106 ∷ 47 ∷ ps) (differ 111 114 refl) (differ 111 115 refl) (differ 111 116 refl) (λ same. let e : 111 ∷ 98 ∷ 106 ∷ 47 ∷ ps ≡ 111 ∷ 98 ∷ 106 ∷ [] = same in cc)
+below_objects ps = letter 111 (98 ∷ 106 ∷ 47 ∷ ps) (differ 111 114 refl) (differ 111 107 refl) (differ 111 115 refl) (differ 111 116 refl) (λ same. let e : 111 ∷ 98 ∷ 106 ∷ 47 ∷ ps ≡ 111 ∷ 98 ∷ 106 ∷ [] = same in cc)
 
 work_elsewhere : (of : PlanTask) (q : List ℕ) → IsAtOrBelow (work_folder of) q → IsElsewhere q
 work_elsewhere of q (inl same) = subst IsElsewhere (sym same) (at_work _)
@@ -155,19 +156,20 @@ module _ (o : Opening) (book : Book) (before : Store) (rows : List EquivRow) (op
   begun_aside q is = record {
     temporary = is.temporary;
     folder = λ t task at b. is.folder t task at (touched t b);
-    above = λ t task at b up. let none = is.above t task at (touched t b) up in opened.left q (inr (inr (inr none))) ∙ none;
-    output = λ t b shared. let at = is.output t (published t b) shared in (at.0, opened.left q (inr (inr (inr at.1))) ∙ at.1);
+    above = λ t task at b up. let none = is.above t task at (touched t b) up in opened.left q (inr (inr (inr (inr none)))) ∙ none;
+    output = λ t b shared. let at = is.output t (published t b) shared in (at.0, opened.left q (inr (inr (inr (inr at.1)))) ∙ at.1);
   }
 
   -- what opening leaves alone isn't in the way of stamps
   clear_of_stamps : (q : List ℕ) → IsLeft before q → IsClearOfStamps o.story.held q
   clear_of_stamps q (inl e) = record { top = λ same. absurd (e.stamps (inl same)); under = λ path is. absurd (e.stamps (inr (path, is))) }
   clear_of_stamps q (inr (inl r)) = record { top = λ same. absurd (heads_differ (differ 115 114 refl) (sym same ∙ r.2)); under = λ path is. absurd (heads_differ (differ 115 114 refl) (sym is ∙ r.2)) }
-  clear_of_stamps q (inr (inr (inl t))) = record {
+  clear_of_stamps q (inr (inr (inl k))) = record { top = λ same. absurd (heads_differ (differ 115 107 refl) (sym same ∙ k.2)); under = λ path is. absurd (heads_differ (differ 115 107 refl) (sym is ∙ k.2)) }
+  clear_of_stamps q (inr (inr (inr (inl t)))) = record {
     top = λ same. absurd (no_slash (codes "stamp") t.0 (sym same ∙ t.2));
     under = λ path is. inl (ap slashes (under_same (codes "stamp") path t.0 (sym is ∙ t.2)) ∙ t.1.two);
   }
-  clear_of_stamps q (inr (inr (inr none))) = record { top = λ same. opened.left q (inr (inr (inr none))) ∙ none; under = λ path is. inr (opened.left q (inr (inr (inr none))) ∙ none) }
+  clear_of_stamps q (inr (inr (inr (inr none)))) = record { top = λ same. opened.left q (inr (inr (inr (inr none)))) ∙ none; under = λ path is. inr (opened.left q (inr (inr (inr (inr none)))) ∙ none) }
 
   last_others : ((image : Store) → IsImageSince o.story 0 image → Clears before before image) → LeavesOthers o.gives book before k.last.plan k.last.options k.last.tale s k.last.story
   last_others early = record {

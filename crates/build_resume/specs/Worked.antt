@@ -32,7 +32,7 @@ empty_opening = record { gives = shell; reading = hello_reading; story = record 
 abbrev pub hello_started : List Logged
 hello_started = record { event = events.Started 0 1; seat = 1; moment = 0 } ∷ []
 
--- the disk holds the record, and no stamp
+-- the disk holds the record and its key, and no stamp
 abbrev pub recorded_alone : Store
 recorded_alone = with_record nothing first_line
 

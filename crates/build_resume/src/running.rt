@@ -322,7 +322,7 @@ pub fn build_unready<D: Disk, B: Bench, W: Sink>(
 
 /// Runs a plan: finds and restores what it can trust, runs what is missing on the benches, and publishes what that gives. It writes the line
 /// of each event, and the last line of its status. The text of the plan was written before. What `ahead` knows of just the
-/// files under `rec/` that are read spares work, and changes nothing.
+/// files under `rec2/` and `key/` that are read spares work, and changes nothing.
 pub fn build<D, B, W, R>(
     rt: &R,
     alloc: Global,

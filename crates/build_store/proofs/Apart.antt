@@ -1,9 +1,8 @@
 -- Folders that are apart.
 use Rattle.std.proofs.Common.{◌≡◌, ◌≢◌, ◌∙◌, sym, ap, subst, refl, ℕ, ◌⊎◌, inl, inr, List, [], ◌∷◌, ◌++◌, append_assoc, arith}
 use Rattle.tree_model.specs.Path.{IsAtOrBelow, IsBelow, inside}
-use Rattle.outside_traits.specs.Store.{IsApart}
+use Rattle.outside_traits.specs.Store.{IsApart, slashes}
 use Rattle.outside_traits.proofs.Folders.{under_same}
-use Rattle.store_model.specs.Paths.{slashes}
 use Rattle.store_opening.proofs.Slashes.{slashes_inside}
 
 -- of two folders in which one path lies, one is the other or lies in it

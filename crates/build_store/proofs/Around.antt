@@ -6,7 +6,7 @@ use Rattle.tree_model.specs.Hash.{hash_text}
 use Rattle.tree_model.specs.Path.{IsBelow}
 use Rattle.outside_traits.specs.Store.{IsApart, IsAround}
 use Rattle.store_model.specs.Available.{object_folder}
-use Rattle.store_model.specs.Publication.{Publication, work_at}
+use Rattle.store_model.specs.Publication.{work_at, Publication}
 use Rattle.store_opening.proofs.Areas.{apart_by_first, differ, heads, heads_differ}
 use Rattle.build_store.specs.Calls.{IsRound}
 use Rattle.build_store.specs.Items.{IsDue, IsItemOf, IsWithin, Item}

@@ -16,7 +16,7 @@ use Rattle.outside_traits.proofs.Runs.{each_now, passes_so}
 use Rattle.stamp_store.specs.Stamp.{TakesAway, old_path, stamp_path}
 use Rattle.stamp_store.proofs.Aside.{places_differ}
 use Rattle.store_model.specs.Available.{object_folder}
-use Rattle.store_model.specs.Publication.{Publication, stamp_at, work_at}
+use Rattle.store_model.specs.Publication.{stamp_at, work_at, Publication}
 use Rattle.store_opening.proofs.Areas.{differ, heads_differ}
 use Rattle.build_store.specs.declared.pieces.OpenPublication.{OpenPublication}
 use Rattle.build_store.specs.declared.pieces.Reached.{Reached}

@@ -1,32 +1,31 @@
 -- Open publications beside each other: what a step of one leaves of the others.
-use Rattle.std.proofs.Common.{◌≡◌, ◌≢◌, ◌∙◌, sym, ap, subst, refl, ℕ, zero, suc, lit<, ◌<◌, ◌||◌, Bool, true, false, List, [], ◌∷◌, Option, Some, None, if◌then◌else◌}
+use Rattle.std.proofs.Common.{◌≡◌, ◌≢◌, ◌∙◌, sym, ap, subst, refl, ℕ, ◌||◌, Bool, true, false, List, Option, Some, None, if◌then◌else◌}
 use Rattle.std.specs.Prelude.{codes, is_none}
 use Rattle.std.specs.List.{AllByRecursion}
 use Rattle.std.specs.Option.{is_some}
 use Rattle.std.specs.Str.{bytes_eq}
 use Rattle.std.proofs.lemmas.Bool.{false≢true}
-use Rattle.hex.specs.Hex.{IsBytes, decode_sized}
-use Rattle.hex.proofs.HexLemmas.{decode_sized-encode_lower}
 use Rattle.tree_model.specs.declared.hash.Hash.{Hash}
 use Rattle.tree_model.specs.Hash.{hash_text}
 use Rattle.tree_model.specs.Manifest.{manifest_lines}
 use Rattle.outside_traits.specs.Passes.{Passes}
 use Rattle.outside_traits.specs.Story.{IsSound, Story}
-use Rattle.outside_traits.specs.Store.{IsApart}
+use Rattle.outside_traits.specs.Store.{IsApart, slashes}
 use Rattle.outside_traits.proofs.Folders.{under_same}
 use Rattle.meta_model.proofs.Bools.{text_itself}
 use Rattle.meta_model.specs.CleanBuild.{Entries}
 use Rattle.store_model.specs.declared.signature.EquivRow.{EquivRow}
 use Rattle.store_model.specs.declared.signature.SigRecord.{SigRecord}
 use Rattle.store_model.specs.Available.{task_folder}
-use Rattle.store_model.specs.Paths.{record_path, slashes}
-use Rattle.store_model.specs.Publication.{Publication, record_file}
+use Rattle.store_model.specs.Paths.{record_path}
+use Rattle.store_model.specs.Publication.{record_file, Publication}
 use Rattle.store_model.specs.Readable.{IsRow}
 use Rattle.store_model.specs.Rows.{hash_eq, new_unihash, row_at, unihash_or}
 use Rattle.store_model.specs.Signatures.{Signed}
-use Rattle.store_model.specs.Spelling.{name_of, signature_bytes}
+use Rattle.store_model.specs.Spelling.{key_name, name_of, signature_bytes}
+use Rattle.store_model.specs.Valid.{key_file}
 use Rattle.sig_gen.specs.Sound.{Spells}
-use Rattle.sig_gen.proofs.Records.{signature_again}
+use Rattle.sig_gen.proofs.ShortLaws.{signature_again}
 use Rattle.store_opening.specs.Named.{IsName}
 use Rattle.store_opening.proofs.Clean.{name_is_name, name_slashes}
 use Rattle.build_store.specs.declared.pieces.OpenPublication.{OpenPublication}
@@ -38,6 +37,7 @@ use Rattle.build_store.specs.Pieces.{IsPublishing}
 use Rattle.build_store.specs.Publication.{IsAgreed, object_for, publication, unihash_for}
 use Rattle.build_store.specs.Standing.{IsClearOf, IsBeside, IsFor, IsOther, Stands, objects_meet}
 use Rattle.build_store.proofs.Apart.{apart_by_count}
+use Rattle.build_store.proofs.Digests.{same_digest}
 use Rattle.build_store.proofs.Several.{each_two}
 use Rattle.build_store.proofs.OpenStaying.{open_ones_stay}
 use Rattle.build_store.proofs.Stays.{object_name}
@@ -51,20 +51,6 @@ or_first false b e = refl
 or_second : (a b : Bool) → (a || b) ≡ false → b ≡ false
 or_second true b e = absurd (cc)
 or_second false b e = e
-
--- ---- texts of digests
-
-bytes_are : (xs : List ℕ) → AllByRecursion (λ b. b < 256) xs → IsBytes xs
-bytes_are [] all i = lit< tt
-bytes_are (x ∷ xs) all zero = all.0
-bytes_are (x ∷ xs) all (suc i) = bytes_are xs all.1 i
-
--- digests with one text are one
-pub same_digest : (a b : Hash) → IsName a → IsName b → hash_text a ≡ hash_text b → a ≡ b
-same_digest a b na nb e =
-    let k = sym (decode_sized-encode_lower a.bytes 32 na.size (bytes_are a.bytes na.bytes)) ∙ ap (λ t. decode_sized t 32) e ∙ decode_sized-encode_lower b.bytes 32 nb.size (bytes_are b.bytes nb.bytes) in
-    let same : a.bytes ≡ b.bytes = cc in
-    ap (λ l. record { bytes = l }) same
 
 -- ---- one signature
 
@@ -121,6 +107,9 @@ module _ (rows : List EquivRow) (o : OpenPublication) (s t : Signed) (for_s : Is
     is_new = is_none (row_at rows (name_of g));
     tree = tree;
     object = object;
+    key = key_name g.key;
+    key_file = key_file g.key;
+    writes_key = false;
   }
 
   pub publication_same : publication rows t tree ≡ publication rows s tree
@@ -157,7 +146,8 @@ module _ (rows : List EquivRow) where
     apart_of other t b free = record {
       folders = subst (IsApart (task_folder s.task)) b.folder (apart_by_count (task_folder s.task) other.folder (two ∙ sym b.fit.parts) free.0);
       names = λ same. free.1 (same_digest other.name (name_of s.sig) b.fit.name (name_is_name s.sig)
-          (sym (under_same (codes "rec") (hash_text (name_of s.sig)) (hash_text other.name) (same ∙ ap record_path (sym b.name)))));
+          (sym (under_same (codes "rec2") (hash_text (name_of s.sig)) (hash_text other.name) (same ∙ ap record_path (sym b.name)))));
+      keys = λ writes. absurd (false≢true writes);
       objects = λ x y is_x is_y.
           let oy : other.object ≡ Some y = b.object ∙ is_y in
           let nx : IsName x = object_name rows s tree all x is_x in

@@ -8,7 +8,7 @@ use Rattle.tree_model.specs.declared.hash.Hash.{Hash}
 use Rattle.tree_model.specs.Hash.{hash_text}
 use Rattle.tree_model.specs.Path.{inside}
 use Rattle.outside_traits.specs.Passes.{Passes, Same}
-use Rattle.outside_traits.specs.Store.{IsApart, Store}
+use Rattle.outside_traits.specs.Store.{IsApart, Store, slashes}
 use Rattle.outside_traits.specs.Story.{IsSound, Story}
 use Rattle.outside_traits.proofs.Folders.{under_same}
 use Rattle.meta_model.proofs.Bools.{text_itself}
@@ -17,8 +17,8 @@ use Rattle.stamp_store.specs.Stamp.{old_path, staged_path}
 use Rattle.store_model.specs.declared.signature.EquivRow.{EquivRow}
 use Rattle.store_model.specs.Available.{object_folder}
 use Rattle.store_model.specs.Origins.{row_of}
-use Rattle.store_model.specs.Paths.{record_path, slashes}
-use Rattle.store_model.specs.Publication.{Publication, stamp_at, work_at}
+use Rattle.store_model.specs.Paths.{key_path, record_path}
+use Rattle.store_model.specs.Publication.{stamp_at, work_at, Publication}
 use Rattle.store_model.specs.Rows.{hash_eq, row_at}
 use Rattle.store_model.specs.Signatures.{Signed}
 use Rattle.store_model.specs.Spelling.{name_of}
@@ -28,8 +28,7 @@ use Rattle.store_opening.proofs.Areas.{differ}
 use Rattle.build_store.specs.declared.pieces.OpenPublication.{OpenPublication}
 use Rattle.build_store.specs.Calls.{KeepsAround, KeepsTemporary}
 use Rattle.build_store.specs.Ending.{HasFolders, KeepsPut}
-use Rattle.build_store.specs.Halves.{IsOn, ending, taking, working}
-use Rattle.build_store.specs.Halves.{Progress}
+use Rattle.build_store.specs.Halves.{IsOn, ending, taking, working, Progress}
 use Rattle.build_store.specs.Items.{IsLaidBut}
 use Rattle.build_store.specs.Noting.{AreNoted}
 use Rattle.build_store.specs.OpenOnes.{progress_of}
@@ -92,10 +91,11 @@ module _ (p : Publication) (folder : List ℕ) (held old new : Store) (apart : I
       work = tree_far (codes "work") folder p.folder refl apart held old new others.work others.above_work p.tree first.work.outside was.work;
       shared = λ unihash is. tree_in (codes "obj") (hash_text unihash) refl old new (λ q at. others.objects q at (λ u some. absurd (no_object u some))) p.tree (was.shared unihash is);
     };
-    staged_record = own.temporary (staged_record_path p.name) (114 ∷ 101 ∷ 99 ∷ 47 ∷ hash_text p.name, refl)
+    staged_record = own.temporary (staged_record_path p.name) (114 ∷ 101 ∷ 99 ∷ 50 ∷ 47 ∷ hash_text p.name, refl)
         (areas 4 114 111 (staged_record_path p.name) (old_path folder) refl refl (differ 114 111 refl))
         (λ same. staged_differ folder p.name (sym same));
     record_at = own.records (record_path p.name) (hash_text p.name, refl);
+    key = own.keys (key_path p.key) (hash_text p.key, refl);
     staged_stamp = own.temporary (staged_path p.folder) (115 ∷ 116 ∷ 97 ∷ 109 ∷ 112 ∷ 47 ∷ p.folder, refl)
         (areas 4 115 111 (staged_path p.folder) (old_path folder) refl refl (differ 115 111 refl))
         (λ same. apart.not_folder (under_same (codes "tmp/stamp") p.folder folder same));
@@ -129,6 +129,7 @@ same_put p old new same = record {
   folders = λ was. subst (HasFolders p) (sym same) was;
   staged_record = ap (λ h. h (staged_record_path p.name)) same;
   record_at = ap (λ h. h (record_path p.name)) same;
+  key = ap (λ h. h (key_path p.key)) same;
   staged_stamp = ap (λ h. h (staged_path p.folder)) same;
   stamp = ap (λ h. h (stamp_at p.folder)) same;
 }

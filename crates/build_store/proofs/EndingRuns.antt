@@ -17,14 +17,14 @@ use Rattle.outside_traits.proofs.Puts.{put-other, put-same}
 use Rattle.outside_traits.proofs.Runs.{each_now, passes_at, passes_so}
 use Rattle.outside_traits.proofs.Sound.{sound_ended}
 use Rattle.stamp_store.specs.Stamp.{stamp_path, staged_path}
-use Rattle.store_model.specs.Paths.{record_path}
-use Rattle.store_model.specs.Publication.{Publication, stamp_at, stamp_file}
+use Rattle.store_model.specs.Paths.{key_path, record_path}
+use Rattle.store_model.specs.Publication.{stamp_at, stamp_file, Publication}
 use Rattle.store_opening.specs.Paths.{staged_record_path}
 use Rattle.store_opening.proofs.Areas.{differ, heads_differ}
 use Rattle.build_store.specs.declared.drafting.NewRecord.{NewRecord}
 use Rattle.build_store.specs.Calls.{Finishes}
 use Rattle.build_store.specs.Drafts.{file_of}
-use Rattle.build_store.specs.Ending.{HasFolders, IsAt, IsStored, IsTicket, IsWaiting}
+use Rattle.build_store.specs.Ending.{HasFolders, IsAt, IsReady, IsStored, IsTicket, IsWaiting}
 use Rattle.build_store.specs.Halves.{IsHalf}
 use Rattle.build_store.specs.Phases.{AddsStaged, IsFileOf, IsStagedFile}
 use Rattle.build_store.specs.Publication.{IsPublished}
@@ -75,13 +75,17 @@ module _ (p : Publication) (file : Option Entry) {a b c : Story} (half : IsHalf 
         unstamped = adds.others (stamp_at p.folder) (heads_differ (differ 115 116 refl)) (λ some. heads_differ (differ 115 116 refl)) ∙ half.unstamped a.held (held-image a sound);
       }
 
-  pub staged_now : IsSound a → (k : ℕ) → IsTicket k c → b.held (staged_record_path p.name) ≡ Some p.file → IsAt p (staged k) c
-  staged_now sound k ticket at = (staged_at_first p c k ticket gone_still).0 (record { waiting = waits_at_last sound; staged_record = ap (λ (h : Store). h (staged_record_path p.name)) same.held ∙ at })
+  key_now : a.held (key_path p.key) ≡ Some p.key_file → c.held (key_path p.key) ≡ Some p.key_file
+  key_now has = (then_same run same).held.others (key_path p.key) (heads_differ (differ 107 116 refl)) (λ some. heads_differ (differ 107 116 refl)) ∙ has
 
-  pub kept_now : IsSound a → (k : ℕ) → IsTicket k c → a.held (record_path p.name) ≡ Some p.file → IsAt p (kept k) c
-  kept_now sound k ticket at = (staged_at_first p c k ticket gone_still).1 (record {
+  pub staged_now : IsSound a → (k : ℕ) → IsTicket k c → b.held (staged_record_path p.name) ≡ Some p.file → a.held (key_path p.key) ≡ Some p.key_file → IsAt p (staged k) c
+  staged_now sound k ticket at has = (staged_at_first p c k ticket gone_still).0 (record { waiting = waits_at_last sound; staged_record = ap (λ (h : Store). h (staged_record_path p.name)) same.held ∙ at; key = key_now has })
+
+  pub kept_now : IsSound a → (k : ℕ) → IsTicket k c → a.held (record_path p.name) ≡ Some p.file → a.held (key_path p.key) ≡ Some p.key_file → IsAt p (kept k) c
+  kept_now sound k ticket at has = (staged_at_first p c k ticket gone_still).1 (record {
     waiting = waits_at_last sound;
     stored = (then_same run same).held.others (record_path p.name) (heads_differ (differ 114 116 refl)) (λ some. heads_differ (differ 114 116 refl)) ∙ at;
+    key = key_now has;
   })
 
 -- ---- renames
@@ -101,10 +105,10 @@ stored_above p a k (inr is) = is.2
 pub stamp_settled : (p : Publication) (a : Story) (k : ℕ) → IsSound a → IsAt p (kept k) a ⊎ IsAt p (stored k) a → IsSettled (staged_path p.folder) (ended k a)
 stamp_settled p a k sound is = settled_by (staged_path p.folder) (stamp_file p.name) a k sound (λ i left. (stored_above p a k is i left).waiting.staged_stamp)
 
-record_finish : (p : Publication) → p.is_new ≡ true → (x : Option Entry) → x ≡ Some p.file → (i j : Store) → Moves (staged_record_path p.name) (record_path p.name) x i j → Finishes p i j
-record_finish p new x is i j move = record {
+record_finish : (p : Publication) → p.is_new ≡ true → (x : Option Entry) → x ≡ Some p.file → (i j : Store) → IsReady p i → Moves (staged_record_path p.name) (record_path p.name) x i j → Finishes p i j
+record_finish p new x is i j ready move = record {
   others = λ q stamp staged_at at stored. move.others q staged_at (stored new);
-  stored = ⊎_elim (λ same. inl same) (λ to. inr (new, to ∙ is)) move.target;
+  stored = ⊎_elim (λ same. inl same) (λ to. inr (new, to ∙ is, move.others (key_path p.key) (heads_differ (differ 107 116 refl)) (heads_differ (differ 107 114 refl)) ∙ ready.key)) move.target;
   stamp = inl (move.others (stamp_at p.folder) (heads_differ (differ 115 116 refl)) (heads_differ (differ 115 114 refl)));
 }
 
@@ -112,9 +116,9 @@ record_finish p new x is i j move = record {
 pub record_finishes : (p : Publication) (a b : Story) (k : ℕ) {T : Type 0} {r : Result T DiskFault} → IsSound a → p.is_new ≡ true → IsAt p (staged k) a → Renames (staged_record_path p.name) (record_path p.name) (ended k a) b r → Passes a b (Finishes p)
 record_finishes p a b k sound new is did =
     let held : a.held (staged_record_path p.name) ≡ Some p.file = (is.2 a.held (held-above a sound k)).staged_record in
-    passes_at (λ i. Unit {0}) (Finishes p) (sound_ended a k sound) (λ i img. tt) (ended_passes a sound k) (renames_passes (sound_ended a k sound) did)
+    passes_at (IsReady p) (Finishes p) (sound_ended a k sound) is.2 (ended_passes a sound k) (renames_passes (sound_ended a k sound) did)
     (λ i j same. subst (Finishes p i) (sym same) (finishes_same p i))
-    (λ i j l same any move. subst (λ (s : Store). Finishes p s l) same (record_finish p new (a.held (staged_record_path p.name)) held j l move))
+    (λ i j l same ready move. subst (λ (s : Store). Finishes p s l) same (record_finish p new (a.held (staged_record_path p.name)) held j l ready move))
 
 stamp_finish : (p : Publication) (x : Option Entry) → x ≡ Some (stamp_file p.name) → (i j : Store) → IsStored p i → IsPublished p j ⊎ (j (stamp_at p.folder) ≡ i (stamp_at p.folder)) → Moves (staged_path p.folder) (stamp_path p.folder) x i j → Finishes p i j
 stamp_finish p x is i j was which move = record {
@@ -125,7 +129,7 @@ stamp_finish p x is i j was which move = record {
 
 -- the stamp is renamed, so all that it tells of is there, or it isn't
 stamp_comes : (p : Publication) (x : Option Entry) → x ≡ Some (stamp_file p.name) → (i j : Store) → IsStored p i → Moves (staged_path p.folder) (stamp_path p.folder) x i j → IsPublished p j ⊎ (j (stamp_at p.folder) ≡ i (stamp_at p.folder))
-stamp_comes p x is i j was move = ⊎_elim (λ same. inr same) (λ to. inl (record { stamp = to ∙ is; stored = stored; work = folders.work; shared = folders.shared })) move.target
+stamp_comes p x is i j was move = ⊎_elim (λ same. inr same) (λ to. inl (record { stamp = to ∙ is; stored = stored; key = has_key; work = folders.work; shared = folders.shared })) move.target
   where
     folders : HasFolders p j
     folders = folders_by p i j
@@ -134,6 +138,9 @@ stamp_comes p x is i j was move = ⊎_elim (λ same. inr same) (λ to. inl (reco
 
     stored : j (record_path p.name) ≡ Some p.file
     stored = move.others (record_path p.name) (heads_differ (differ 114 116 refl)) (heads_differ (differ 114 115 refl)) ∙ was.stored
+
+    has_key : j (key_path p.key) ≡ Some p.key_file
+    has_key = move.others (key_path p.key) (heads_differ (differ 107 116 refl)) (heads_differ (differ 107 115 refl)) ∙ was.key
 
 -- the stamp is renamed, or that is refused
 pub stamp_finishes : (p : Publication) (a b : Story) (k : ℕ) {T : Type 0} {r : Result T DiskFault} → IsSound a → IsAt p (kept k) a ⊎ IsAt p (stored k) a → Renames (staged_path p.folder) (stamp_path p.folder) (ended k a) b r → Passes a b (Finishes p)
@@ -192,13 +199,13 @@ moved_gone from to b c d ne did same = ap (λ (h : Store). h from) same.held ∙
 
 -- ---- the record's file
 
-pub staged_file : (name : Hash) (new : Option NewRecord) (h held : Store) (f : Entry) → IsSome new → IsStagedFile name (file_of new) held → IsFileOf name (file_of new) h f → held (staged_record_path name) ≡ Some f
-staged_file name None h held f some is of = absurd (false≢true some)
-staged_file name (Some made) h held f some is of = is made.file refl ∙ ap (λ (e : Entry). Some e) (of.new made.file refl)
+pub staged_file : (name : Hash) (new : Option NewRecord) (text : List ℕ) (h held : Store) (f : Entry) → IsSome new → IsStagedFile name (file_of new) held → IsFileOf name (file_of new) text h f → held (staged_record_path name) ≡ Some f
+staged_file name None text h held f some is of = absurd (false≢true some)
+staged_file name (Some made) text h held f some is of = is made.file refl ∙ ap (λ (e : Entry). Some e) (of.new made.file refl)
 
-pub kept_file : (name : Hash) (new : Option NewRecord) (h : Store) (f : Entry) → is_some new ≡ false → IsFileOf name (file_of new) h f → h (record_path name) ≡ Some f
-kept_file name None h f none of = of.old refl
-kept_file name (Some made) h f none of = absurd (false≢true (sym none))
+pub kept_file : (name : Hash) (new : Option NewRecord) (text : List ℕ) (h : Store) (f : Entry) → is_some new ≡ false → IsFileOf name (file_of new) text h f → h (record_path name) ≡ Some f
+kept_file name None text h f none of = of.old refl
+kept_file name (Some made) text h f none of = absurd (false≢true (sym none))
 
 pub is_none_of : (new : Option NewRecord) → is_some new ≡ false → new ≡ None
 is_none_of None none = refl

@@ -4,11 +4,10 @@ use Rattle.std.specs.Prelude.{IsSome}
 use Rattle.std.specs.Option.{is_some}
 use Rattle.std.proofs.lemmas.Bool.{false≢true}
 use Rattle.tree_model.specs.Path.{IsAtOrBelow, IsBelow, inside}
-use Rattle.outside_traits.specs.Store.{HoldsTree, IsApart, IsOpen, Store}
+use Rattle.outside_traits.specs.Store.{HoldsTree, IsApart, IsOpen, Store, slashes}
 use Rattle.outside_traits.proofs.Folders.{above_under}
 use Rattle.outside_traits.proofs.Held.{none_unless}
 use Rattle.meta_model.specs.CleanBuild.{Entries}
-use Rattle.store_model.specs.Paths.{slashes}
 use Rattle.store_opening.proofs.Slashes.{slashes_inside}
 use Rattle.build_store.proofs.Apart.{apart_under, apart_within, below_again}
 

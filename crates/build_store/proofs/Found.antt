@@ -2,7 +2,6 @@
 use Rattle.std.proofs.Common.{◌≡◌, ◌∙◌, sym, ap, subst, ℕ, List, Bool, true, false, ◌&&◌, inl, inr, Option, Some, Result, Ok, Err}
 use Rattle.std.proofs.lemmas.Bool.{false≢true}
 use Rattle.std.specs.Prelude.{IfOk, OnOk}
-use Rattle.std.specs.List.{AllByRecursion}
 use Rattle.tree_model.specs.declared.hash.Hash.{Hash}
 use Rattle.outside_traits.specs.Store.{Store}
 use Rattle.meta_model.specs.declared.event.Avail.{Avail}
@@ -18,7 +17,6 @@ use Rattle.build_store.specs.declared.fault.StoreFault.TheVariants as fault
 use Rattle.build_store.specs.Faults.{IsClash}
 use Rattle.build_store.specs.Finding.{IsAnswered, IsOtherOrOutside, IsSharedOf, IsThere, IsThereAtAll, IsWorkOf}
 use Rattle.store_model.specs.Publication.{stamp_file}
-use Rattle.store_model.specs.Readable.{IsRow}
 use Rattle.build_store.proofs.Rows.{clash, row_named}
 
 some_same : {A : Type 0} (x y : A) (o : Option A) → o ≡ Some x → o ≡ Some y → x ≡ y
@@ -70,8 +68,8 @@ pub answered_there : (rows : List EquivRow) (s : Signed) (row : EquivRow) (r : R
 answered_there rows s row (Ok there) is sig = record { clear = λ other at. ap (λ x. x.sig) (some_same other row (row_at rows (name_of s.sig)) at is) ∙ sig; stored = λ ne. (row, is) }
 answered_there rows s row (Err f) is sig = tt
 
-pub clash_there : (rows : List EquivRow) (name : Hash) (bytes : List ℕ) (row : EquivRow) (f : StoreFault) → AllByRecursion IsRow rows → row_at rows name ≡ Some row → IsOtherOrOutside row bytes f → IsClash rows name bytes f
-clash_there rows name bytes row fault.Disk all is other = tt
-clash_there rows name bytes row fault.Memory all is other = tt
-clash_there rows name bytes row (fault.Collision n held given) all is other = clash rows name bytes row (fault.Collision n held given) all is other
-clash_there rows name bytes row (fault.Unsteady pn task held given) all is other = absurd other
+pub clash_there : (rows : List EquivRow) (name : Hash) (bytes : List ℕ) (row : EquivRow) (f : StoreFault) → row_at rows name ≡ Some row → IsOtherOrOutside row bytes f → IsClash rows name bytes f
+clash_there rows name bytes row fault.Disk is other = tt
+clash_there rows name bytes row fault.Memory is other = tt
+clash_there rows name bytes row (fault.Collision n held given) is other = clash rows name bytes row (fault.Collision n held given) is other
+clash_there rows name bytes row (fault.Unsteady pn task held given) is other = absurd other

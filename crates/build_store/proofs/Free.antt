@@ -4,13 +4,13 @@ use Rattle.std.specs.Prelude.{codes, IsSome}
 use Rattle.tree_model.specs.declared.hash.Hash.{Hash}
 use Rattle.tree_model.specs.Hash.{hash_text}
 use Rattle.tree_model.specs.Path.{IsBelow, inside}
-use Rattle.outside_traits.specs.Store.{IsFree, Store}
+use Rattle.outside_traits.specs.Store.{IsFree, Store, slashes}
 use Rattle.outside_traits.proofs.Folders.{above_under}
 use Rattle.outside_traits.proofs.Held.{none_unless}
 use Rattle.stamp_store.specs.Stamp.{old_path, staged_path}
 use Rattle.store_opening.specs.Named.{IsName}
 use Rattle.store_opening.specs.Paths.{IsLaidOut, IsTemporary, staged_record_path}
-use Rattle.store_model.specs.Paths.{record_path, slashes}
+use Rattle.store_model.specs.Paths.{key_path, record_path}
 use Rattle.store_opening.proofs.Areas.{differ}
 use Rattle.store_opening.proofs.Clean.{name_slashes}
 use Rattle.store_opening.proofs.Slashes.{slashes_inside}
@@ -33,12 +33,19 @@ free_in held top path plain none apart = record { above = λ q up. by q (above_u
 more_slashes : (p q : List ℕ) → IsBelow p q → slashes p < slashes q
 more_slashes p q below = let e = ap slashes below.1 ∙ slashes_inside p below.0 in omega (arith, e)
 
-pub free_record : (held : Store) (name : Hash) → IsName name → IsLaidOut held → IsFree held (record_path name)
-free_record held name is laid = free_in held (codes "rec") (hash_text name) refl laid.at_records (λ r some which. by r (laid.records r some) which)
+-- a name is free, where no path in the folder has a slash
+free_name : (held : Store) (top : List ℕ) (name : Hash) → slashes top ≡ 0 → IsName name → held top ≡ None → ((r : List ℕ) → IsSome (held (inside top r)) → slashes r ≡ 0) → IsFree held (inside top (hash_text name))
+free_name held top name plain is none alone = free_in held top (hash_text name) plain none (λ r some which. by r (alone r some) which)
   where
     by : (r : List ℕ) → slashes r ≡ 0 → IsBelow r (hash_text name) ⊎ IsBelow (hash_text name) r → ⊥
-    by r none (inl up) = let m = more_slashes r (hash_text name) up in let n = name_slashes name is in omega (arith, m, n)
-    by r none (inr down) = let m = more_slashes (hash_text name) r down in omega (arith, m, none)
+    by r flat (inl up) = let m = more_slashes r (hash_text name) up in let n = name_slashes name is in omega (arith, m, n)
+    by r flat (inr down) = let m = more_slashes (hash_text name) r down in omega (arith, m, flat)
+
+pub free_record : (held : Store) (name : Hash) → IsName name → IsLaidOut held → IsFree held (record_path name)
+free_record held name is laid = free_name held (codes "rec2") name refl is laid.at_records laid.records
+
+pub free_key : (held : Store) (name : Hash) → IsName name → IsLaidOut held → IsFree held (key_path name)
+free_key held name is laid = free_name held (codes "key") name refl is laid.at_keys laid.keys
 
 -- the first byte of what stands above a path
 first_above : (r path : List ℕ) (c : ℕ) → c ≢ 47 → IsBelow r (c ∷ path) → get_or r 0 0 ≡ c
@@ -49,28 +56,28 @@ first_below : (r path : List ℕ) (c : ℕ) → IsBelow (c ∷ path) r → get_o
 first_below r path c down = ap (λ (l : List ℕ). get_or l 0 0) down.1
 
 pub free_staged_record : (held : Store) (name : Hash) → IsName name → IsLaidOut held → IsFree held (staged_record_path name)
-free_staged_record held name is laid = free_in held (codes "tmp") (inside (codes "rec") (hash_text name)) refl laid.at_temporary (λ r some which. by r (laid.temporary r some) which)
+free_staged_record held name is laid = free_in held (codes "tmp") (inside (codes "rec2") (hash_text name)) refl laid.at_temporary (λ r some which. by r (laid.temporary r some) which)
   where
-    slashes_are : slashes (inside (codes "rec") (hash_text name)) ≡ 1
-    slashes_are = let e = slashes_inside (codes "rec") (hash_text name) in let n = name_slashes name is in omega (arith, e, n)
+    slashes_are : slashes (inside (codes "rec2") (hash_text name)) ≡ 1
+    slashes_are = let e = slashes_inside (codes "rec2") (hash_text name) in let n = name_slashes name is in omega (arith, e, n)
 
-    by : (r : List ℕ) → IsTemporary r → IsBelow r (inside (codes "rec") (hash_text name)) ⊎ IsBelow (inside (codes "rec") (hash_text name)) r → ⊥
-    by r (inl t) (inl up) = let m = more_slashes r (inside (codes "rec") (hash_text name)) up in let e = ap slashes t.1 ∙ slashes_inside (codes "rec") t.0 in omega (arith, m, slashes_are, e)
-    by r (inl t) (inr down) = let m = more_slashes (inside (codes "rec") (hash_text name)) r down in let e = ap slashes t.1 ∙ slashes_inside (codes "rec") t.0 in let n = t.2 in omega (arith, m, slashes_are, e, n)
+    by : (r : List ℕ) → IsTemporary r → IsBelow r (inside (codes "rec2") (hash_text name)) ⊎ IsBelow (inside (codes "rec2") (hash_text name)) r → ⊥
+    by r (inl t) (inl up) = let m = more_slashes r (inside (codes "rec2") (hash_text name)) up in let e = ap slashes t.1 ∙ slashes_inside (codes "rec2") t.0 in omega (arith, m, slashes_are, e)
+    by r (inl t) (inr down) = let m = more_slashes (inside (codes "rec2") (hash_text name)) r down in let e = ap slashes t.1 ∙ slashes_inside (codes "rec2") t.0 in let n = t.2 in omega (arith, m, slashes_are, e, n)
     by r (inr (inl t)) which = by_stamp which
       where
-        by_stamp : IsBelow r (inside (codes "rec") (hash_text name)) ⊎ IsBelow (inside (codes "rec") (hash_text name)) r → ⊥
-        by_stamp (inl up) = differ 115 114 refl (sym (ap (λ (l : List ℕ). get_or l 0 0) t.1) ∙ first_above r (101 ∷ 99 ∷ 47 ∷ hash_text name) 114 (differ 114 47 refl) up)
-        by_stamp (inr down) = differ 115 114 refl (sym (ap (λ (l : List ℕ). get_or l 0 0) t.1) ∙ first_below r (101 ∷ 99 ∷ 47 ∷ hash_text name) 114 down)
+        by_stamp : IsBelow r (inside (codes "rec2") (hash_text name)) ⊎ IsBelow (inside (codes "rec2") (hash_text name)) r → ⊥
+        by_stamp (inl up) = differ 115 114 refl (sym (ap (λ (l : List ℕ). get_or l 0 0) t.1) ∙ first_above r (101 ∷ 99 ∷ 50 ∷ 47 ∷ hash_text name) 114 (differ 114 47 refl) up)
+        by_stamp (inr down) = differ 115 114 refl (sym (ap (λ (l : List ℕ). get_or l 0 0) t.1) ∙ first_below r (101 ∷ 99 ∷ 50 ∷ 47 ∷ hash_text name) 114 down)
     by r (inr (inr t)) which = by_old which
       where
-        by_old : IsBelow r (inside (codes "rec") (hash_text name)) ⊎ IsBelow (inside (codes "rec") (hash_text name)) r → ⊥
-        by_old (inl up) = differ 111 114 refl (sym (ap (λ (l : List ℕ). get_or l 0 0) t.1) ∙ first_above r (101 ∷ 99 ∷ 47 ∷ hash_text name) 114 (differ 114 47 refl) up)
-        by_old (inr down) = differ 111 114 refl (sym (ap (λ (l : List ℕ). get_or l 0 0) t.1) ∙ first_below r (101 ∷ 99 ∷ 47 ∷ hash_text name) 114 down)
+        by_old : IsBelow r (inside (codes "rec2") (hash_text name)) ⊎ IsBelow (inside (codes "rec2") (hash_text name)) r → ⊥
+        by_old (inl up) = differ 111 114 refl (sym (ap (λ (l : List ℕ). get_or l 0 0) t.1) ∙ first_above r (101 ∷ 99 ∷ 50 ∷ 47 ∷ hash_text name) 114 (differ 114 47 refl) up)
+        by_old (inr down) = differ 111 114 refl (sym (ap (λ (l : List ℕ). get_or l 0 0) t.1) ∙ first_below r (101 ∷ 99 ∷ 50 ∷ 47 ∷ hash_text name) 114 down)
 
 -- paths under `tmp/` with one part more: what is held there has at most two slashes
 few_slashes : (r : List ℕ) → IsTemporary r → slashes r ≤ 2
-few_slashes r (inl t) = let e = ap slashes t.1 ∙ slashes_inside (codes "rec") t.0 in let n = t.2 in omega (arith, e, n)
+few_slashes r (inl t) = let e = ap slashes t.1 ∙ slashes_inside (codes "rec2") t.0 in let n = t.2 in omega (arith, e, n)
 few_slashes r (inr (inl t)) = let e = ap slashes t.1 ∙ slashes_inside (codes "stamp") t.0 in let n = t.2 in omega (arith, e, n)
 few_slashes r (inr (inr t)) = let e = ap slashes t.1 ∙ slashes_inside (codes "old") t.0 in let n = t.2 in omega (arith, e, n)
 

@@ -1,21 +1,23 @@
 -- An open publication goes on.
-use Rattle.std.proofs.Common.{◌≡◌, ◌∙◌, ap, subst, refl, ℕ, ◌⊎◌, inl, inr, ⊎_elim, List, [], ◌∷◌, length, drop, None}
+use Rattle.std.proofs.lemmas.Bool.{false≢true}
+use Rattle.std.proofs.Common.{◌≡◌, ◌≢◌, ◌∙◌, true, false, ap, subst, refl, ℕ, ◌⊎◌, inl, inr, ⊎_elim, List, [], ◌∷◌, length, drop, None}
 use Rattle.std.proofs.Math.Seq.{drop-length}
 use Rattle.tree_model.specs.declared.entry.Entry.{Entry}
 use Rattle.tree_model.specs.Hash.{hash_text}
 use Rattle.tree_model.specs.Path.{inside}
-use Rattle.store_opening.proofs.Areas.{differ}
+use Rattle.store_model.specs.Paths.{key_path}
+use Rattle.store_opening.proofs.Areas.{apart_by_first, differ, heads_differ}
 use Rattle.outside_traits.specs.Passes.{EachNow, Passes, Same}
 use Rattle.outside_traits.specs.Phases.{kept, stored}
 use Rattle.outside_traits.specs.Store.{Store}
 use Rattle.outside_traits.specs.Story.{IsSound, Story}
 use Rattle.outside_traits.proofs.Calls.{same_so}
 use Rattle.outside_traits.proofs.Runs.{passes_at, passes_so}
-use Rattle.store_model.specs.Publication.{Publication, stamp_at}
+use Rattle.store_model.specs.Publication.{stamp_at, Publication}
 use Rattle.build_store.specs.declared.pieces.OpenPublication.{OpenPublication}
 use Rattle.build_store.specs.declared.pieces.Reached.{Reached}
 use Rattle.build_store.specs.Calls.{Finishes, KeepsStaged}
-use Rattle.build_store.specs.Publication.{Publishes}
+use Rattle.build_store.specs.Publication.{IsForeign, IsPublished, Publishes, settled}
 use Rattle.build_store.specs.Ending.{IsAt}
 use Rattle.build_store.specs.Halves.{IsHalf, IsOn}
 use Rattle.build_store.specs.Items.{IsItemOf, Item}
@@ -39,7 +41,7 @@ publishing_nothing : (p : Publication) (held i : Store) → IsPublishing p held 
 publishing_nothing p held i = record {
   own = record { others = λ q foreign. refl; stored = inl refl; honest = inl (record { stamp = refl; work = λ q at. refl }) };
   others = others_same p.folder p.object held i;
-  staged = record { temporary = λ q below a b c. refl; records = λ q below ne. refl };
+  staged = record { temporary = λ q below a b c. refl; records = λ q below ne. refl; keys = λ q below ne. refl };
 }
 
 pub publishing_same : (p : Publication) {a b : Story} → Passes a b Same → Passes a b (IsPublishing p a.held)
@@ -66,18 +68,44 @@ suits_reached o now then' same suits = subst (Suits o) same suits
 
 -- ---- calls in a row
 
+pub published_settled : (p : Publication) (i : Store) → IsPublished p i → IsPublished (settled p) i
+published_settled p i w = record { stamp = w.stamp; stored = w.stored; key = w.key; work = w.work; shared = w.shared }
+
+pub published_first : (p : Publication) (i : Store) → IsPublished (settled p) i → IsPublished p i
+published_first p i w = record { stamp = w.stamp; stored = w.stored; key = w.key; work = w.work; shared = w.shared }
+
+pub finishes_settled : (p : Publication) (i j : Store) → Finishes p i j → Finishes (settled p) i j
+finishes_settled p i j f = record { others = f.others; stored = f.stored; stamp = ⊎_elim (λ same. inl same) (λ all. inr (published_settled p j all)) f.stamp }
+
 module _ (p : Publication) where
-  owns_then : (i j k : Store) → Publishes p i j → j (stamp_at p.folder) ≡ None → Publishes p j k → Publishes p i k
-  owns_then i j k r none s = record {
-    others = λ q foreign. s.others q foreign ∙ r.others q foreign;
-    stored = ⊎_elim (λ same. ⊎_elim (λ as_was. inl (same ∙ as_was)) (λ new. inr (new.0, same ∙ new.1)) r.stored) (λ new. inr new) s.stored;
-    honest = ⊎_elim (λ untouched. inr (inl (untouched.stamp ∙ none))) (λ w. inr w) s.honest;
+  not_written : {q : List ℕ} → false ≡ true → q ≢ key_path p.key
+  not_written bad = absurd (false≢true bad)
+
+  pub foreign_settled : (q : List ℕ) → IsForeign p q → IsForeign (settled p) q
+  foreign_settled q f = record { temporary = f.temporary; work = f.work; stamp = f.stamp; stored = f.stored; key = not_written; shared = f.shared }
+
+  foreign_key : IsForeign (settled p) (key_path p.key)
+  foreign_key = record {
+    temporary = λ below. heads_differ (differ 107 116 refl) below.1;
+    work = apart_by_first (101 ∷ 121 ∷ 47 ∷ hash_text p.key) (111 ∷ 114 ∷ 107 ∷ 47 ∷ p.folder) (differ 107 119 refl);
+    stamp = apart_by_first (101 ∷ 121 ∷ 47 ∷ hash_text p.key) (116 ∷ 97 ∷ 109 ∷ 112 ∷ 47 ∷ p.folder) (differ 107 115 refl);
+    stored = λ new. heads_differ (differ 107 114 refl);
+    key = not_written;
+    shared = λ unihash is. apart_by_first (101 ∷ 121 ∷ 47 ∷ hash_text p.key) (98 ∷ 106 ∷ 47 ∷ hash_text unihash) (differ 107 111 refl);
   }
 
-  staged_then : (i j k : Store) → KeepsStaged p i j → KeepsStaged p j k → KeepsStaged p i k
+  owns_then : (i j k : Store) → Publishes p i j → j (stamp_at p.folder) ≡ None → Publishes (settled p) j k → Publishes p i k
+  owns_then i j k r none s = record {
+    others = λ q foreign. s.others q (foreign_settled q foreign) ∙ r.others q foreign;
+    stored = ⊎_elim (λ same. ⊎_elim (λ as_was. inl (same ∙ as_was)) (λ new. inr (new.0, same ∙ new.1, s.others (key_path p.key) foreign_key ∙ new.2)) r.stored) (λ new. inr new) s.stored;
+    honest = ⊎_elim (λ untouched. inr (inl (untouched.stamp ∙ none))) (λ w. inr (⊎_elim (λ gone. inl gone) (λ all. inr (published_first p k all)) w)) s.honest;
+  }
+
+  pub staged_then : (i j k : Store) → KeepsStaged p i j → KeepsStaged (settled p) j k → KeepsStaged p i k
   staged_then i j k r s = record {
     temporary = λ q below old stamp file. s.temporary q below old stamp file ∙ r.temporary q below old stamp file;
     records = λ q below ne. s.records q below ne ∙ r.records q below ne;
+    keys = λ q below ne. s.keys q below not_written ∙ r.keys q below ne;
   }
 
 pub in_a_row : InARow

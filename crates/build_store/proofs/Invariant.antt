@@ -1,5 +1,5 @@
 -- What a store keeps, through the calls that leave its open publications alone.
-use Rattle.std.proofs.Common.{◌≡◌, sym, ap, subst, refl, Bool, true, false, List, [], ◌∷◌, None, inl, inr}
+use Rattle.std.proofs.Common.{◌≡◌, ◌∙◌, ℕ, sym, ap, subst, refl, Bool, true, false, List, [], ◌∷◌, None, inl, inr}
 use Rattle.std.specs.Prelude.{MatchBool}
 use Rattle.std.specs.Bool.{OnFalse}
 use Rattle.std.specs.List.{AllByRecursion}
@@ -9,16 +9,20 @@ use Rattle.outside_traits.proofs.Runs.{each_now, passes_so}
 use Rattle.store_model.specs.declared.signature.EquivRow.{EquivRow}
 use Rattle.store_model.specs.Available.{task_folder}
 use Rattle.store_model.specs.Opened.{HasNoLitter}
-use Rattle.store_model.specs.Paths.{slashes}
-use Rattle.store_model.specs.Publication.{stamp_at}
+use Rattle.outside_traits.specs.Store.{slashes, Store}
+use Rattle.store_model.specs.Publication.{stamp_at, Publication}
 use Rattle.store_model.specs.Readable.{IsHeld}
 use Rattle.store_model.specs.Signatures.{Signed}
 use Rattle.store_model.specs.Spelling.{name_of}
 use Rattle.store_opening.specs.Paths.{IsLaidOut}
 use Rattle.store_opening.specs.Sound.{IsKept}
-use Rattle.outside_traits.specs.Store.{Store}
 use Rattle.build_store.specs.declared.pieces.OpenPublication.{OpenPublication}
+use Rattle.std.proofs.lemmas.Bool.{false≢true}
+use Rattle.tree_model.specs.Hash.{hash_text}
+use Rattle.store_model.specs.Paths.{key_path}
 use Rattle.build_store.specs.Calls.{KeepsAround}
+use Rattle.build_store.specs.Keys.{HoldsKeys}
+use Rattle.build_store.specs.Pieces.{IsPublishing}
 use Rattle.build_store.specs.Publication.{HasNoObject, IsRestored, KeepsOthers}
 use Rattle.build_store.specs.Standing.{AddsNoLitter, AreOpen, IsTidy}
 use Rattle.build_store.specs.View.{NothingOpen, open_in}
@@ -31,6 +35,16 @@ kept_looked rows a b run was = record {
   laid_out = subst IsLaidOut (sym run.held) was.laid_out;
   stored = each_now (λ i. AllByRecursion (IsHeld i) rows) (λ j. AllByRecursion (IsHeld j) rows) was.stored run (λ i j held same. subst (λ (h : Store). AllByRecursion (IsHeld h) rows) (sym same) held);
 }
+
+-- known keys are held still
+pub keys_looked : (keys : List (List ℕ)) (a b : Story) → Passes a b Same → HoldsKeys keys a.held → HoldsKeys keys b.held
+keys_looked keys a b run was = subst (λ (h : Store). HoldsKeys keys h) (sym run.held) was
+
+pub keys_around : (keys : List (List ℕ)) (folder : List ℕ) (a b : Story) → Passes a b (KeepsAround folder a.held) → HoldsKeys keys a.held → HoldsKeys keys b.held
+keys_around keys folder a b run was = λ name key found. run.held.own.keys (key_path name) (hash_text name, refl) ∙ was name key found
+
+pub keys_published : (keys : List (List ℕ)) (p : Publication) (a b : Story) → p.writes_key ≡ false → Passes a b (IsPublishing p a.held) → HoldsKeys keys a.held → HoldsKeys keys b.held
+keys_published keys p a b unwritten run was = λ name key found. run.held.staged.keys (key_path name) (hash_text name, refl) (λ writes. absurd (false≢true (sym unwritten ∙ writes))) ∙ was name key found
 
 -- with nothing open
 pub none_stand : (rows : List EquivRow) → AreOpen rows []

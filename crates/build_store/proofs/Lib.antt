@@ -18,6 +18,11 @@ pub mod Righting
 pub mod Rows
 pub mod Stays
 pub mod Validity
+pub mod Texts
+pub mod KnownKeys
+pub mod Digests
+pub mod KeyRuns
+pub mod KnownSteps
 pub mod Written
 pub mod Around
 pub mod PhaseSteps

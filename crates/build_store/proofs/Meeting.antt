@@ -1,18 +1,17 @@
 -- Where one of those that are open has a record or an object, which it is.
-use Rattle.std.proofs.Common.{◌≡◌, ◌≢◌, ◌∙◌, sym, ap, refl, inl, inr, ℕ, ◌⊎◌, ◌||◌, Bool, true, false, List, [], ◌∷◌, Option, Some, None}
+use Rattle.std.proofs.Common.{◌≡◌, ◌≢◌, ◌∙◌, sym, ap, refl, inl, inr, ℕ, ◌⊎◌, Bool, true, false, List, [], ◌∷◌, Option, Some, None}
 use Rattle.std.specs.List.{AllByRecursion, list_any}
 use Rattle.std.specs.Str.{bytes_eq}
 use Rattle.tree_model.specs.declared.hash.Hash.{Hash}
-use Rattle.meta_model.proofs.Bools.{either_way, from_or, same_text, text_itself}
+use Rattle.meta_model.proofs.Bools.{from_or, same_text, text_itself}
 use Rattle.store_model.specs.declared.signature.EquivRow.{EquivRow}
-use Rattle.store_model.specs.Available.{task_folder}
 use Rattle.store_model.specs.Rows.{hash_eq}
 use Rattle.store_model.specs.Signatures.{Signed}
 use Rattle.store_model.specs.Spelling.{name_of}
 use Rattle.store_model.proofs.Listing.{hash_same}
 use Rattle.build_store.specs.declared.pieces.OpenPublication.{OpenPublication}
 use Rattle.build_store.specs.OpenTasks.{IsOpenOf}
-use Rattle.build_store.specs.Openings.{Meets, open_view}
+use Rattle.build_store.specs.Openings.{Meets}
 use Rattle.build_store.specs.Publication.{object_for}
 use Rattle.build_store.specs.Standing.{AreBeside, AreOpen, IsBeside, IsOpenTask, meets, objects_meet}
 use Rattle.build_store.specs.View.{open_in, open_view_of, opened_at}

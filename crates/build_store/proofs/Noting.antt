@@ -11,7 +11,7 @@ use Rattle.outside_traits.proofs.Folders.{under_same}
 use Rattle.outside_traits.proofs.Laid.{found_in, tree_found}
 use Rattle.meta_model.specs.CleanBuild.{Entries}
 use Rattle.store_model.specs.Available.{object_folder}
-use Rattle.store_model.specs.Publication.{Publication, work_at}
+use Rattle.store_model.specs.Publication.{work_at, Publication}
 use Rattle.store_opening.proofs.Areas.{differ, heads_differ}
 use Rattle.build_store.specs.Items.{IsDue, IsItemOf, IsLaidBut, IsRight, IsWithin, IsWriting, Item, RemovalsFirst, path_of, removal, writing}
 use Rattle.build_store.specs.Noting.{AreListed, IsListed, items_for, items_with, removal_if, removals, writings}

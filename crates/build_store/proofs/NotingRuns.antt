@@ -11,7 +11,7 @@ use Rattle.outside_traits.specs.Store.{IsListing, IsOpen, Store}
 use Rattle.outside_traits.specs.Story.{Story}
 use Rattle.meta_model.specs.CleanBuild.{Entries}
 use Rattle.store_model.specs.Available.{object_folder}
-use Rattle.store_model.specs.Publication.{Publication, stamp_at, work_at}
+use Rattle.store_model.specs.Publication.{stamp_at, work_at, Publication}
 use Rattle.build_store.specs.Halves.{IsHalf}
 use Rattle.build_store.specs.Items.{Item, removal}
 use Rattle.build_store.specs.Noting.{AreFound, AreNoted, items_with, removals, writings}

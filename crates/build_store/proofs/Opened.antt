@@ -5,11 +5,10 @@ use Rattle.std.specs.Option.{is_some}
 use Rattle.std.specs.Str.{bytes_eq}
 use Rattle.outside_traits.specs.Passes.{Passes}
 use Rattle.outside_traits.specs.Story.{IsSound, Story}
-use Rattle.meta_model.proofs.Bools.{text_itself}
 use Rattle.meta_model.specs.CleanBuild.{Entries}
 use Rattle.store_model.specs.declared.signature.EquivRow.{EquivRow}
 use Rattle.store_model.specs.Available.{task_folder}
-use Rattle.store_model.specs.Paths.{slashes}
+use Rattle.outside_traits.specs.Store.{slashes}
 use Rattle.store_model.specs.Readable.{IsRow}
 use Rattle.store_model.specs.Signatures.{Signed}
 use Rattle.tree_model.specs.declared.hash.Hash.{Hash}

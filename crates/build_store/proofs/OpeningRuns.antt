@@ -15,7 +15,7 @@ use Rattle.outside_traits.proofs.Runs.{each_now, passes_at, passes_so, passes_th
 use Rattle.meta_model.specs.CleanBuild.{Entries}
 use Rattle.stamp_store.specs.Stamp.{TakesAway, old_path}
 use Rattle.store_model.specs.Available.{object_folder}
-use Rattle.store_model.specs.Publication.{Publication, stamp_at, work_at}
+use Rattle.store_model.specs.Publication.{stamp_at, work_at, Publication}
 use Rattle.store_opening.specs.Paths.{IsLaidOut}
 use Rattle.store_opening.proofs.Areas.{differ, heads, heads_differ}
 use Rattle.build_store.specs.Calls.{IsRound, Opens}
@@ -194,4 +194,4 @@ module _ (folder : List ℕ) where
 
 -- a publication with these folders
 abbrev pub any_of : List ℕ → Option Hash → Publication
-any_of folder object = record { folder = folder; name = record { bytes = [] }; file = File false []; is_new = false; tree = []; object = object }
+any_of folder object = record { folder = folder; name = record { bytes = [] }; file = File false []; is_new = false; tree = []; object = object; key = record { bytes = [] }; key_file = File false []; writes_key = false }

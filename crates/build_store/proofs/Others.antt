@@ -5,7 +5,7 @@ use Rattle.tree_model.specs.declared.hash.Hash.{Hash}
 use Rattle.tree_model.specs.declared.manifest.ManifestLine.{ManifestLine}
 use Rattle.tree_model.specs.Hash.{hash_text}
 use Rattle.tree_model.specs.Path.{IsAtOrBelow, IsBelow, inside}
-use Rattle.outside_traits.specs.Store.{IsApart, Store}
+use Rattle.outside_traits.specs.Store.{IsApart, Store, slashes}
 use Rattle.meta_model.specs.CleanBuild.{Gives}
 use Rattle.store_model.specs.declared.signature.EquivRow.{EquivRow}
 use Rattle.store_model.specs.Available.{Matches, object_folder, task_folder, work_folder}
@@ -16,9 +16,8 @@ use Rattle.store_model.proofs.Digests.{same_name_text}
 use Rattle.store_model.proofs.Standing.{one_place, split_last, stands_earlier, stands_further}
 use Rattle.store_model.specs.Lines.{HasLine, KeepsWork}
 use Rattle.build_store.specs.Laws.{HasLinePlace, IsOfTask, KeepsOutput, OthersInWorkStay, OthersObjectsStay, OthersStay, OthersUntouched}
-use Rattle.store_model.specs.Paths.{slashes}
 use Rattle.build_store.specs.Publication.{IsForeign, KeepsOthers, Publishes}
-use Rattle.store_model.specs.Publication.{Publication, stamp_at, work_at}
+use Rattle.store_model.specs.Publication.{stamp_at, work_at, Publication}
 use Rattle.build_store.proofs.Apart.{apart_by_count, apart_under, apart_within, same_parts}
 use Rattle.build_store.proofs.FoldersStay.{in_top, tree_far}
 use Rattle.store_opening.proofs.Areas.{apart_by_first, differ, heads_differ}
@@ -40,6 +39,7 @@ foreign_stamp p folder apart = record {
   work = apart_by_first (116 ∷ 97 ∷ 109 ∷ 112 ∷ 47 ∷ folder) (111 ∷ 114 ∷ 107 ∷ 47 ∷ p.folder) (differ 115 119 refl);
   stamp = apart_under (codes "stamp") p.folder folder apart;
   stored = λ new. heads_differ (differ 115 114 refl);
+  key = λ writes. heads_differ (differ 115 107 refl);
   shared = λ unihash is. apart_by_first (116 ∷ 97 ∷ 109 ∷ 112 ∷ 47 ∷ folder) (98 ∷ 106 ∷ 47 ∷ hash_text unihash) (differ 115 111 refl);
 }
 
@@ -50,6 +50,7 @@ foreign_work p ps apart = record {
   work = apart;
   stamp = apart_by_first ps (116 ∷ 97 ∷ 109 ∷ 112 ∷ 47 ∷ p.folder) (differ 119 115 refl);
   stored = λ new. heads_differ (differ 119 114 refl);
+  key = λ writes. heads_differ (differ 119 107 refl);
   shared = λ unihash is. apart_by_first ps (98 ∷ 106 ∷ 47 ∷ hash_text unihash) (differ 119 111 refl);
 }
 
@@ -60,6 +61,7 @@ foreign_object p ps apart = record {
   work = apart_by_first ps (111 ∷ 114 ∷ 107 ∷ 47 ∷ p.folder) (differ 111 119 refl);
   stamp = apart_by_first ps (116 ∷ 97 ∷ 109 ∷ 112 ∷ 47 ∷ p.folder) (differ 111 115 refl);
   stored = λ new. heads_differ (differ 111 114 refl);
+  key = λ writes. heads_differ (differ 111 107 refl);
   shared = apart;
 }
 

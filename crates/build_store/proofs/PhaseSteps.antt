@@ -11,8 +11,8 @@ use Rattle.outside_traits.proofs.Images.{above-now, held-above}
 use Rattle.outside_traits.proofs.Puts.{put-same}
 use Rattle.outside_traits.proofs.Sound.{sound_ended}
 use Rattle.stamp_store.specs.Stamp.{stamp_path, staged_path}
-use Rattle.store_model.specs.Paths.{record_path}
-use Rattle.store_model.specs.Publication.{Publication, stamp_at, stamp_file}
+use Rattle.store_model.specs.Paths.{key_path, record_path}
+use Rattle.store_model.specs.Publication.{stamp_at, stamp_file, Publication}
 use Rattle.store_opening.specs.Paths.{staged_record_path}
 use Rattle.store_opening.proofs.Areas.{differ, heads_differ, tree_stays}
 use Rattle.build_store.specs.Ending.{HasFolders, IsAt, IsHonest, IsReady, IsStored, IsTicket, IsWaiting, KeepsPut, NowIsTicket, PhasesEnd, PhasesStay, RecordGoesOn, StampGoesOn, StagedAtFirst}
@@ -47,11 +47,12 @@ module _ (p : Publication) where
         (λ qs. m.others (119 ∷ qs) (heads_differ (differ 119 116 refl)) (heads_differ (differ 119 115 refl)))
         (λ qs. m.others (111 ∷ qs) (heads_differ (differ 111 116 refl)) (heads_differ (differ 111 115 refl))) was.waiting.folders;
     stored = m.others (record_path p.name) (heads_differ (differ 114 116 refl)) (heads_differ (differ 114 115 refl)) ∙ was.stored;
+    key = m.others (key_path p.key) (heads_differ (differ 107 116 refl)) (heads_differ (differ 107 115 refl)) ∙ was.key;
     stamp = ⊎_elim (λ e. inl (e ∙ was.waiting.unstamped)) (λ e. inr (e ∙ is)) m.target;
   }
 
   published_of : (i : Store) → IsHonest p i → i (stamp_at p.folder) ≡ Some (stamp_file p.name) → IsPublished p i
-  published_of i honest at = record { stamp = at; stored = honest.stored; work = honest.folders.work; shared = honest.folders.shared }
+  published_of i honest at = record { stamp = at; stored = honest.stored; key = honest.key; work = honest.folders.work; shared = honest.folders.shared }
 
   -- ---- what others do
 
@@ -59,18 +60,18 @@ module _ (p : Publication) where
   waiting_kept j k w keeps = record { folders = keeps.folders w.folders; staged_stamp = keeps.staged_stamp ∙ w.staged_stamp; unstamped = keeps.stamp ∙ w.unstamped }
 
   ready_kept : (j k : Store) → IsReady p j → KeepsPut p j k → IsReady p k
-  ready_kept j k r keeps = record { waiting = waiting_kept j k r.waiting keeps; staged_record = keeps.staged_record ∙ r.staged_record }
+  ready_kept j k r keeps = record { waiting = waiting_kept j k r.waiting keeps; staged_record = keeps.staged_record ∙ r.staged_record; key = keeps.key ∙ r.key }
 
   stored_kept : (j k : Store) → IsStored p j → KeepsPut p j k → IsStored p k
-  stored_kept j k s keeps = record { waiting = waiting_kept j k s.waiting keeps; stored = keeps.record_at ∙ s.stored }
+  stored_kept j k s keeps = record { waiting = waiting_kept j k s.waiting keeps; stored = keeps.record_at ∙ s.stored; key = keeps.key ∙ s.key }
 
   honest_kept : (j k : Store) → IsHonest p j → KeepsPut p j k → IsHonest p k
-  honest_kept j k h keeps = record { folders = keeps.folders h.folders; stored = keeps.record_at ∙ h.stored; stamp = ⊎_elim (λ e. inl (keeps.stamp ∙ e)) (λ e. inr (keeps.stamp ∙ e)) h.stamp }
+  honest_kept j k h keeps = record { folders = keeps.folders h.folders; stored = keeps.record_at ∙ h.stored; key = keeps.key ∙ h.key; stamp = ⊎_elim (λ e. inl (keeps.stamp ∙ e)) (λ e. inr (keeps.stamp ∙ e)) h.stamp }
 
   published_kept : (j k : Store) → IsPublished p j → KeepsPut p j k → IsPublished p k
   published_kept j k w keeps =
       let folders = keeps.folders (record { work = w.work; shared = w.shared }) in
-      record { stamp = keeps.stamp ∙ w.stamp; stored = keeps.record_at ∙ w.stored; work = folders.work; shared = folders.shared }
+      record { stamp = keeps.stamp ∙ w.stamp; stored = keeps.record_at ∙ w.stored; key = keeps.key ∙ w.key; work = folders.work; shared = folders.shared }
 
 pub now_is_ticket : NowIsTicket
 now_is_ticket story = record { past = omega arith; held = λ i left. above-now story i left }
@@ -112,7 +113,7 @@ record_goes_on p a b c k n sound is did same ticket =
     let run = renames_passes (sound_ended a k sound) did in
     let first = is.2 a.held (held-above a sound k) in
     let held = a.held (staged_record_path p.name) in
-    let at_b : IsStored p b.held = record { waiting = waiting_of p held a.held b.held first.waiting run.held; stored = renamed did ∙ first.staged_record } in (
+    let at_b : IsStored p b.held = record { waiting = waiting_of p held a.held b.held first.waiting run.held; stored = renamed did ∙ first.staged_record; key = run.held.others (key_path p.key) (heads_differ (differ 107 116 refl)) (heads_differ (differ 107 114 refl)) ∙ first.key } in (
       ticket.past,
       now_same (IsWaiting p) (λ i img. let w = run.now i img in waiting_of p held w.0 i (is.2 w.0 w.1).waiting w.2) same,
       λ i left. subst (IsStored p) (sym (ticket.held i left ∙ same.held)) at_b,

@@ -7,14 +7,14 @@ use Rattle.tree_model.specs.declared.entry.Entry.{Entry}
 use Rattle.tree_model.specs.declared.hash.Hash.{Hash}
 use Rattle.tree_model.specs.Hash.{hash_text}
 use Rattle.tree_model.specs.Path.{inside}
-use Rattle.outside_traits.specs.Store.{AgreesApart, ChangesAt, Moves, Store}
+use Rattle.outside_traits.specs.Store.{AgreesApart, ChangesAt, Moves, Store, slashes}
 use Rattle.outside_traits.proofs.Folders.{under_same}
 use Rattle.outside_traits.proofs.Held.{none_unless}
 use Rattle.outside_traits.proofs.Puts.{path_cases}
 use Rattle.stamp_store.specs.Stamp.{TakesAway, old_path, stamp_path, staged_path}
 use Rattle.store_opening.specs.Named.{IsName}
 use Rattle.store_opening.specs.Paths.{IsLaidOut, IsTemporary, staged_record_path}
-use Rattle.store_model.specs.Paths.{record_path, slashes}
+use Rattle.store_model.specs.Paths.{key_path, record_path}
 use Rattle.build_store.specs.Calls.{FreesStamp}
 use Rattle.build_store.specs.Phases.{IsApartFrom, Lays, Stages}
 use Rattle.store_model.specs.Publication.{work_at}
@@ -23,22 +23,28 @@ use Rattle.store_opening.proofs.Clean.{name_slashes}
 use Rattle.store_opening.proofs.Slashes.{slashes_inside}
 use Rattle.build_store.proofs.Rounding.{frees_there}
 
--- a path under `rec/`, `stamp/` or `tmp/` at which the store may put something
-pub IsWell : List ℕ → Type 0
-IsWell q =
-    ((p : List ℕ) × (q ≡ inside (codes "rec") p) × (slashes p ≡ 0))
+-- a path under `rec2/`, `stamp/`, `tmp/` or `key/` at which the store may put something
+abbrev pub Well : List ℕ → Type 0
+Well q =
+    ((p : List ℕ) × (q ≡ inside (codes "rec2") p) × (slashes p ≡ 0))
     ⊎ (((p : List ℕ) × (q ≡ inside (codes "stamp") p) × (slashes p ≡ 1))
-    ⊎ ((p : List ℕ) × (q ≡ inside (codes "tmp") p) × IsTemporary p))
+    ⊎ (((p : List ℕ) × (q ≡ inside (codes "tmp") p) × IsTemporary p)
+    ⊎ ((p : List ℕ) × (q ≡ inside (codes "key") p) × (slashes p ≡ 0))))
+
+pub IsWell : List ℕ → Type 0
+IsWell q = Well q
 
 -- where nothing comes to be held but at such paths, what is held stays laid out
 laid_after : (i j : Store) → ((q : List ℕ) → IsSome (j q) → IsSome (i q) ⊎ IsWell q) → IsLaidOut i → IsLaidOut j
 unfolding IsWell
 laid_after i j comes was = record {
-  records = λ path some. by_rec path (comes (inside (codes "rec") path) some);
+  records = λ path some. by_rec path (comes (inside (codes "rec2") path) some);
+  keys = λ path some. by_key path (comes (inside (codes "key") path) some);
   temporary = λ path some. by_tmp path (comes (inside (codes "tmp") path) some);
-  at_records = none_unless (j (codes "rec")) (λ some. at_rec (comes (codes "rec") some));
-  at_stamps = none_unless (j (codes "stamp")) (λ some. at_stamp (comes (codes "stamp") some));
-  at_temporary = none_unless (j (codes "tmp")) (λ some. at_tmp (comes (codes "tmp") some));
+  at_records = none_unless (j (codes "rec2")) (λ some. at_top (codes "rec2") refl was.at_records (comes (codes "rec2") some));
+  at_keys = none_unless (j (codes "key")) (λ some. at_top (codes "key") refl was.at_keys (comes (codes "key") some));
+  at_stamps = none_unless (j (codes "stamp")) (λ some. at_top (codes "stamp") refl was.at_stamps (comes (codes "stamp") some));
+  at_temporary = none_unless (j (codes "tmp")) (λ some. at_top (codes "tmp") refl was.at_temporary (comes (codes "tmp") some));
 }
   where
     plain : (top folder p : List ℕ) → slashes top ≡ 0 → top ≡ inside folder p → ⊥
@@ -47,35 +53,33 @@ laid_after i j comes was = record {
     held_none : {o : Option Entry} → o ≡ None → IsSome o → ⊥
     held_none none some = false≢true (sym (ap is_some none) ∙ some)
 
-    by_rec : (path : List ℕ) → IsSome (i (inside (codes "rec") path)) ⊎ (((p : List ℕ) × (inside (codes "rec") path ≡ inside (codes "rec") p) × (slashes p ≡ 0)) ⊎ (((p : List ℕ) × (inside (codes "rec") path ≡ inside (codes "stamp") p) × (slashes p ≡ 1)) ⊎ ((p : List ℕ) × (inside (codes "rec") path ≡ inside (codes "tmp") p) × IsTemporary p))) → slashes path ≡ 0
+    by_rec : (path : List ℕ) → IsSome (i (inside (codes "rec2") path)) ⊎ Well (inside (codes "rec2") path) → slashes path ≡ 0
     by_rec path (inl some) = was.records path some
-    by_rec path (inr (inl w)) = ap slashes (under_same (codes "rec") path w.0 w.1) ∙ w.2
+    by_rec path (inr (inl w)) = ap slashes (under_same (codes "rec2") path w.0 w.1) ∙ w.2
     by_rec path (inr (inr (inl w))) = absurd (heads_differ (differ 114 115 refl) w.1)
-    by_rec path (inr (inr (inr w))) = absurd (heads_differ (differ 114 116 refl) w.1)
+    by_rec path (inr (inr (inr (inl w)))) = absurd (heads_differ (differ 114 116 refl) w.1)
+    by_rec path (inr (inr (inr (inr w)))) = absurd (heads_differ (differ 114 107 refl) w.1)
 
-    by_tmp : (path : List ℕ) → IsSome (i (inside (codes "tmp") path)) ⊎ (((p : List ℕ) × (inside (codes "tmp") path ≡ inside (codes "rec") p) × (slashes p ≡ 0)) ⊎ (((p : List ℕ) × (inside (codes "tmp") path ≡ inside (codes "stamp") p) × (slashes p ≡ 1)) ⊎ ((p : List ℕ) × (inside (codes "tmp") path ≡ inside (codes "tmp") p) × IsTemporary p))) → IsTemporary path
+    by_key : (path : List ℕ) → IsSome (i (inside (codes "key") path)) ⊎ Well (inside (codes "key") path) → slashes path ≡ 0
+    by_key path (inl some) = was.keys path some
+    by_key path (inr (inl w)) = absurd (heads_differ (differ 107 114 refl) w.1)
+    by_key path (inr (inr (inl w))) = absurd (heads_differ (differ 107 115 refl) w.1)
+    by_key path (inr (inr (inr (inl w)))) = absurd (heads_differ (differ 107 116 refl) w.1)
+    by_key path (inr (inr (inr (inr w)))) = ap slashes (under_same (codes "key") path w.0 w.1) ∙ w.2
+
+    by_tmp : (path : List ℕ) → IsSome (i (inside (codes "tmp") path)) ⊎ Well (inside (codes "tmp") path) → IsTemporary path
     by_tmp path (inl some) = was.temporary path some
     by_tmp path (inr (inl w)) = absurd (heads_differ (differ 116 114 refl) w.1)
     by_tmp path (inr (inr (inl w))) = absurd (heads_differ (differ 116 115 refl) w.1)
-    by_tmp path (inr (inr (inr w))) = subst IsTemporary (sym (under_same (codes "tmp") path w.0 w.1)) w.2
+    by_tmp path (inr (inr (inr (inl w)))) = subst IsTemporary (sym (under_same (codes "tmp") path w.0 w.1)) w.2
+    by_tmp path (inr (inr (inr (inr w)))) = absurd (heads_differ (differ 116 107 refl) w.1)
 
-    at_rec : IsSome (i (codes "rec")) ⊎ (((p : List ℕ) × (codes "rec" ≡ inside (codes "rec") p) × (slashes p ≡ 0)) ⊎ (((p : List ℕ) × (codes "rec" ≡ inside (codes "stamp") p) × (slashes p ≡ 1)) ⊎ ((p : List ℕ) × (codes "rec" ≡ inside (codes "tmp") p) × IsTemporary p))) → ⊥
-    at_rec (inl some) = held_none was.at_records some
-    at_rec (inr (inl w)) = plain (codes "rec") (codes "rec") w.0 refl w.1
-    at_rec (inr (inr (inl w))) = plain (codes "rec") (codes "stamp") w.0 refl w.1
-    at_rec (inr (inr (inr w))) = plain (codes "rec") (codes "tmp") w.0 refl w.1
-
-    at_stamp : IsSome (i (codes "stamp")) ⊎ (((p : List ℕ) × (codes "stamp" ≡ inside (codes "rec") p) × (slashes p ≡ 0)) ⊎ (((p : List ℕ) × (codes "stamp" ≡ inside (codes "stamp") p) × (slashes p ≡ 1)) ⊎ ((p : List ℕ) × (codes "stamp" ≡ inside (codes "tmp") p) × IsTemporary p))) → ⊥
-    at_stamp (inl some) = held_none was.at_stamps some
-    at_stamp (inr (inl w)) = plain (codes "stamp") (codes "rec") w.0 refl w.1
-    at_stamp (inr (inr (inl w))) = plain (codes "stamp") (codes "stamp") w.0 refl w.1
-    at_stamp (inr (inr (inr w))) = plain (codes "stamp") (codes "tmp") w.0 refl w.1
-
-    at_tmp : IsSome (i (codes "tmp")) ⊎ (((p : List ℕ) × (codes "tmp" ≡ inside (codes "rec") p) × (slashes p ≡ 0)) ⊎ (((p : List ℕ) × (codes "tmp" ≡ inside (codes "stamp") p) × (slashes p ≡ 1)) ⊎ ((p : List ℕ) × (codes "tmp" ≡ inside (codes "tmp") p) × IsTemporary p))) → ⊥
-    at_tmp (inl some) = held_none was.at_temporary some
-    at_tmp (inr (inl w)) = plain (codes "tmp") (codes "rec") w.0 refl w.1
-    at_tmp (inr (inr (inl w))) = plain (codes "tmp") (codes "stamp") w.0 refl w.1
-    at_tmp (inr (inr (inr w))) = plain (codes "tmp") (codes "tmp") w.0 refl w.1
+    at_top : (top : List ℕ) → slashes top ≡ 0 → i top ≡ None → IsSome (i top) ⊎ Well top → ⊥
+    at_top top none free (inl some) = held_none free some
+    at_top top none free (inr (inl w)) = plain top (codes "rec2") w.0 none w.1
+    at_top top none free (inr (inr (inl w))) = plain top (codes "stamp") w.0 none w.1
+    at_top top none free (inr (inr (inr (inl w)))) = plain top (codes "tmp") w.0 none w.1
+    at_top top none free (inr (inr (inr (inr w)))) = plain top (codes "key") w.0 none w.1
 
 well_record : (name : Hash) → IsName name → IsWell (record_path name)
 unfolding IsWell
@@ -83,7 +87,7 @@ well_record name is = inl (hash_text name, refl, name_slashes name is)
 
 well_staged_record : (name : Hash) → IsName name → IsWell (staged_record_path name)
 unfolding IsWell
-well_staged_record name is = inr (inr (inside (codes "rec") (hash_text name), refl, inl (hash_text name, refl, name_slashes name is)))
+well_staged_record name is = inr (inr (inl (inside (codes "rec2") (hash_text name), refl, inl (hash_text name, refl, name_slashes name is))))
 
 well_stamp : (folder : List ℕ) → slashes folder ≡ 1 → IsWell (stamp_path folder)
 unfolding IsWell
@@ -91,11 +95,15 @@ well_stamp folder one = inr (inl (folder, refl, one))
 
 well_staged : (folder : List ℕ) → slashes folder ≡ 1 → IsWell (staged_path folder)
 unfolding IsWell
-well_staged folder one = inr (inr (inside (codes "stamp") folder, refl, inr (inl (folder, refl, one))))
+well_staged folder one = inr (inr (inl (inside (codes "stamp") folder, refl, inr (inl (folder, refl, one)))))
 
 well_old : (folder : List ℕ) → slashes folder ≡ 1 → IsWell (old_path folder)
 unfolding IsWell
-well_old folder one = inr (inr (inside (codes "old") folder, refl, inr (inr (folder, refl, one))))
+well_old folder one = inr (inr (inl (inside (codes "old") folder, refl, inr (inr (folder, refl, one)))))
+
+well_key : (name : Hash) → IsName name → IsWell (key_path name)
+unfolding IsWell
+well_key name is = inr (inr (inr (hash_text name, refl, name_slashes name is)))
 
 laid_change : (p : List ℕ) (i j : Store) → IsWell p → ChangesAt p i j → IsLaidOut i → IsLaidOut j
 laid_change p i j well change was = laid_after i j (λ q some. elim (path_cases q p) [
@@ -113,6 +121,9 @@ laid_from p r i j well others source was = laid_after i j (λ q some. elim (path
   ]
 ]) was
 
+pub laid_key : (name : Hash) (i j : Store) → IsName name → ChangesAt (key_path name) i j → IsLaidOut i → IsLaidOut j
+laid_key name i j is change was = laid_change (key_path name) i j (well_key name is) change was
+
 pub laid_move : (p r : List ℕ) (x : Option Entry) (i j : Store) → IsWell r → Moves p r x i j → IsLaidOut i → IsLaidOut j
 laid_move p r x i j well move was = laid_from p r i j well move.others move.source was
 
@@ -125,9 +136,11 @@ laid_stamped folder x i j one move was = laid_move (staged_path folder) (stamp_p
 -- what is in the way of a stamp goes
 pub laid_freeing : (folder : List ℕ) (i j : Store) → FreesStamp folder i i j → IsLaidOut i → IsLaidOut j
 laid_freeing folder i j frees was = record {
-  records = λ path some. was.records path (subst IsSome (same 114 (101 ∷ 99 ∷ 47 ∷ path) (differ 114 115 refl)) some);
+  records = λ path some. was.records path (subst IsSome (same 114 (101 ∷ 99 ∷ 50 ∷ 47 ∷ path) (differ 114 115 refl)) some);
+  keys = λ path some. was.keys path (subst IsSome (same 107 (101 ∷ 121 ∷ 47 ∷ path) (differ 107 115 refl)) some);
   temporary = λ path some. was.temporary path (subst IsSome (same 116 (109 ∷ 112 ∷ 47 ∷ path) (differ 116 115 refl)) some);
-  at_records = same 114 (101 ∷ 99 ∷ []) (differ 114 115 refl) ∙ was.at_records;
+  at_records = same 114 (101 ∷ 99 ∷ 50 ∷ []) (differ 114 115 refl) ∙ was.at_records;
+  at_keys = same 107 (101 ∷ 121 ∷ []) (differ 107 115 refl) ∙ was.at_keys;
   at_stamps = frees.none (codes "stamp") was.at_stamps ∙ was.at_stamps;
   at_temporary = same 116 (109 ∷ 112 ∷ []) (differ 116 115 refl) ∙ was.at_temporary;
 }
@@ -142,9 +155,11 @@ object_by_first object c ps ne unihash is = apart_by_first ps (98 ∷ 106 ∷ 47
 
 pub laid_lays : (folder : List ℕ) (object : Option Hash) (i j : Store) → Lays folder object i j → IsLaidOut i → IsLaidOut j
 laid_lays folder object i j lays was = record {
-  records = λ path some. was.records path (subst IsSome (same 114 (101 ∷ 99 ∷ 47 ∷ path) (differ 114 119 refl) (differ 114 111 refl)) some);
+  records = λ path some. was.records path (subst IsSome (same 114 (101 ∷ 99 ∷ 50 ∷ 47 ∷ path) (differ 114 119 refl) (differ 114 111 refl)) some);
+  keys = λ path some. was.keys path (subst IsSome (same 107 (101 ∷ 121 ∷ 47 ∷ path) (differ 107 119 refl) (differ 107 111 refl)) some);
   temporary = λ path some. was.temporary path (subst IsSome (same 116 (109 ∷ 112 ∷ 47 ∷ path) (differ 116 119 refl) (differ 116 111 refl)) some);
-  at_records = same 114 (101 ∷ 99 ∷ []) (differ 114 119 refl) (differ 114 111 refl) ∙ was.at_records;
+  at_records = same 114 (101 ∷ 99 ∷ 50 ∷ []) (differ 114 119 refl) (differ 114 111 refl) ∙ was.at_records;
+  at_keys = same 107 (101 ∷ 121 ∷ []) (differ 107 119 refl) (differ 107 111 refl) ∙ was.at_keys;
   at_stamps = same 115 (116 ∷ 97 ∷ 109 ∷ 112 ∷ []) (differ 115 119 refl) (differ 115 111 refl) ∙ was.at_stamps;
   at_temporary = same 116 (109 ∷ 112 ∷ []) (differ 116 119 refl) (differ 116 111 refl) ∙ was.at_temporary;
 }
@@ -174,7 +189,7 @@ module _ (name : Hash) (file : Option Entry) where
   }
 
   pub stages_by_record : (i j : Store) → IsName name → ChangesAt (staged_record_path name) i j → Stages name file i j
-  stages_by_record i j is change = by_temporary (inside (codes "rec") (hash_text name)) i j (well_staged_record name is) change
+  stages_by_record i j is change = by_temporary (inside (codes "rec2") (hash_text name)) i j (well_staged_record name is) change
 
   pub stages_by_stamp : (folder : List ℕ) (i j : Store) → slashes folder ≡ 1 → ChangesAt (staged_path folder) i j → Stages name file i j
   stages_by_stamp folder i j one change = by_temporary (inside (codes "stamp") folder) i j (well_staged folder one) change

@@ -12,7 +12,7 @@ use Rattle.store_opening.specs.Paths.{staged_record_path}
 use Rattle.store_model.specs.Available.{object_folder}
 use Rattle.store_model.specs.Paths.{record_path}
 use Rattle.build_store.specs.Publication.{IsForeign, KeepsOthers, Publishes}
-use Rattle.store_model.specs.Publication.{Publication, stamp_at, work_at}
+use Rattle.store_model.specs.Publication.{stamp_at, work_at, Publication}
 use Rattle.store_opening.proofs.Areas.{differ, heads_differ}
 use Rattle.store_opening.proofs.Doomed.{no_slash}
 use Rattle.build_store.proofs.Rounding.{another, begins, by_freeing, frees_there}
@@ -45,10 +45,10 @@ not_staged : (p : Publication) (c : ℕ) (rest q : List ℕ) → q ≡ c ∷ res
 not_staged p c rest q is ne = not_at c 116 rest (109 ∷ 112 ∷ 47 ∷ 115 ∷ 116 ∷ 97 ∷ 109 ∷ 112 ∷ 47 ∷ p.folder) q is ne
 
 not_staged_record : (p : Publication) (c : ℕ) (rest q : List ℕ) → q ≡ c ∷ rest → c ≢ 116 → q ≢ staged_record_path p.name
-not_staged_record p c rest q is ne = not_at c 116 rest (109 ∷ 112 ∷ 47 ∷ 114 ∷ 101 ∷ 99 ∷ 47 ∷ hash_text p.name) q is ne
+not_staged_record p c rest q is ne = not_at c 116 rest (109 ∷ 112 ∷ 47 ∷ 114 ∷ 101 ∷ 99 ∷ 50 ∷ 47 ∷ hash_text p.name) q is ne
 
 not_record : (p : Publication) (c : ℕ) (rest q : List ℕ) → q ≡ c ∷ rest → c ≢ 114 → q ≢ record_path p.name
-not_record p c rest q is ne = not_at c 114 rest (101 ∷ 99 ∷ 47 ∷ hash_text p.name) q is ne
+not_record p c rest q is ne = not_at c 114 rest (101 ∷ 99 ∷ 50 ∷ 47 ∷ hash_text p.name) q is ne
 
 -- ---- opening
 
@@ -56,7 +56,7 @@ module _ (p : Publication) (held old new : Store) (opens : Opens p held old new)
   pub opens_own : Publishes p old new
   opens_own = record {
     others = λ q foreign. opens.others q foreign.stamp.not_folder (not_old p q foreign) (foreign_round p q foreign);
-    stored = inl (opens.others (record_path p.name) (heads_differ (differ 114 115 refl)) (heads_differ (differ 114 116 refl)) (far_by_first p 114 (101 ∷ 99 ∷ 47 ∷ hash_text p.name) (record_path p.name) refl (differ 114 119 refl) (differ 114 111 refl)));
+    stored = inl (opens.others (record_path p.name) (heads_differ (differ 114 115 refl)) (heads_differ (differ 114 116 refl)) (far_by_first p 114 (101 ∷ 99 ∷ 50 ∷ 47 ∷ hash_text p.name) (record_path p.name) refl (differ 114 119 refl) (differ 114 111 refl)));
     honest = elim opens.honest [ inl untouched ↦ inl untouched | inr gone ↦ inr (inl gone) ];
   }
 
@@ -89,7 +89,8 @@ module _ (p : Publication) (held old new : Store) (opens : Opens p held old new)
   pub opens_staged : KeepsStaged p old new
   opens_staged = record {
     temporary = λ q below no_old no_stamp no_record. let rest = 109 ∷ 112 ∷ 47 ∷ below.0 in opens.others q (not_stamp p 116 rest q below.1 (differ 116 115 refl)) no_old (far_by_first p 116 rest q below.1 (differ 116 119 refl) (differ 116 111 refl));
-    records = λ q below ne. let rest = 101 ∷ 99 ∷ 47 ∷ below.0 in opens.others q (not_stamp p 114 rest q below.1 (differ 114 115 refl)) (not_old_at p 114 rest q below.1 (differ 114 116 refl)) (far_by_first p 114 rest q below.1 (differ 114 119 refl) (differ 114 111 refl));
+    records = λ q below ne. let rest = 101 ∷ 99 ∷ 50 ∷ 47 ∷ below.0 in opens.others q (not_stamp p 114 rest q below.1 (differ 114 115 refl)) (not_old_at p 114 rest q below.1 (differ 114 116 refl)) (far_by_first p 114 rest q below.1 (differ 114 119 refl) (differ 114 111 refl));
+    keys = λ q below ne. let rest = 101 ∷ 121 ∷ 47 ∷ below.0 in opens.others q (not_stamp p 107 rest q below.1 (differ 107 115 refl)) (not_old_at p 107 rest q below.1 (differ 107 116 refl)) (far_by_first p 107 rest q below.1 (differ 107 119 refl) (differ 107 111 refl));
   }
 
 pub opens_is_publishing : OpensIsPublishing
@@ -107,7 +108,7 @@ module _ (p : Publication) (items : List Item) (held old new : Store) (all : All
   pub works_own : old (stamp_at p.folder) ≡ None → Publishes p old new
   works_own none = record {
     others = λ q foreign. works_at q (foreign_within p q foreign);
-    stored = inl (works_at (record_path p.name) (out_by_first p 114 (101 ∷ 99 ∷ 47 ∷ hash_text p.name) (record_path p.name) refl (differ 114 119 refl) (differ 114 111 refl)));
+    stored = inl (works_at (record_path p.name) (out_by_first p 114 (101 ∷ 99 ∷ 50 ∷ 47 ∷ hash_text p.name) (record_path p.name) refl (differ 114 119 refl) (differ 114 111 refl)));
     honest = inr (inl (works_stamp ∙ none));
   }
 
@@ -142,7 +143,8 @@ module _ (p : Publication) (items : List Item) (held old new : Store) (all : All
   pub works_staged : KeepsStaged p old new
   works_staged = record {
     temporary = λ q below no_old no_stamp no_record. works_at q (out_by_first p 116 (109 ∷ 112 ∷ 47 ∷ below.0) q below.1 (differ 116 119 refl) (differ 116 111 refl));
-    records = λ q below ne. works_at q (out_by_first p 114 (101 ∷ 99 ∷ 47 ∷ below.0) q below.1 (differ 114 119 refl) (differ 114 111 refl));
+    records = λ q below ne. works_at q (out_by_first p 114 (101 ∷ 99 ∷ 50 ∷ 47 ∷ below.0) q below.1 (differ 114 119 refl) (differ 114 111 refl));
+    keys = λ q below ne. works_at q (out_by_first p 107 (101 ∷ 121 ∷ 47 ∷ below.0) q below.1 (differ 107 119 refl) (differ 107 111 refl));
   }
 
 pub works_is_publishing : WorksIsPublishing
@@ -162,13 +164,14 @@ pub freeing_is_publishing : (p : Publication) (held old new : Store) → old (st
 freeing_is_publishing p held old new none frees = record {
   own = record {
     others = λ q foreign. frees.others q (λ way. elim way [ inl up ↦ foreign.stamp.not_above up | inr down ↦ foreign.stamp.not_under down ]);
-    stored = inl (frees_there p.folder held old new 114 (record_path p.name) (differ 114 115 refl) (101 ∷ 99 ∷ 47 ∷ hash_text p.name, refl) frees);
+    stored = inl (frees_there p.folder held old new 114 (record_path p.name) (differ 114 115 refl) (101 ∷ 99 ∷ 50 ∷ 47 ∷ hash_text p.name, refl) frees);
     honest = inr (inl (frees_keeps p.folder held old new frees ∙ none));
   };
   others = by_freeing p.folder p.object held old new frees;
   staged = record {
     temporary = λ q below a b c. frees_there p.folder held old new 116 q (differ 116 115 refl) (109 ∷ 112 ∷ 47 ∷ below.0, below.1) frees;
-    records = λ q below ne. frees_there p.folder held old new 114 q (differ 114 115 refl) (101 ∷ 99 ∷ 47 ∷ below.0, below.1) frees;
+    records = λ q below ne. frees_there p.folder held old new 114 q (differ 114 115 refl) (101 ∷ 99 ∷ 50 ∷ 47 ∷ below.0, below.1) frees;
+    keys = λ q below ne. frees_there p.folder held old new 107 q (differ 107 115 refl) (101 ∷ 121 ∷ 47 ∷ below.0, below.1) frees;
   };
 }
 
@@ -180,7 +183,7 @@ module _ (p : Publication) (held old new : Store) (finishes : Finishes p old new
 
   pub finishes_own : old (stamp_at p.folder) ≡ None → Publishes p old new
   finishes_own none = record {
-    others = λ q foreign. finishes.others q (λ same. foreign.temporary (115 ∷ 116 ∷ 97 ∷ 109 ∷ 112 ∷ 47 ∷ p.folder, same)) (λ same. foreign.temporary (114 ∷ 101 ∷ 99 ∷ 47 ∷ hash_text p.name, same)) foreign.stamp.not_folder foreign.stored;
+    others = λ q foreign. finishes.others q (λ same. foreign.temporary (115 ∷ 116 ∷ 97 ∷ 109 ∷ 112 ∷ 47 ∷ p.folder, same)) (λ same. foreign.temporary (114 ∷ 101 ∷ 99 ∷ 50 ∷ 47 ∷ hash_text p.name, same)) foreign.stamp.not_folder foreign.stored;
     stored = finishes.stored;
     honest = elim finishes.stamp [ inl same ↦ inr (inl (same ∙ none)) | inr is ↦ inr (inr is) ];
   }
@@ -199,7 +202,8 @@ module _ (p : Publication) (held old new : Store) (finishes : Finishes p old new
   pub finishes_staged : KeepsStaged p old new
   finishes_staged = record {
     temporary = λ q below no_old no_stamp no_record. let rest = 109 ∷ 112 ∷ 47 ∷ below.0 in finishes.others q no_stamp no_record (not_stamp p 116 rest q below.1 (differ 116 115 refl)) (λ new_one. not_record p 116 rest q below.1 (differ 116 114 refl));
-    records = λ q below ne. let rest = 101 ∷ 99 ∷ 47 ∷ below.0 in finishes.others q (not_staged p 114 rest q below.1 (differ 114 116 refl)) (not_staged_record p 114 rest q below.1 (differ 114 116 refl)) (not_stamp p 114 rest q below.1 (differ 114 115 refl)) (λ new_one. ne);
+    records = λ q below ne. let rest = 101 ∷ 99 ∷ 50 ∷ 47 ∷ below.0 in finishes.others q (not_staged p 114 rest q below.1 (differ 114 116 refl)) (not_staged_record p 114 rest q below.1 (differ 114 116 refl)) (not_stamp p 114 rest q below.1 (differ 114 115 refl)) (λ new_one. ne);
+    keys = λ q below ne. finishes_at 107 (101 ∷ 121 ∷ 47 ∷ below.0) q below.1 (differ 107 116 refl) (differ 107 115 refl) (differ 107 114 refl);
   }
 
 pub finishes_is_publishing : FinishesIsPublishing

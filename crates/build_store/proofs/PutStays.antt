@@ -8,7 +8,7 @@ use Rattle.outside_traits.specs.Store.{HoldsTree, IsApart, Store}
 use Rattle.outside_traits.proofs.Folders.{under_same}
 use Rattle.stamp_store.specs.Stamp.{old_path, staged_path}
 use Rattle.store_model.specs.Available.{object_folder}
-use Rattle.store_model.specs.Paths.{record_path}
+use Rattle.store_model.specs.Paths.{key_path, record_path}
 use Rattle.store_model.specs.Publication.{Publication}
 use Rattle.store_opening.specs.Paths.{staged_record_path}
 use Rattle.store_opening.proofs.Areas.{differ}
@@ -42,11 +42,12 @@ areas i x y xs ys at_x at_y ne same = ne (sym at_x ∙ ap (λ (l : List ℕ). ge
 pub others_keep_put : OthersKeepPut
 others_keep_put p r held old new apart first did = record {
   folders = folders_kept p r held old new apart first did.others;
-  staged_record = did.staged.temporary (staged_record_path p.name) (114 ∷ 101 ∷ 99 ∷ 47 ∷ hash_text p.name, refl)
+  staged_record = did.staged.temporary (staged_record_path p.name) (114 ∷ 101 ∷ 99 ∷ 50 ∷ 47 ∷ hash_text p.name, refl)
       (areas 4 114 111 (staged_record_path p.name) (old_path r.folder) refl refl (differ 114 111 refl))
       (λ same. staged_differ r.folder p.name (sym same))
-      (λ same. apart.names (sym (ap (inside (codes "rec")) (under_same (codes "tmp/rec") (hash_text p.name) (hash_text r.name) same))));
+      (λ same. apart.names (sym (ap (inside (codes "rec2")) (under_same (codes "tmp/rec2") (hash_text p.name) (hash_text r.name) same))));
   record_at = did.staged.records (record_path p.name) (hash_text p.name, refl) (λ same. apart.names (sym same));
+  key = did.staged.keys (key_path p.key) (hash_text p.key, refl) (λ writes same. apart.keys writes (sym same));
   staged_stamp = did.staged.temporary (staged_path p.folder) (115 ∷ 116 ∷ 97 ∷ 109 ∷ 112 ∷ 47 ∷ p.folder, refl)
       (areas 4 115 111 (staged_path p.folder) (old_path r.folder) refl refl (differ 115 111 refl))
       (λ same. apart.folders.not_folder (under_same (codes "tmp/stamp") p.folder r.folder same))

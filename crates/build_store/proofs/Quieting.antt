@@ -15,12 +15,13 @@ use Rattle.outside_traits.proofs.Runs.{each_now, passes_at, passes_so}
 use Rattle.meta_model.specs.CleanBuild.{Entries}
 use Rattle.stamp_store.specs.Stamp.{TakesAway, stamp_path, staged_path}
 use Rattle.store_model.specs.Available.{object_folder}
-use Rattle.store_model.specs.Paths.{record_path}
+use Rattle.store_model.specs.Paths.{key_path, record_path}
 use Rattle.store_opening.specs.Paths.{staged_record_path}
 use Rattle.build_store.specs.Calls.{FreesStamp}
+use Rattle.build_store.specs.Keys.{text_key, text_key_file}
 use Rattle.build_store.specs.Phases.{Lays, Stages, put_of}
 use Rattle.build_store.specs.Publication.{IsForeign, IsPublished, Publishes}
-use Rattle.store_model.specs.Publication.{Publication, stamp_at, stamp_file, work_at}
+use Rattle.store_model.specs.Publication.{stamp_at, stamp_file, work_at, Publication}
 use Rattle.store_opening.proofs.Areas.{differ, heads_differ, tree_stays}
 use Rattle.build_store.proofs.Phasing.{lays_elsewhere}
 use Rattle.build_store.proofs.Piecing.{frees_keeps}
@@ -37,9 +38,9 @@ not_temporary c ps ne below = heads_differ ne below.1
 pub move_keeps : (c d e : ℕ) (ps rs qs : List ℕ) (x : Option Entry) (i j : Store) → c ≢ d → c ≢ e → Moves (d ∷ ps) (e ∷ rs) x i j → j (c ∷ qs) ≡ i (c ∷ qs)
 move_keeps c d e ps rs qs x i j from to move = move.others (c ∷ qs) (heads_differ from) (heads_differ to)
 
-module _ (folder : List ℕ) (name : Hash) (tree : Entries) (object : Option Hash) (file : Option Entry) (f : Entry) where
+module _ (folder : List ℕ) (name : Hash) (tree : Entries) (object : Option Hash) (file : Option Entry) (f : Entry) (text : List ℕ) where
   abbrev P : Publication
-  P = put_of folder name tree object file f
+  P = put_of folder name tree object file f text
 
   abbrev NoStamp : Store → Type 0
   NoStamp i = i (stamp_at folder) ≡ None
@@ -59,34 +60,38 @@ module _ (folder : List ℕ) (name : Hash) (tree : Entries) (object : Option Has
   -- what happens while the stamp is away
   pub record IsQuiet (j k : Store) : Type 0 where
     pub others : (q : List ℕ) → IsForeign P q → k q ≡ j q
-    pub stored : (k (record_path name) ≡ j (record_path name)) ⊎ ((is_some file ≡ true) × (k (record_path name) ≡ Some f))
+    pub stored : (k (record_path name) ≡ j (record_path name)) ⊎ ((is_some file ≡ true) × (k (record_path name) ≡ Some f) × (k (key_path (text_key text)) ≡ Some (text_key_file text)))
+    pub key : k (key_path (text_key text)) ≡ j (key_path (text_key text))
     pub stamp : k (stamp_at folder) ≡ j (stamp_at folder)
 
   quiet_lays : (j k : Store) → Lays folder object j k → IsQuiet j k
   quiet_lays j k lays = record {
     others = λ q foreign. lays.others q foreign.work foreign.shared;
-    stored = inl (lays_elsewhere folder object j k 114 (101 ∷ 99 ∷ 47 ∷ hash_text name) (differ 114 119 refl) (differ 114 111 refl) lays);
+    stored = inl (lays_elsewhere folder object j k 114 (101 ∷ 99 ∷ 50 ∷ 47 ∷ hash_text name) (differ 114 119 refl) (differ 114 111 refl) lays);
+    key = lays_elsewhere folder object j k 107 (101 ∷ 121 ∷ 47 ∷ hash_text (text_key text)) (differ 107 119 refl) (differ 107 111 refl) lays;
     stamp = lays_elsewhere folder object j k 115 (116 ∷ 97 ∷ 109 ∷ 112 ∷ 47 ∷ folder) (differ 115 119 refl) (differ 115 111 refl) lays;
   }
 
   quiet_freeing : (h j k : Store) → FreesStamp folder h j k → IsQuiet j k
   quiet_freeing h j k frees = record {
     others = λ q foreign. frees.others q (λ way. elim way [ inl up ↦ foreign.stamp.not_above up | inr down ↦ foreign.stamp.not_under down ]);
-    stored = inl (frees_there folder h j k 114 (record_path name) (differ 114 115 refl) (101 ∷ 99 ∷ 47 ∷ hash_text name, refl) frees);
+    stored = inl (frees_there folder h j k 114 (record_path name) (differ 114 115 refl) (101 ∷ 99 ∷ 50 ∷ 47 ∷ hash_text name, refl) frees);
+    key = frees_there folder h j k 107 (key_path (text_key text)) (differ 107 115 refl) (101 ∷ 121 ∷ 47 ∷ hash_text (text_key text), refl) frees;
     stamp = frees_keeps folder h j k frees;
   }
 
-  quiet_stages : ((e : Entry) → file ≡ Some e → e ≡ f) → (j k : Store) → Stages name file j k → IsQuiet j k
+  quiet_stages : ((e : Entry) → file ≡ Some e → ⊥) → (j k : Store) → Stages name file j k → IsQuiet j k
   quiet_stages is j k stages = record {
     others = λ q foreign. stages.others q foreign.temporary (λ some. foreign.stored some);
-    stored = ⊎_elim (λ same. inl same) (λ new. inr (ap is_some new.1, new.2 ∙ ap (λ e. Some e) (is new.0 new.1))) stages.stored;
+    stored = ⊎_elim (λ same. inl same) (λ new. absurd (is new.0 new.1)) stages.stored;
+    key = stages.others (key_path (text_key text)) (not_temporary 107 (101 ∷ 121 ∷ 47 ∷ hash_text (text_key text)) (differ 107 116 refl)) (λ some. heads_differ (differ 107 114 refl));
     stamp = stages.others (stamp_at folder) (not_temporary 115 (116 ∷ 97 ∷ 109 ∷ 112 ∷ 47 ∷ folder) (differ 115 116 refl)) (λ some. heads_differ (differ 115 114 refl));
   }
 
   late : (i j k : Store) → Publishes P i j → NoStamp j → IsQuiet j k → Publishes P i k
   late i j k was none quiet = record {
     others = λ q foreign. quiet.others q foreign ∙ was.others q foreign;
-    stored = ⊎_elim (λ same. ⊎_elim (λ as_was. inl (same ∙ as_was)) (λ new. inr (new.0, same ∙ new.1)) was.stored) (λ new. inr new) quiet.stored;
+    stored = ⊎_elim (λ same. ⊎_elim (λ as_was. inl (same ∙ as_was)) (λ new. inr (new.0, same ∙ new.1, quiet.key ∙ new.2)) was.stored) (λ new. inr new) quiet.stored;
     honest = inr (inl (quiet.stamp ∙ none));
   }
 
@@ -110,7 +115,7 @@ module _ (folder : List ℕ) (name : Hash) (tree : Entries) (object : Option Has
   pub freeing_run : {a b c : Story} (h : Store) → IsSound b → Quiets a b → Passes b c (FreesStamp folder h) → Quiets a c
   freeing_run h sound quiets run = quiet_more sound (quiet_freeing h) quiets run
 
-  pub stages_run : {a b c : Story} → ((e : Entry) → file ≡ Some e → e ≡ f) → IsSound b → Quiets a b → Passes b c (Stages name file) → Quiets a c
+  pub stages_run : {a b c : Story} → ((e : Entry) → file ≡ Some e → ⊥) → IsSound b → Quiets a b → Passes b c (Stages name file) → Quiets a c
   stages_run is sound quiets run = quiet_more sound (quiet_stages is) quiets run
 
   -- ---- the stamp comes last
@@ -120,11 +125,13 @@ module _ (folder : List ℕ) (name : Hash) (tree : Entries) (object : Option Has
     pub work : HoldsTree (work_at folder) tree i
     pub shared : (unihash : Hash) → object ≡ Some unihash → HoldsTree (object_folder unihash) tree i
     pub stored : i (record_path name) ≡ Some f
+    pub key : i (key_path (text_key text)) ≡ Some (text_key_file text)
 
   pub published_by : (x : Option Entry) (j k : Store) → IsReady j → Moves (staged_path folder) (stamp_path folder) x j k → k (stamp_at folder) ≡ Some (stamp_file name) → IsPublished P k
   published_by x j k ready move stamped = record {
     stamp = stamped;
-    stored = move_keeps 114 116 115 (109 ∷ 112 ∷ 47 ∷ 115 ∷ 116 ∷ 97 ∷ 109 ∷ 112 ∷ 47 ∷ folder) (116 ∷ 97 ∷ 109 ∷ 112 ∷ 47 ∷ folder) (101 ∷ 99 ∷ 47 ∷ hash_text name) x j k (differ 114 116 refl) (differ 114 115 refl) move ∙ ready.stored;
+    stored = move_keeps 114 116 115 (109 ∷ 112 ∷ 47 ∷ 115 ∷ 116 ∷ 97 ∷ 109 ∷ 112 ∷ 47 ∷ folder) (116 ∷ 97 ∷ 109 ∷ 112 ∷ 47 ∷ folder) (101 ∷ 99 ∷ 50 ∷ 47 ∷ hash_text name) x j k (differ 114 116 refl) (differ 114 115 refl) move ∙ ready.stored;
+    key = move_keeps 107 116 115 (109 ∷ 112 ∷ 47 ∷ 115 ∷ 116 ∷ 97 ∷ 109 ∷ 112 ∷ 47 ∷ folder) (116 ∷ 97 ∷ 109 ∷ 112 ∷ 47 ∷ folder) (101 ∷ 121 ∷ 47 ∷ hash_text (text_key text)) x j k (differ 107 116 refl) (differ 107 115 refl) move ∙ ready.key;
     work = tree_stays 119 (111 ∷ 114 ∷ 107 ∷ 47 ∷ folder) tree j k (differ 119 47 refl) (λ qs. move_keeps 119 116 115 (109 ∷ 112 ∷ 47 ∷ 115 ∷ 116 ∷ 97 ∷ 109 ∷ 112 ∷ 47 ∷ folder) (116 ∷ 97 ∷ 109 ∷ 112 ∷ 47 ∷ folder) qs x j k (differ 119 116 refl) (differ 119 115 refl) move) ready.work;
     shared = λ unihash is. tree_stays 111 (98 ∷ 106 ∷ 47 ∷ hash_text unihash) tree j k (differ 111 47 refl) (λ qs. move_keeps 111 116 115 (109 ∷ 112 ∷ 47 ∷ 115 ∷ 116 ∷ 97 ∷ 109 ∷ 112 ∷ 47 ∷ folder) (116 ∷ 97 ∷ 109 ∷ 112 ∷ 47 ∷ folder) qs x j k (differ 111 116 refl) (differ 111 115 refl) move) (ready.shared unihash is);
   }
@@ -132,12 +139,15 @@ module _ (folder : List ℕ) (name : Hash) (tree : Entries) (object : Option Has
   last : (x : Option Entry) (i j k : Store) → x ≡ Some (stamp_file name) → Publishes P i j → NoStamp j → IsReady j → Moves (staged_path folder) (stamp_path folder) x j k → Publishes P i k
   last x i j k is was none ready move = record {
     others = λ q foreign. move.others q (λ same. foreign.temporary (inside (codes "stamp") folder, same)) foreign.stamp.not_folder ∙ was.others q foreign;
-    stored = ⊎_elim (λ as_was. inl (kept ∙ as_was)) (λ new. inr (new.0, kept ∙ new.1)) was.stored;
+    stored = ⊎_elim (λ as_was. inl (kept ∙ as_was)) (λ new. inr (new.0, kept ∙ new.1, key_kept ∙ new.2)) was.stored;
     honest = ⊎_elim (λ same. inr (inl (same ∙ none))) (λ new. inr (inr (published_by x j k ready move (new ∙ is)))) move.target;
   }
     where
       kept : k (record_path name) ≡ j (record_path name)
       kept = move.others (record_path name) (heads_differ (differ 114 116 refl)) (heads_differ (differ 114 115 refl))
+
+      key_kept : k (key_path (text_key text)) ≡ j (key_path (text_key text))
+      key_kept = move.others (key_path (text_key text)) (heads_differ (differ 107 116 refl)) (heads_differ (differ 107 115 refl))
 
   pub record IsLast (i : Store) : Type 0 where
     pub none : NoStamp i

@@ -9,15 +9,16 @@ use Rattle.outside_traits.specs.Story.{IsSound, Story}
 use Rattle.outside_traits.proofs.Images.{held-image}
 use Rattle.outside_traits.proofs.Runs.{passes_so, passes_then}
 use Rattle.stamp_store.specs.Stamp.{staged_path}
-use Rattle.store_model.specs.Paths.{record_path}
-use Rattle.store_model.specs.Publication.{Publication, stamp_at}
+use Rattle.store_model.specs.Paths.{key_path, record_path}
+use Rattle.store_model.specs.Publication.{stamp_at, Publication}
 use Rattle.store_opening.specs.Paths.{staged_record_path}
 use Rattle.store_opening.proofs.Areas.{differ, heads_differ}
 use Rattle.build_store.specs.Calls.{Finishes, FreesStamp, KeepsBut, MovesOnly}
 use Rattle.build_store.specs.Ending.{IsAt, KeepsPut}
 use Rattle.build_store.specs.OpenOnes.{KeepsEntries}
 use Rattle.build_store.specs.Pieces.{IsPublishing}
-use Rattle.build_store.proofs.GoingRuns.{finishes_publish, in_a_row, unstamped_at}
+use Rattle.build_store.specs.Publication.{settled}
+use Rattle.build_store.proofs.GoingRuns.{finishes_publish, finishes_settled, in_a_row, unstamped_at}
 use Rattle.build_store.proofs.PhaseSteps.{folders_by, phases_stay}
 use Rattle.build_store.proofs.Piecing.{finishes_at, frees_keeps, freeing_is_publishing}
 use Rattle.build_store.proofs.Rounding.{frees_there}
@@ -31,8 +32,9 @@ module _ (p : Publication) (folder : List ℕ) (own : p.folder ≡ folder) where
   freeing_keeps_put : (held i j : Store) → FreesStamp folder held i j → KeepsPut p i j
   freeing_keeps_put held i j frees = record {
     folders = folders_by p i j (λ qs. frees_there folder held i j 119 (119 ∷ qs) (differ 119 115 refl) (qs, refl) frees) (λ qs. frees_there folder held i j 111 (111 ∷ qs) (differ 111 115 refl) (qs, refl) frees);
-    staged_record = frees_there folder held i j 116 (staged_record_path p.name) (differ 116 115 refl) (109 ∷ 112 ∷ 47 ∷ 114 ∷ 101 ∷ 99 ∷ 47 ∷ hash_text p.name, refl) frees;
-    record_at = frees_there folder held i j 114 (record_path p.name) (differ 114 115 refl) (101 ∷ 99 ∷ 47 ∷ hash_text p.name, refl) frees;
+    staged_record = frees_there folder held i j 116 (staged_record_path p.name) (differ 116 115 refl) (109 ∷ 112 ∷ 47 ∷ 114 ∷ 101 ∷ 99 ∷ 50 ∷ 47 ∷ hash_text p.name, refl) frees;
+    record_at = frees_there folder held i j 114 (record_path p.name) (differ 114 115 refl) (101 ∷ 99 ∷ 50 ∷ 47 ∷ hash_text p.name, refl) frees;
+    key = frees_there folder held i j 107 (key_path p.key) (differ 107 115 refl) (101 ∷ 121 ∷ 47 ∷ hash_text p.key, refl) frees;
     staged_stamp = frees_there folder held i j 116 (staged_path p.folder) (differ 116 115 refl) (109 ∷ 112 ∷ 47 ∷ 115 ∷ 116 ∷ 97 ∷ 109 ∷ 112 ∷ 47 ∷ p.folder, refl) frees;
     stamp = frees_keeps p.folder held i j (frees_own held i j frees);
   }
@@ -51,7 +53,7 @@ module _ (p : Publication) (folder : List ℕ) (own : p.folder ≡ folder) where
   stamp_publishes {a} {b} {c} k sound sound_b is first second =
       let gone = unstamped_at p a k is in
       let gone_b = unstamped_at p b k (freed_at k first is) in
-      in_a_row p a b c sound_b gone_b (freeing_publishes sound gone first) (finishes_publish p sound_b gone_b second)
+      in_a_row p a b c sound_b gone_b (freeing_publishes sound gone first) (finishes_publish (settled p) sound_b gone_b (passes_so (Finishes (settled p)) second (finishes_settled p)))
 
   pub freeing_entries : {a b : Story} → Passes a b (FreesStamp folder a.held) → Passes a b (KeepsEntries p a.held)
   freeing_entries {a} run = passes_so (KeepsEntries p a.held) run (λ i j frees. record {

@@ -1,5 +1,5 @@
 -- What is in the way of a stamp goes.
-use Rattle.std.proofs.Common.{◌≡◌, ◌∙◌, sym, ap, subst, refl, ℕ, ◌⊎◌, inl, inr, List, [], ◌∷◌, Option, Some, None, append_assoc}
+use Rattle.std.proofs.Common.{◌≡◌, ◌∙◌, sym, ap, subst, refl, ℕ, ◌⊎◌, inl, inr, List, [], ◌∷◌, Option, Some, None, append_assoc, arith}
 use Rattle.std.specs.Prelude.{Contains, IsSome}
 use Rattle.std.specs.Option.{is_some}
 use Rattle.std.proofs.lemmas.Bool.{false≢true}
@@ -59,6 +59,13 @@ module _ (path prefix : List ℕ) (paths : List (List ℕ)) (a b c : Story) (is 
       by : (o : Option Entry) → a.held q ≡ o → c.held q ≡ None
       by None e = takes.held.others q (λ has. held_none a.held q e (here.are_held q has).1) ∙ ap (λ (h : Store). h q) same.held ∙ e
       by (Some x) e = gone q (here.all q (down.0, down.1 ∙ sym (append_assoc path (47 ∷ []) down.0)) (ap is_some e))
+
+-- where nothing is held below a path nothing is listed
+pub none_listed : (path prefix : List ℕ) (paths : List (List ℕ)) (held : Store) → prefix ≡ inside path [] → IsListing prefix held paths → ((q : List ℕ) → IsBelow path q → held q ≡ None) → paths ≡ []
+none_listed path prefix [] held is listing none = refl
+none_listed path prefix (p ∷ paths) held is listing none =
+    let listed = (subst (λ (q : List ℕ). IsListing q held (p ∷ paths)) is listing).are_held p (0, omega arith, refl) in
+    absurd (held_none held p (none p (listed.0.0, listed.0.1 ∙ append_assoc path (47 ∷ []) listed.0.0)) listed.1)
 
 -- ---- what is in the way of a stamp
 

@@ -19,7 +19,7 @@ use Rattle.store_model.specs.Rows.{hash_eq, is_row_for, row_at}
 use Rattle.store_model.specs.Signatures.{Signed}
 use Rattle.store_model.specs.Spelling.{name_of}
 use Rattle.build_store.specs.Publication.{KeepsOthers, publication}
-use Rattle.store_model.specs.Publication.{Publication, stamp_at, work_at}
+use Rattle.store_model.specs.Publication.{stamp_at, work_at, Publication}
 use Rattle.build_store.specs.Halves.{IsAside}
 use Rattle.build_store.proofs.AsideRuns.{noted_same}
 use Rattle.build_store.proofs.FoldersStay.{open_far, open_in, path_far, path_in}

@@ -18,25 +18,25 @@ use Rattle.store_model.specs.declared.signature.SigRecord.{SigRecord}
 use Rattle.store_model.specs.Recording.{recorded}
 use Rattle.store_model.specs.Rows.{hash_eq, hash_or, is_row_for, row_at, unihash_or}
 use Rattle.store_model.specs.Signatures.{Signed}
-use Rattle.store_model.specs.Spelling.{name_of}
-use Rattle.store_model.proofs.Digests.{same_name_text}
+use Rattle.store_model.specs.Spelling.{name_of, short_name}
 use Rattle.store_model.proofs.Listing.{find_nothing, find_splits, hash_itself}
 use Rattle.store_model.proofs.Ordered.{each_append, each_middle}
 use Rattle.store_opening.specs.Named.{IsName}
 use Rattle.store_opening.specs.Paths.{IsLaidOut}
-use Rattle.store_model.specs.Paths.{record_path}
+use Rattle.store_model.specs.Paths.{key_path, record_path}
 use Rattle.store_model.specs.Publication.{Publication}
-use Rattle.build_store.specs.Publication.{Publishes, object_for, publication, unihash_for}
+use Rattle.build_store.specs.Publication.{IsForeign, Publishes, object_for, publication, unihash_for}
 use Rattle.store_model.specs.Readable.{IsHeld, IsRow}
 use Rattle.store_opening.specs.Sound.{IsKept}
 use Rattle.store_opening.proofs.Areas.{apart_by_first, differ, heads_differ}
-use Rattle.store_opening.proofs.Clean.{hash_is_name, name_is_name}
+use Rattle.store_opening.proofs.Clean.{hash_is_name, name_is_name, short_is_name}
+use Rattle.build_store.proofs.Digests.{same_digest}
 use Rattle.build_store.proofs.Rows.{row_has}
 
 -- ---- unihashes are digests
 
 row_unihash : (row : EquivRow) → IsRow row → IsName row.unihash
-row_unihash row known = hash_is_name row.unihash (subst (λ (h : Hash). IsHash h) (ap (λ r. r.unihash) (sym known.is)) known.spelled.sound.unihash)
+row_unihash row known = hash_is_name row.unihash (subst (λ (h : Hash). IsHash h) (ap (λ r. r.unihash) (sym known.is)) known.spelled.unihash)
 
 pub unihash_name : (rows : List EquivRow) (s : Signed) (tree : Entries) → AllByRecursion IsRow rows → IsName (unihash_for rows s tree)
 unihash_name rows s tree all = by (row_at rows (name_of s.sig)) refl
@@ -60,7 +60,7 @@ object_name rows s tree all unihash is = by s.task.sstate is
 
 -- ---- records stay
 
-each_both : {A : Type 0} (P Q R : A → Type 0) (xs : List A) → AllByRecursion P xs → AllByRecursion Q xs → ((x : A) → P x → Q x → R x) → AllByRecursion R xs
+pub each_both : {A : Type 0} (P Q R : A → Type 0) (xs : List A) → AllByRecursion P xs → AllByRecursion Q xs → ((x : A) → P x → Q x → R x) → AllByRecursion R xs
 each_both P Q R [] p q both = tt
 each_both P Q R (x ∷ xs) p q both = (both x p.0 q.0, each_both P Q R xs p.1 q.1 both)
 
@@ -79,29 +79,42 @@ others_are rows sig all = by (row_at rows (name_of sig)) refl
     by (Some row) e = old row rows
     by None e = each_both IsRow (λ r. hash_eq r.name (name_of sig) ≡ false) (IsOther true (name_of sig)) rows all (find_nothing (λ r. hash_eq r.name (name_of sig)) rows e)
         (λ row known not new same.
-        let text : hash_text row.name ≡ hash_text (name_of sig) = under_same (codes "rec") (hash_text row.name) (hash_text (name_of sig)) same in
-        let name : row.name ≡ name_of known.stored.sig = ap (λ r. r.name) known.is in
-        let equal : row.name ≡ name_of sig = name ∙ same_name_text known.stored.sig sig (ap hash_text (sym name) ∙ text) in
+        let text : hash_text row.name ≡ hash_text (name_of sig) = under_same (codes "rec2") (hash_text row.name) (hash_text (name_of sig)) same in
+        let name : row.name ≡ short_name known.stored.sig = ap (λ r. r.name) known.is in
+        let equal : row.name ≡ name_of sig = name ∙ same_digest (short_name known.stored.sig) (name_of sig) (short_is_name known.stored.sig) (name_is_name sig) (ap hash_text (sym name) ∙ text) in
         false≢true (sym not ∙ hash_itself row.name (name_of sig) equal))
 
--- each record that isn't the publication's own stays
-pub held_stays : (p : Publication) (rows : List EquivRow) (i k : Store) → AllByRecursion (IsOther p.is_new p.name) rows → Publishes p i k → AllByRecursion (IsHeld i) rows → AllByRecursion (IsHeld k) rows
-held_stays p rows i k others publishes all = each_both (IsHeld i) (IsOther p.is_new p.name) (IsHeld k) rows all others (λ row h other. record {
+-- a key that isn't written is foreign to a publication
+pub foreign_key_path : (p : Publication) (name : Hash) → (p.writes_key ≡ true → key_path name ≢ key_path p.key) → IsForeign p (key_path name)
+foreign_key_path p name other = record {
+  temporary = λ below. heads_differ (differ 107 116 refl) below.1;
+  work = apart_by_first (101 ∷ 121 ∷ 47 ∷ hash_text name) (111 ∷ 114 ∷ 107 ∷ 47 ∷ p.folder) (differ 107 119 refl);
+  stamp = apart_by_first (101 ∷ 121 ∷ 47 ∷ hash_text name) (116 ∷ 97 ∷ 109 ∷ 112 ∷ 47 ∷ p.folder) (differ 107 115 refl);
+  stored = λ new. heads_differ (differ 107 114 refl);
+  key = other;
+  shared = λ unihash is. apart_by_first (101 ∷ 121 ∷ 47 ∷ hash_text name) (98 ∷ 106 ∷ 47 ∷ hash_text unihash) (differ 107 111 refl);
+}
+
+-- each record that isn't the publication's own stays, and its key, where none is written
+pub held_stays : (p : Publication) (rows : List EquivRow) (i k : Store) → p.writes_key ≡ false → AllByRecursion (IsOther p.is_new p.name) rows → Publishes p i k → AllByRecursion (IsHeld i) rows → AllByRecursion (IsHeld k) rows
+held_stays p rows i k no_key others publishes all = each_both (IsHeld i) (IsOther p.is_new p.name) (IsHeld k) rows all others (λ row h other. record {
   known = h.known;
   held = publishes.others (record_path row.name) (record {
     temporary = λ below. heads_differ (differ 114 116 refl) below.1;
-    work = apart_by_first (101 ∷ 99 ∷ 47 ∷ hash_text row.name) (111 ∷ 114 ∷ 107 ∷ 47 ∷ p.folder) (differ 114 119 refl);
-    stamp = apart_by_first (101 ∷ 99 ∷ 47 ∷ hash_text row.name) (116 ∷ 97 ∷ 109 ∷ 112 ∷ 47 ∷ p.folder) (differ 114 115 refl);
+    work = apart_by_first (101 ∷ 99 ∷ 50 ∷ 47 ∷ hash_text row.name) (111 ∷ 114 ∷ 107 ∷ 47 ∷ p.folder) (differ 114 119 refl);
+    stamp = apart_by_first (101 ∷ 99 ∷ 50 ∷ 47 ∷ hash_text row.name) (116 ∷ 97 ∷ 109 ∷ 112 ∷ 47 ∷ p.folder) (differ 114 115 refl);
     stored = other;
-    shared = λ unihash is. apart_by_first (101 ∷ 99 ∷ 47 ∷ hash_text row.name) (98 ∷ 106 ∷ 47 ∷ hash_text unihash) (differ 114 111 refl);
+    key = λ writes. heads_differ (differ 114 107 refl);
+    shared = λ unihash is. apart_by_first (101 ∷ 99 ∷ 50 ∷ 47 ∷ hash_text row.name) (98 ∷ 106 ∷ 47 ∷ hash_text unihash) (differ 114 111 refl);
   }) ∙ h.held;
+  key_held = publishes.others (key_path h.known.stored.sig.key) (foreign_key_path p h.known.stored.sig.key (λ writes. absurd (false≢true (sym no_key ∙ writes)))) ∙ h.key_held;
 })
 
 module _ (rows : List EquivRow) (s : Signed) (tree : Entries) (all : AllByRecursion IsRow rows) where
   pub kept_after : (a b : Story) → IsKept rows a → Passes a b (Publishes (publication rows s tree)) → IsLaidOut b.held → IsKept rows b
   kept_after a b was run laid = record {
     laid_out = laid;
-    stored = each_now (λ i. AllByRecursion (IsHeld i) rows) (λ k. AllByRecursion (IsHeld k) rows) was.stored run (λ i k held publishes. held_stays (publication rows s tree) rows i k (others_are rows s.sig all) publishes held);
+    stored = each_now (λ i. AllByRecursion (IsHeld i) rows) (λ k. AllByRecursion (IsHeld k) rows) was.stored run (λ i k held publishes. held_stays (publication rows s tree) rows i k refl (others_are rows s.sig all) publishes held);
   }
 
 -- and one more

@@ -11,7 +11,7 @@ use Rattle.outside_traits.proofs.Images.{above-image, held-image}
 use Rattle.outside_traits.proofs.Puts.{path_cases}
 use Rattle.outside_traits.proofs.Runs.{passes_so, passes_then}
 use Rattle.store_model.specs.Available.{object_folder}
-use Rattle.store_model.specs.Publication.{Publication, stamp_at, work_at}
+use Rattle.store_model.specs.Publication.{stamp_at, work_at, Publication}
 use Rattle.store_opening.specs.Paths.{IsLaidOut}
 use Rattle.build_store.specs.Calls.{Works}
 use Rattle.build_store.specs.Halves.{IsHalf}

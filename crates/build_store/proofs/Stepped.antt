@@ -1,12 +1,12 @@
 -- A step of one of those that are open.
 use Rattle.std.proofs.Common.{◌≡◌, ◌≢◌, ◌∙◌, sym, ap, subst, refl, ℕ, ◌+◌, ◌<◌, List, [], ◌∷◌, ◌++◌, length, get_or, set, take, drop, Some, None, arith, add-one, length-append}
 use Rattle.std.specs.List.{AllByRecursion}
-use Rattle.outside_traits.specs.Passes.{EachNow, Passes}
+use Rattle.outside_traits.specs.Passes.{EachNow, IsBrief, Passes}
 use Rattle.outside_traits.specs.Story.{IsSound, Story}
 use Rattle.meta_model.specs.CleanBuild.{Entries}
 use Rattle.store_model.specs.declared.signature.EquivRow.{EquivRow}
 use Rattle.store_model.specs.Available.{task_folder}
-use Rattle.store_model.specs.Paths.{slashes}
+use Rattle.outside_traits.specs.Store.{slashes}
 use Rattle.store_model.specs.Publication.{Publication}
 use Rattle.store_model.specs.Readable.{IsRow}
 use Rattle.store_model.specs.Signatures.{Signed}
@@ -15,6 +15,8 @@ use Rattle.sig_gen.specs.Sound.{Spells}
 use Rattle.build_store.specs.declared.pieces.OpenPublication.{OpenPublication}
 use Rattle.build_store.specs.declared.pieces.Reached.{Reached}
 use Rattle.build_store.specs.Halves.{IsOn}
+use Rattle.build_store.specs.Calls.{HasFreeStamp}
+use Rattle.build_store.specs.Keys.{KnowsKeyOf}
 use Rattle.build_store.specs.OpenOnes.{KeepsEntries, Sweeps, at_next, progress_of}
 use Rattle.build_store.specs.OpenTasks.{IsOpenOf}
 use Rattle.build_store.specs.declared.step.Step.{Step}
@@ -22,10 +24,11 @@ use Rattle.build_store.specs.declared.step.Step.TheVariants as step
 use Rattle.build_store.specs.Openings.{ClosesOne, GoesOn, IsGoing, IsOpen, LandsOn, StepsTo, open_view}
 use Rattle.build_store.specs.Pieces.{IsPublishing}
 use Rattle.build_store.specs.Publication.{IsPublished, publication, rows_with}
-use Rattle.build_store.specs.Standing.{AreOn, AreOpen, IsBeside, IsFor, IsOpenTask, IsOther, IsTidy, StandsAt, Stands}
+use Rattle.build_store.specs.Standing.{AreOn, AreOpen, IsBeside, IsFor, IsOpenTask, IsOther, IsTidy, KnowsOpen, StandsAt, Stands}
 use Rattle.build_store.specs.View.{IsSignatureOf, OpenView, OpenViews, View, open_in, opened_at}
 use Rattle.build_store.proofs.Beside.{all_free_of, others_stand, own_of, publication_same}
 use Rattle.build_store.proofs.Closing.{stand_behind, tasks_behind}
+use Rattle.build_store.proofs.KnownSteps.{known_at, known_gone}
 use Rattle.build_store.proofs.Opened.{view_is}
 use Rattle.build_store.proofs.Several.{beside_of, beside_with, beside_without, drop_middle, each_of, each_with, each_without, others_of, take_middle, view_middle, view_next, view_none, view_without}
 use Rattle.build_store.proofs.Tidy.{tidy_done, tidy_next}
@@ -217,3 +220,14 @@ nothing_landed story rows opened s step.NotOpen is = tt
 nothing_landed story rows opened s step.More is = tt
 nothing_landed story rows opened s step.Wait is = tt
 nothing_landed story rows opened s (step.Done unihash) is = absurd is
+
+-- the bound on its calls, where nothing is held below the task's stamp
+pub here_brief : (s : Signed) (xs : List OpenPublication) (place : ℕ) → StandsAt s xs place → (x : OpenPublication) → x ≡ get_or xs place x → (a b : Story) → (HasFreeStamp x.folder a.held → IsBrief 128 a b) → HasFreeStamp (task_folder s.task) a.held → IsBrief 128 a b
+here_brief s xs place w x got a b brief free = brief (subst (λ (f : List ℕ). HasFreeStamp f a.held) (sym (here s xs place w x got).meant.folder) free)
+
+-- the keys that are known, of it and of those that are left
+pub gone_known : (s : Signed) (xs : List OpenPublication) (place : ℕ) → StandsAt s xs place → (x : OpenPublication) → x ≡ get_or xs place x → (ys : List OpenPublication) → ys ≡ take place xs ++ drop (place + 1) xs → (keys : List (List ℕ)) → KnowsOpen keys xs → KnowsKeyOf keys (signature_bytes s.sig) × KnowsOpen keys ys
+gone_known s xs place w x got ys by keys opened =
+    let h = here s xs place w x got in
+    let all = subst (KnowsOpen keys) h.is opened in
+    (subst (KnowsKeyOf keys) h.meant.sig (known_at keys h.before x h.after all), subst (KnowsOpen keys) (sym (left_without xs h.before x h.after place h.is h.place_is ys by)) (known_gone keys h.before x h.after all))

@@ -17,13 +17,12 @@ use Rattle.outside_traits.proofs.Puts.{path_cases}
 use Rattle.outside_traits.proofs.Runs.{each_now}
 use Rattle.meta_model.specs.CleanBuild.{Entries}
 use Rattle.store_model.specs.Available.{object_folder}
-use Rattle.store_model.specs.Publication.{Publication, stamp_at, work_at}
+use Rattle.store_model.specs.Publication.{stamp_at, work_at, Publication}
 use Rattle.store_opening.proofs.Areas.{differ}
 use Rattle.build_store.specs.Items.{Does, DoesItem, IsDue, IsItemOf, IsLaidBut, IsRight, IsWithin, IsWriting, Item, RemovalsFirst, path_of, removal, writing}
 use Rattle.build_store.specs.Pieces.{MayBeWritten, StepGoesOn, WholeAtLast}
-use Rattle.build_store.proofs.Around.{within_object, within_work}
+use Rattle.build_store.proofs.Around.{within_object, within_work, out_by_first}
 use Rattle.build_store.proofs.Piecing.{works_at}
-use Rattle.build_store.proofs.Around.{out_by_first}
 
 -- ---- lists
 

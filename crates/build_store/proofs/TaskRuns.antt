@@ -13,7 +13,7 @@ use Rattle.store_model.specs.Available.{task_folder}
 use Rattle.store_model.specs.Publication.{Publication}
 use Rattle.store_model.specs.Readable.{IsRow}
 use Rattle.store_model.specs.Signatures.{Signed}
-use Rattle.store_model.specs.Spelling.{signature_bytes}
+use Rattle.store_model.specs.Spelling.{name_of, signature_bytes}
 use Rattle.store_opening.specs.Paths.{IsLaidOut}
 use Rattle.store_opening.specs.Sound.{IsKept}
 use Rattle.build_store.specs.declared.drafting.Draft.{Draft}
@@ -24,6 +24,7 @@ use Rattle.build_store.specs.Drafts.{IsDraft, IsNewFor, file_of}
 use Rattle.build_store.specs.Items.{Item}
 use Rattle.build_store.specs.Halves.{IsOn, Progress}
 use Rattle.build_store.specs.OpenOnes.{IsFirst, IsFit, IsOnOrDone, KeepsEntries, LeadsTo, Suits, at_next, opened_by, progress_of, put_by}
+use Rattle.build_store.specs.Keys.{HoldsKeyOf}
 use Rattle.build_store.specs.OpenTasks.{IsOpenOf}
 use Rattle.build_store.specs.Phases.{IsFileOf, put_of}
 use Rattle.build_store.specs.Pieces.{IsPublishing}
@@ -44,20 +45,20 @@ first_suits o (reached.Stamped k) first = absurd first
 module _ (rows : List EquivRow) (s : Signed) (tree : Entries) where
   -- what it puts is the task's publication
   pub put_same : (o : OpenPublication) → IsOpenOf rows s tree o → put_by o (File rows s tree) ≡ publication rows s tree
-  put_same o is = (λ i. put_of (is.folder i) (is.name i) (is.gave i) (is.object i) (file_of o.new) (File rows s tree)) ∙ put_is rows s tree o.new is.new
+  put_same o is = (λ i. put_of (is.folder i) (is.name i) (is.gave i) (is.object i) (file_of o.new) (File rows s tree) (is.sig i)) ∙ put_is rows s tree o.new is.new
 
-  module _ (folder : List ℕ) (object : Option Hash) (draft : Draft) (folder_is : folder ≡ task_folder s.task) (object_is : object ≡ object_for rows s tree) (d : IsDraft rows s tree draft) where
-    drafted_same : put_of folder draft.name tree object (file_of draft.new) (File rows s tree) ≡ publication rows s tree
-    drafted_same = (λ i. put_of (folder_is i) (d.name i) tree (object_is i) (file_of draft.new) (File rows s tree)) ∙ put_is rows s tree draft.new d.new
+  module _ (folder : List ℕ) (object : Option Hash) (draft : Draft) (folder_is : folder ≡ task_folder s.task) (object_is : object ≡ object_for rows s tree) (d : IsDraft rows s tree draft) (text : draft.text ≡ signature_bytes s.sig) where
+    drafted_same : put_of folder draft.name tree object (file_of draft.new) (File rows s tree) draft.text ≡ publication rows s tree
+    drafted_same = (λ i. put_of (folder_is i) (d.name i) tree (object_is i) (file_of draft.new) (File rows s tree) (text i)) ∙ put_is rows s tree draft.new d.new
 
-    pub drafted_run : (a b : Story) → ((f : Entry) → Passes a b (IsPublishing (put_of folder draft.name tree object (file_of draft.new) f) a.held)) → Passes a b (IsPublishing (publication rows s tree) a.held)
+    pub drafted_run : (a b : Story) → ((f : Entry) → Passes a b (IsPublishing (put_of folder draft.name tree object (file_of draft.new) f draft.text) a.held)) → Passes a b (IsPublishing (publication rows s tree) a.held)
     drafted_run a b run = subst (λ (p : Publication). Passes a b (IsPublishing p a.held)) drafted_same (run (File rows s tree))
 
-    pub opened_of : draft.bytes ≡ signature_bytes s.sig → (one : OpenPublication) → ((extra : List (List ℕ)) × ((now : Reached) × IsFirst now × (one ≡ opened_by folder object draft tree extra now))) → IsFit one → IsOpenOf rows s tree one
-    opened_of bytes one w fit = record {
+    pub opened_of : (one : OpenPublication) → ((extra : List (List ℕ)) × ((now : Reached) × IsFirst now × (one ≡ opened_by folder object draft tree extra now))) → IsFit one → IsOpenOf rows s tree one
+    opened_of one w fit = record {
       folder = ap (λ (o : OpenPublication). o.folder) w.1.2 ∙ folder_is;
       name = ap (λ (o : OpenPublication). o.name) w.1.2 ∙ d.name;
-      sig = ap (λ (o : OpenPublication). o.sig) w.1.2 ∙ bytes;
+      sig = ap (λ (o : OpenPublication). o.sig) w.1.2 ∙ text;
       gave = ap (λ (o : OpenPublication). o.tree) w.1.2;
       unihash = ap (λ (o : OpenPublication). o.unihash) w.1.2 ∙ d.unihash;
       object = ap (λ (o : OpenPublication). o.object) w.1.2 ∙ object_is;
@@ -149,8 +150,10 @@ module _ (rows : List EquivRow) (s : Signed) (tree : Entries) (o : OpenPublicati
   pub own_on : (progress : Progress) (a : Story) → IsOn (publication rows s tree) progress a → IsOn (put_by o (File rows s tree)) progress a
   own_on progress a on = subst (λ (p : Publication). IsOn p progress a) (sym (put_same rows s tree o is)) on
 
-  pub own_file : (a : Story) → IsSound a → IsKept rows a → IsFileOf o.name (file_of o.new) a.held (File rows s tree)
-  own_file a sound kept = subst (λ (n : Hash). IsFileOf n (file_of o.new) a.held (File rows s tree)) (sym is.name) (file_is rows s tree a.held o.new is.new is.spells is.agrees (kept.stored a.held (held-image a sound)))
+  pub own_file : (a : Story) → IsSound a → IsKept rows a → HoldsKeyOf o.sig a.held → IsFileOf o.name (file_of o.new) o.sig a.held (File rows s tree)
+  own_file a sound kept has =
+      let file = file_is rows s tree a.held o.new is.new is.agrees (kept.stored a.held (held-image a sound)) (subst (λ (t : List ℕ). HoldsKeyOf t a.held) is.sig has) in
+      subst (λ (n : Hash). IsFileOf n (file_of o.new) o.sig a.held (File rows s tree)) (sym is.name) (subst (λ (t : List ℕ). IsFileOf (name_of s.sig) (file_of o.new) t a.held (File rows s tree)) (sym is.sig) file)
 
   pub own_done : (next : Option Reached) (items : List Item) (a : Story) → IsOnOrDone (put_by o (File rows s tree)) items next a → IsOnOrDone (publication rows s tree) items next a
   own_done next items a done = subst (λ (p : Publication). IsOnOrDone p items next a) (put_same rows s tree o is) done

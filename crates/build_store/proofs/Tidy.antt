@@ -11,8 +11,8 @@ use Rattle.outside_traits.proofs.Puts.{path_cases}
 use Rattle.outside_traits.proofs.Runs.{each_now}
 use Rattle.meta_model.proofs.Bools.{text_itself}
 use Rattle.stamp_store.specs.Stamp.{old_path, staged_path}
-use Rattle.store_model.specs.Paths.{slashes}
-use Rattle.store_model.specs.Publication.{Publication, stamp_at, stamp_file}
+use Rattle.outside_traits.specs.Store.{slashes}
+use Rattle.store_model.specs.Publication.{stamp_at, stamp_file, Publication}
 use Rattle.store_opening.specs.Paths.{staged_record_path}
 use Rattle.tree_model.specs.declared.hash.Hash.{Hash}
 use Rattle.build_store.specs.declared.pieces.OpenPublication.{OpenPublication}

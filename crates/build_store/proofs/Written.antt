@@ -9,7 +9,7 @@ use Rattle.tree_model.specs.Tree.{IsTree}
 use Rattle.tree_model.proofs.PathLemmas.{no_zero_in}
 use Rattle.stamp_store.specs.Stamp.{IsFolder}
 use Rattle.store_model.specs.Available.{object_folder}
-use Rattle.store_model.specs.Paths.{record_path}
+use Rattle.store_model.specs.Paths.{key_path, record_path}
 use Rattle.store_model.specs.Publication.{work_at}
 use Rattle.store_opening.specs.Named.{IsName}
 use Rattle.store_opening.specs.Paths.{staged_record_path}
@@ -24,8 +24,11 @@ work_clean = one_clean (codes "work") (record { not_empty = lit< tt; short = lit
 obj_clean : IsClean (codes "obj")
 obj_clean = one_clean (codes "obj") (record { not_empty = lit< tt; short = lit≤ tt; not_here = λ e. cc; not_above = λ e. cc; no_zero = λ has. no_zero_in (codes "obj") refl has }) refl
 
-rec_clean : IsClean (codes "rec")
-rec_clean = one_clean (codes "rec") (record { not_empty = lit< tt; short = lit≤ tt; not_here = λ e. cc; not_above = λ e. cc; no_zero = λ has. no_zero_in (codes "rec") refl has }) refl
+rec_clean : IsClean (codes "rec2")
+rec_clean = one_clean (codes "rec2") (record { not_empty = lit< tt; short = lit≤ tt; not_here = λ e. cc; not_above = λ e. cc; no_zero = λ has. no_zero_in (codes "rec2") refl has }) refl
+
+keys_clean : IsClean (codes "key")
+keys_clean = one_clean (codes "key") (record { not_empty = lit< tt; short = lit≤ tt; not_here = λ e. cc; not_above = λ e. cc; no_zero = λ has. no_zero_in (codes "key") refl has }) refl
 
 tmp_clean : IsClean (codes "tmp")
 tmp_clean = one_clean (codes "tmp") (record { not_empty = lit< tt; short = lit≤ tt; not_here = λ e. cc; not_above = λ e. cc; no_zero = λ has. no_zero_in (codes "tmp") refl has }) refl
@@ -33,18 +36,24 @@ tmp_clean = one_clean (codes "tmp") (record { not_empty = lit< tt; short = lit�
 -- ---- what is written
 
 pub record_clean : (name : Hash) → IsName name → IsClean (record_path name)
-record_clean name is = let len = name_text_length name is in clean_inside (codes "rec") (hash_text name) rec_clean (name_clean name is) (omega (arith, len, length-append (codes "rec") (47 ∷ hash_text name)))
+record_clean name is = let len = name_text_length name is in clean_inside (codes "rec2") (hash_text name) rec_clean (name_clean name is) (omega (arith, len, length-append (codes "rec2") (47 ∷ hash_text name)))
 
 pub record_short : (name : Hash) → IsName name → length (record_path name) ≤ 3600
-record_short name is = let len = name_text_length name is in omega (arith, len, length-append (codes "rec") (47 ∷ hash_text name))
+record_short name is = let len = name_text_length name is in omega (arith, len, length-append (codes "rec2") (47 ∷ hash_text name))
+
+pub key_clean : (name : Hash) → IsName name → IsClean (key_path name)
+key_clean name is = let len = name_text_length name is in clean_inside (codes "key") (hash_text name) keys_clean (name_clean name is) (omega (arith, len, length-append (codes "key") (47 ∷ hash_text name)))
+
+pub key_short : (name : Hash) → IsName name → length (key_path name) ≤ 3600
+key_short name is = let len = name_text_length name is in omega (arith, len, length-append (codes "key") (47 ∷ hash_text name))
 
 pub staged_clean : (name : Hash) → IsName name → IsClean (staged_record_path name)
 staged_clean name is =
     let len = name_text_length name is in
-    clean_inside (codes "tmp") (inside (codes "rec") (hash_text name)) tmp_clean (record_clean name is) (omega (arith, len, length-append (codes "tmp/rec") (47 ∷ hash_text name)))
+    clean_inside (codes "tmp") (inside (codes "rec2") (hash_text name)) tmp_clean (record_clean name is) (omega (arith, len, length-append (codes "tmp/rec2") (47 ∷ hash_text name)))
 
 pub staged_short : (name : Hash) → IsName name → length (staged_record_path name) ≤ 3600
-staged_short name is = let len = name_text_length name is in omega (arith, len, length-append (codes "tmp/rec") (47 ∷ hash_text name))
+staged_short name is = let len = name_text_length name is in omega (arith, len, length-append (codes "tmp/rec2") (47 ∷ hash_text name))
 
 -- paths of trees in work folders and in those of objects
 module _ (tree : List (List ℕ × Entry)) (is_tree : IsTree tree) (short : AreShort tree) where

@@ -6,9 +6,9 @@ use Rattle.outside_traits.specs.Store.{IsAround, Store}
 use Rattle.stamp_store.specs.Stamp.{old_path, staged_path}
 use Rattle.store_opening.specs.Paths.{staged_record_path}
 use Rattle.store_model.specs.Available.{object_folder}
-use Rattle.store_model.specs.Paths.{record_path}
+use Rattle.store_model.specs.Paths.{key_path, record_path}
 use Rattle.build_store.specs.Publication.{IsPublished, IsUntouched, KeepsOthers}
-use Rattle.store_model.specs.Publication.{Publication, stamp_at, work_at}
+use Rattle.store_model.specs.Publication.{stamp_at, work_at, Publication}
 use Rattle.build_store.specs.Items.{IsDue, Item}
 
 -- the path is one of the publication's folders, or above one
@@ -27,6 +27,10 @@ pub record FreesStamp (folder : List ℕ) (held old new : Store) : Type 0 where
   pub others : (q : List ℕ) → (IsBelow q (stamp_at folder) ⊎ IsBelow (stamp_at folder) q → ⊥) → new q ≡ old q
   pub none : (q : List ℕ) → held q ≡ None → new q ≡ old q
 
+-- nothing is held below the folder's stamp
+abbrev pub HasFreeStamp : List ℕ → Store → Type 0
+HasFreeStamp folder held = (q : List ℕ) → IsBelow (stamp_at folder) q → held q ≡ None
+
 -- What is held below a path goes, and nothing else.
 pub record ClearsBelow (path : List ℕ) (held old new : Store) : Type 0 where
   pub others : (q : List ℕ) → (IsBelow path q → ⊥) → new q ≡ old q
@@ -36,23 +40,26 @@ pub record ClearsBelow (path : List ℕ) (held old new : Store) : Type 0 where
 pub record Works (items : List Item) (old new : Store) : Type 0 where
   pub others : (q : List ℕ) → (IsDue items q → ⊥) → new q ≡ old q
 
--- The end of a publication brings the record, if it is new, and the stamp, and changes nothing else but where these are staged. The stamp
--- comes once all that it tells of is there.
+-- The end of a publication brings the record, if it is new, and the stamp, and changes nothing else but where these are staged. The record
+-- comes once its key is held, the stamp once all that it tells of is there.
 pub record Finishes (p : Publication) (old new : Store) : Type 0 where
   pub others : (q : List ℕ) → q ≢ staged_path p.folder → q ≢ staged_record_path p.name → q ≢ stamp_at p.folder → (p.is_new ≡ true → q ≢ record_path p.name) → new q ≡ old q
-  pub stored : (new (record_path p.name) ≡ old (record_path p.name)) ⊎ ((p.is_new ≡ true) × (new (record_path p.name) ≡ Some p.file))
+  pub stored : (new (record_path p.name) ≡ old (record_path p.name))
+      ⊎ ((p.is_new ≡ true) × (new (record_path p.name) ≡ Some p.file) × (new (key_path p.key) ≡ Some p.key_file))
   pub stamp : (new (stamp_at p.folder) ≡ old (stamp_at p.folder)) ⊎ IsPublished p new
 
--- What others have staged stays, and their records: of what is under `tmp/` a publication changes no more than where its stamp is put aside,
+-- What others have staged stays, and their records and keys: of what is under `tmp/` a publication changes no more than where its stamp is put aside,
 -- and where its stamp and its record are staged.
 pub record KeepsStaged (p : Publication) (old new : Store) : Type 0 where
   pub temporary : (q : List ℕ) → IsBelow (codes "tmp") q → q ≢ old_path p.folder → q ≢ staged_path p.folder → q ≢ staged_record_path p.name → new q ≡ old q
-  pub records : (q : List ℕ) → IsBelow (codes "rec") q → q ≢ record_path p.name → new q ≡ old q
+  pub records : (q : List ℕ) → IsBelow (codes "rec2") q → q ≢ record_path p.name → new q ≡ old q
+  pub keys : (q : List ℕ) → IsBelow (codes "key") q → (p.writes_key ≡ true → q ≢ key_path p.key) → new q ≡ old q
 
--- Of what is under `tmp/` a restoring changes no more than where its folder's stamp is put aside and staged; and it changes no record.
+-- Of what is under `tmp/` a restoring changes no more than where its folder's stamp is put aside and staged; and it changes no record and no key.
 pub record KeepsTemporary (folder : List ℕ) (old new : Store) : Type 0 where
   pub temporary : (q : List ℕ) → IsBelow (codes "tmp") q → q ≢ old_path folder → q ≢ staged_path folder → new q ≡ old q
-  pub records : (q : List ℕ) → IsBelow (codes "rec") q → new q ≡ old q
+  pub records : (q : List ℕ) → IsBelow (codes "rec2") q → new q ≡ old q
+  pub keys : (q : List ℕ) → IsBelow (codes "key") q → new q ≡ old q
 
 -- what others have stays, and what they have staged
 pub record KeepsAround (folder : List ℕ) (held old new : Store) : Type 0 where

@@ -2,6 +2,7 @@
 use Rattle.std.specs.Prelude.{◌≡◌, ◌≢◌, ℕ, List, [], ◌∷◌, ◌++◌, Option, Some, None}
 use Rattle.tree_model.specs.declared.entry.Entry.{Entry}
 use Rattle.tree_model.specs.declared.manifest.ManifestLine.{ManifestLine}
+use Rattle.tree_model.specs.declared.hash.Hash.{Hash}
 use Rattle.tree_model.specs.Manifest.{manifest_lines}
 use Rattle.meta_model.specs.CleanBuild.{Entries}
 use Rattle.meta_model.specs.declared.plan.PlanTask.{PlanTask}
@@ -10,7 +11,9 @@ use Rattle.store_model.specs.declared.signature.SigRecord.{SigRecord}
 use Rattle.store_model.specs.declared.signature.StoredSig.{StoredSig}
 use Rattle.store_model.specs.Rows.{new_unihash, row_at}
 use Rattle.store_model.specs.Signatures.{Signed}
-use Rattle.store_model.specs.Spelling.{name_of, record_bytes, signature_bytes}
+use Rattle.store_model.specs.Spelling.{key_part, name_of, record_bytes, signature_bytes}
+use Rattle.record_move.specs.Known.{key_named}
+use Rattle.build_store.specs.Keys.{text_key}
 use Rattle.sig_gen.specs.Sound.{Spells}
 use Rattle.sig_gen.specs.Stored.{IsInOrder}
 use Rattle.store_model.specs.Stored.{SpellsStored}
@@ -33,6 +36,20 @@ IsKnownFault of row bytes manifest fault.Disk = ⊥
 IsKnownFault of row bytes manifest fault.Memory = Unit {0}
 IsKnownFault of row bytes manifest (fault.Collision name held given) = IsOtherSignature row bytes (fault.Collision name held given)
 IsKnownFault of row bytes manifest (fault.Unsteady pn task held given) = (row.sig ≡ bytes) × (row.manifest ≢ manifest) × IsUnsteadyOf of row manifest (fault.Unsteady pn task held given)
+
+-- the key is another one: want of memory is free
+abbrev pub IsKeyOther : Hash → List ℕ → List ℕ → StoreFault → Type 0
+IsKeyOther name known key fault.Disk = ⊥
+IsKeyOther name known key fault.Memory = Unit {0}
+IsKeyOther name known key (fault.Collision n held given) = (known ≢ key) × (n ≡ name) × (held ≡ known) × (given ≡ key)
+IsKeyOther name known key (fault.Unsteady pn task held given) = ⊥
+
+-- another key is known by the name of the key of a signature with this whole text
+abbrev pub IsKeyClash : List (List ℕ) → List ℕ → StoreFault → Type 0
+IsKeyClash keys text fault.Disk = ⊥
+IsKeyClash keys text fault.Memory = Unit {0}
+IsKeyClash keys text (fault.Collision name held given) = (key_named keys name ≡ Some held) × (name ≡ text_key text) × (given ≡ key_part text) × (held ≢ given)
+IsKeyClash keys text (fault.Unsteady pn task held given) = ⊥
 
 -- the record of a signature that none is stored of, with this manifest
 abbrev pub new_stored : List EquivRow → SigRecord → List ManifestLine → StoredSig

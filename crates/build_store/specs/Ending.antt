@@ -9,8 +9,8 @@ use Rattle.outside_traits.specs.Store.{HoldsTree, Store}
 use Rattle.outside_traits.specs.Story.{IsSound, Story, ended, moment}
 use Rattle.stamp_store.specs.Stamp.{stamp_path, staged_path}
 use Rattle.store_model.specs.Available.{object_folder}
-use Rattle.store_model.specs.Paths.{record_path}
-use Rattle.store_model.specs.Publication.{Publication, stamp_at, stamp_file, work_at}
+use Rattle.store_model.specs.Paths.{key_path, record_path}
+use Rattle.store_model.specs.Publication.{stamp_at, stamp_file, work_at, Publication}
 use Rattle.store_opening.specs.Paths.{staged_record_path}
 use Rattle.build_store.specs.Publication.{IsPublished}
 
@@ -30,20 +30,23 @@ pub record IsWaiting (p : Publication) (image : Store) : Type 0 where
   pub staged_stamp : image (staged_path p.folder) ≡ Some (stamp_file p.name)
   pub unstamped : image (stamp_at p.folder) ≡ None
 
--- besides, the record's file is staged
+-- besides, the record's file is staged, and its key is held
 pub record IsReady (p : Publication) (image : Store) : Type 0 where
   pub waiting : IsWaiting p image
   pub staged_record : image (staged_record_path p.name) ≡ Some p.file
+  pub key : image (key_path p.key) ≡ Some p.key_file
 
--- besides, the record stands in its place
+-- besides, the record stands in its place, and its key is held
 pub record IsStored (p : Publication) (image : Store) : Type 0 where
   pub waiting : IsWaiting p image
   pub stored : image (record_path p.name) ≡ Some p.file
+  pub key : image (key_path p.key) ≡ Some p.key_file
 
 -- All that the stamp tells of is there, and the stamp or none.
 pub record IsHonest (p : Publication) (image : Store) : Type 0 where
   pub folders : HasFolders p image
   pub stored : image (record_path p.name) ≡ Some p.file
+  pub key : image (key_path p.key) ≡ Some p.key_file
   pub stamp : (image (stamp_at p.folder) ≡ None) ⊎ (image (stamp_at p.folder) ≡ Some (stamp_file p.name))
 
 -- what each image has in the phase, and what each has once its ticket is ended
@@ -58,6 +61,7 @@ pub record KeepsPut (p : Publication) (old new : Store) : Type 0 where
   pub folders : HasFolders p old → HasFolders p new
   pub staged_record : new (staged_record_path p.name) ≡ old (staged_record_path p.name)
   pub record_at : new (record_path p.name) ≡ old (record_path p.name)
+  pub key : new (key_path p.key) ≡ old (key_path p.key)
   pub staged_stamp : new (staged_path p.folder) ≡ old (staged_path p.folder)
   pub stamp : new (stamp_at p.folder) ≡ old (stamp_at p.folder)
 

@@ -1,5 +1,5 @@
 -- Open publications.
-use Rattle.std.specs.Prelude.{◌≡◌, ◌≢◌, ◌≤◌, ℕ, List, Some, None}
+use Rattle.std.specs.Prelude.{◌≡◌, ◌≢◌, ◌≤◌, ℕ, true, List, Some, None}
 use Rattle.std.specs.List.{AllByRecursion}
 use Rattle.tree_model.specs.declared.hash.Hash.{Hash}
 use Rattle.tree_model.specs.Hash.{hash_text}
@@ -10,9 +10,9 @@ use Rattle.meta_model.specs.CleanBuild.{Entries}
 use Rattle.store_model.specs.declared.signature.EquivRow.{EquivRow}
 use Rattle.store_model.specs.Available.{object_folder}
 use Rattle.store_model.specs.Signatures.{Signed}
-use Rattle.store_model.specs.Publication.{Publication, stamp_at, work_at}
+use Rattle.store_model.specs.Publication.{stamp_at, work_at, Publication}
 use Rattle.build_store.specs.Publication.{publication}
-use Rattle.store_model.specs.Paths.{record_path}
+use Rattle.store_model.specs.Paths.{key_path, record_path}
 use Rattle.outside_traits.specs.Phases.{EachAbove, Phase}
 use Rattle.build_store.specs.Ending.{IsAt}
 use Rattle.build_store.specs.Noting.{AreNoted}
@@ -56,8 +56,9 @@ IsOn p (ending phase) story = IsAt p phase story
 abbrev pub put_of : List EquivRow → Half → Publication
 put_of rows h = publication rows h.signed h.tree
 
--- two publications share no folder, no record and no object
+-- two publications share no folder, no record and no object, and the first writes no key of the other
 pub record AreApart (p r : Publication) : Type 0 where
   pub folders : IsApart p.folder r.folder
   pub names : record_path p.name ≢ record_path r.name
+  pub keys : p.writes_key ≡ true → key_path p.key ≢ key_path r.key
   pub objects : (one other : Hash) → p.object ≡ Some one → r.object ≡ Some other → IsApart (hash_text one) (hash_text other)

@@ -8,7 +8,7 @@ use Rattle.tree_model.specs.Tree.{entry_at}
 use Rattle.outside_traits.specs.Store.{ChangesAt, IsOpen, Store}
 use Rattle.meta_model.specs.CleanBuild.{Entries}
 use Rattle.store_model.specs.Available.{object_folder}
-use Rattle.store_model.specs.Publication.{Publication, work_at}
+use Rattle.store_model.specs.Publication.{work_at, Publication}
 
 -- a path to remove, or an entry to write
 pub data Item : Type 0 where

@@ -1,5 +1,5 @@
 -- What follows for valid stores, and for other tasks.
-use Rattle.std.specs.Prelude.{◌≡◌, ◌⊎◌, ℕ, List, [], ◌∷◌, ◌++◌, Option, Some}
+use Rattle.std.specs.Prelude.{◌≡◌, ◌≢◌, ◌⊎◌, ℕ, true, List, [], ◌∷◌, ◌++◌, Option, Some}
 use Rattle.tree_model.specs.declared.hash.Hash.{Hash}
 use Rattle.tree_model.specs.declared.manifest.ManifestLine.{ManifestLine}
 use Rattle.tree_model.specs.Path.{IsAtOrBelow, inside}
@@ -11,23 +11,30 @@ use Rattle.store_model.specs.Available.{IsInWork, Matches, object_folder, task_f
 use Rattle.store_model.specs.Origins.{Book, Line, Reading}
 use Rattle.store_model.specs.Premises.{Differ}
 use Rattle.store_model.specs.Signatures.{Signed}
-use Rattle.store_model.specs.Spelling.{name_of}
-use Rattle.store_model.specs.Valid.{IsValid, IsValidBook, IsValidLine, stored_of}
-use Rattle.store_model.specs.Publication.{Publication, record_file}
+use Rattle.store_model.specs.Spelling.{key_name, name_of}
+use Rattle.store_model.specs.Valid.{IsValid, IsValidBook, IsValidLine, StandsIn, key_file, stored_of}
+use Rattle.store_model.specs.Publication.{record_file, Publication}
 use Rattle.store_model.specs.Lines.{HasLine, KeepsWork}
 use Rattle.store_opening.specs.Paths.{HasPlace, IsOnePart}
 use Rattle.build_store.specs.Publication.{KeepsOthers, Publishes}
 
--- the publication's record is that of the line
+-- the publication's record and key are those of the line
 pub record IsOfLine (p : Publication) (line : Line) : Type 0 where
   pub name : p.name ≡ name_of line.sig
   pub file : p.file ≡ record_file (stored_of line)
+  pub key : p.key ≡ key_name line.sig.key
+  pub key_file : p.key_file ≡ key_file line.sig.key
+
+-- Where a key is written, no line of the book has one of its name.
+abbrev pub WritesNewKey : Publication → Book → Type 0
+WritesNewKey p book = p.writes_key ≡ true → (before : Book) (line : Line) → StandsIn book before line → key_name line.sig.key ≢ p.key
 
 -- A publication keeps a store valid, with the same book or with its line behind it, where the line stands in the book or is valid
--- behind it.
+-- behind it, and where no key of the book is written again.
 abbrev pub PublishedIsValid : Type 0
 PublishedIsValid = (p : Publication) (line : Line) (old new : Store) → IsOfLine p line → Publishes p old new →
-    (gives : Gives) (reading : Reading) (book : Book) → IsValid gives reading old book → HasLine book line ⊎ IsValidLine gives reading book line →
+    (gives : Gives) (reading : Reading) (book : Book) → IsValid gives reading old book → WritesNewKey p book →
+    HasLine book line ⊎ IsValidLine gives reading book line →
     IsValid gives reading new book ⊎ IsValid gives reading new (book ++ line ∷ [])
 
 -- ---- other tasks

@@ -1,4 +1,5 @@
 pub mod View
+pub mod Keys
 pub mod Publication
 pub mod Phases
 pub mod Restoring

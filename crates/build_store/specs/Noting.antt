@@ -8,7 +8,7 @@ use Rattle.tree_model.specs.Tree.{entry_at}
 use Rattle.outside_traits.specs.Store.{Store}
 use Rattle.meta_model.specs.CleanBuild.{Entries}
 use Rattle.store_model.specs.Available.{object_folder}
-use Rattle.store_model.specs.Publication.{Publication, work_at}
+use Rattle.store_model.specs.Publication.{work_at, Publication}
 use Rattle.build_store.specs.Items.{Item, removal, writing}
 
 -- a removal, where the tree hasn't the path

@@ -2,19 +2,19 @@
 use Rattle.std.specs.Prelude.{◌≡◌, ◌⊎◌, ◌<◌, ◌≤◌, ◌+◌, ◌^◌, min, ℕ, List, [], ◌++◌, length, map, drop, filter, is_none, codes, Option, Some, None, IsSome}
 use Rattle.tree_model.specs.declared.entry.Entry.{Entry}
 use Rattle.tree_model.specs.declared.hash.Hash.{Hash}
+use Rattle.tree_model.specs.Hash.{hash_text}
 use Rattle.tree_model.specs.Path.{IsBelow, inside}
 use Rattle.tree_model.specs.Tree.{IsTree, entry_at}
 use Rattle.outside_traits.specs.Phases.{kept, staged, stamped, stored}
 use Rattle.outside_traits.specs.Passes.{EachNow}
-use Rattle.outside_traits.specs.Store.{Store}
+use Rattle.outside_traits.specs.Store.{Store, slashes}
 use Rattle.outside_traits.specs.Story.{Story}
 use Rattle.meta_model.specs.CleanBuild.{Entries}
 use Rattle.stamp_store.specs.Stamp.{IsFolder, old_path, staged_path}
 use Rattle.store_opening.specs.Named.{IsName}
 use Rattle.store_opening.specs.Paths.{staged_record_path}
 use Rattle.store_model.specs.Available.{object_folder}
-use Rattle.store_model.specs.Paths.{slashes}
-use Rattle.store_model.specs.Publication.{Publication, work_at}
+use Rattle.store_model.specs.Publication.{work_at, Publication}
 use Rattle.build_store.specs.declared.drafting.Draft.{Draft}
 use Rattle.build_store.specs.declared.pieces.OpenPublication.{OpenPublication}
 use Rattle.build_store.specs.declared.pieces.Reached.{Reached}
@@ -29,7 +29,7 @@ use Rattle.build_store.specs.Publication.{AreShort, IsPublished}
 
 -- what it puts, where this is its record's file
 abbrev pub put_by : OpenPublication → Entry → Publication
-put_by o f = put_of o.folder o.name o.tree o.object (file_of o.new) f
+put_by o f = put_of o.folder o.name o.tree o.object (file_of o.new) f o.sig
 
 -- what is written into the object, if there is one
 abbrev pub shared_writings : Option Hash → Entries → List Item
@@ -58,7 +58,7 @@ abbrev pub opened_by : List ℕ → Option Hash → Draft → Entries → List (
 opened_by folder object draft tree extra now = record {
   folder = folder;
   name = draft.name;
-  sig = draft.bytes;
+  sig = draft.text;
   tree = tree;
   unihash = draft.unihash;
   object = object;
@@ -156,6 +156,10 @@ abbrev pub AddsOwn : OpenPublication → Store → Store → Type 0
 AddsOwn o old new = (q : List ℕ) → IsBelow (codes "tmp") q → (StagesAt o o.reached q → ⊥) → old q ≡ None → new q ≡ None
 
 -- ---- opening
+
+-- the name of the object, if there is one, is one part of a path
+abbrev pub HasPlainName : Option Hash → Type 0
+HasPlainName object = (unihash : Hash) → object ≡ Some unihash → slashes (hash_text unihash) ≡ 0
 
 -- What is in the way of the folders goes, and nothing else: at a folder or above it, where this store holds something.
 pub record MakesRoom (p : Publication) (held old new : Store) : Type 0 where

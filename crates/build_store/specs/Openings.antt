@@ -1,5 +1,5 @@
 -- What the calls of open publications do to a store, beside its disk.
-use Rattle.std.specs.Prelude.{◌≡◌, ◌≢◌, ◌⊎◌, ℕ, List, Option, Some, None}
+use Rattle.std.specs.Prelude.{◌≡◌, ◌≢◌, ◌⊎◌, ℕ, List, Contains, Option, Some, None}
 use Rattle.outside_traits.specs.Passes.{EachNow}
 use Rattle.outside_traits.specs.Story.{Story}
 use Rattle.meta_model.specs.CleanBuild.{Entries}
@@ -11,6 +11,8 @@ use Rattle.store_model.specs.Signatures.{Signed}
 use Rattle.store_model.specs.Spelling.{name_of, signature_bytes}
 use Rattle.build_store.specs.declared.step.Step.{Step}
 use Rattle.build_store.specs.declared.step.Step.TheVariants as step
+use Rattle.store_model.specs.Clashes.{KeysAgree}
+use Rattle.build_store.specs.Keys.{keys_with}
 use Rattle.build_store.specs.Publication.{IsAgreed, IsPublished, line_for, object_for, publication, rows_with, unihash_for}
 use Rattle.build_store.specs.View.{OpenView, OpenViews, SameBooks, View, kept_with, kept_without, opened_at}
 
@@ -45,10 +47,14 @@ pub record Meets (rows : List EquivRow) (opened : OpenViews) (name : Hash) (obje
   pub meets : (name_of of.sig ≡ name) ⊎ ((unihash : Hash) × ((object_for rows of gave ≡ Some unihash) × (object ≡ Some unihash)))
 
 module _ {D : Type 0} (old new : View D) (s : Signed) where
-  -- The publication of the task was opened: its signature is kept, and its line can be read again.
+  -- The publication of the task was opened: its signature is kept, its key is known, and its line can be read again. No row, and no publication that was
+  -- open, has another key with the digest of its key.
   pub record OpensTask (tree : Entries) : Type 0 where
     pub opened : OpensOne (task_folder s.task) (open_view s tree) old.opened new.opened
     pub kept : new.kept ≡ kept_with s old.kept
+    pub keys : new.keys ≡ keys_with old.keys s.sig
+    pub one_key : (row : EquivRow) → Contains old.rows row → KeysAgree row.sig (signature_bytes s.sig)
+    pub beside : (folder : List ℕ) (one : OpenView) → opened_at old.opened folder ≡ Some one → KeysAgree one.sig (signature_bytes s.sig)
     pub faultless : new.faultless ≡ old.faultless
     pub agrees : IsAgreed old.rows s tree
     pub readable : IsReadable (line_for old.rows s tree)
@@ -66,6 +72,7 @@ module _ {D : Type 0} (old new : View D) (s : Signed) where
     pub unihash_is : unihash ≡ unihash_for old.rows s tree
     pub rows : new.rows ≡ rows_with old.rows s tree
     pub kept : new.kept ≡ kept_without s old.kept
+    pub keys : new.keys ≡ old.keys
     pub opened : ClosesOne (task_folder s.task) old.opened new.opened
     pub faultless : new.faultless ≡ old.faultless
     pub agrees : IsAgreed old.rows s tree

@@ -1,5 +1,5 @@
 -- The phases of a publication.
-use Rattle.std.specs.Prelude.{◌≡◌, ◌≢◌, ◌⊎◌, ℕ, List, codes, Option, Some, None, IsSome}
+use Rattle.std.specs.Prelude.{◌≡◌, ◌≢◌, ◌⊎◌, ℕ, false, List, codes, Option, Some, None, IsSome}
 use Rattle.std.specs.Option.{is_some}
 use Rattle.tree_model.specs.declared.entry.Entry.{Entry}
 use Rattle.tree_model.specs.declared.hash.Hash.{Hash}
@@ -10,7 +10,8 @@ use Rattle.store_model.specs.Available.{object_folder}
 use Rattle.stamp_store.specs.Stamp.{staged_path}
 use Rattle.store_opening.specs.Paths.{IsLaidOut, staged_record_path}
 use Rattle.store_model.specs.Paths.{record_path}
-use Rattle.store_model.specs.Publication.{Publication, work_at}
+use Rattle.store_model.specs.Publication.{work_at, Publication}
+use Rattle.build_store.specs.Keys.{HoldsKeyOf, text_key, text_key_file}
 
 -- the path is apart from the folder of the object, if there is one
 abbrev pub IsApartFrom : Option Hash → List ℕ → Type 0
@@ -38,11 +39,22 @@ pub record AddsStagedFile (name : Hash) (file : Option Entry) (old new : Store) 
 abbrev pub IsStagedFile : Hash → Option Entry → Store → Type 0
 IsStagedFile name file held = (e : Entry) → file ≡ Some e → held (staged_record_path name) ≡ Some e
 
--- what is put: a record's file is written just where there is one
-abbrev pub put_of : List ℕ → Hash → Entries → Option Hash → Option Entry → Entry → Publication
-put_of folder name tree object file f = record { folder = folder; name = name; file = f; is_new = is_some file; tree = tree; object = object }
+-- What is put, for a signature with this whole text, whose key is known: a record's file is written just where there is one.
+abbrev pub put_of : List ℕ → Hash → Entries → Option Hash → Option Entry → Entry → List ℕ → Publication
+put_of folder name tree object file f text = record {
+  folder = folder;
+  name = name;
+  file = f;
+  is_new = is_some file;
+  tree = tree;
+  object = object;
+  key = text_key text;
+  key_file = text_key_file text;
+  writes_key = false;
+}
 
--- this is the record's file: the one that is written, or else what stands there
-pub record IsFileOf (name : Hash) (file : Option Entry) (held : Store) (f : Entry) : Type 0 where
+-- This is the record's file: the one that is written, or else what stands there; and the key is held.
+pub record IsFileOf (name : Hash) (file : Option Entry) (text : List ℕ) (held : Store) (f : Entry) : Type 0 where
   pub new : (e : Entry) → file ≡ Some e → e ≡ f
   pub old : file ≡ None → held (record_path name) ≡ Some f
+  pub key : HoldsKeyOf text held

@@ -14,8 +14,8 @@ use Rattle.store_model.specs.Available.{object_folder}
 use Rattle.store_model.specs.Rows.{hash_eq}
 use Rattle.store_model.specs.Signatures.{Signed}
 use Rattle.store_model.specs.Spelling.{name_of}
-use Rattle.build_store.specs.Publication.{KeepsOthers, Publishes, publication}
-use Rattle.store_model.specs.Publication.{Publication, stamp_at, work_at}
+use Rattle.build_store.specs.Publication.{KeepsOthers, Publishes, publication, settled}
+use Rattle.store_model.specs.Publication.{stamp_at, work_at, Publication}
 use Rattle.build_store.specs.Calls.{Finishes, KeepsStaged, Opens, Works}
 use Rattle.build_store.specs.Halves.{AreApart, IsHalf, IsOn, Progress}
 use Rattle.build_store.specs.Ending.{HasFolders, KeepsPut}
@@ -37,9 +37,10 @@ WorksIsPublishing = (p : Publication) (items : List Item) (held old new : Store)
 abbrev pub FinishesIsPublishing : Type 0
 FinishesIsPublishing = (p : Publication) (held old new : Store) → old (stamp_at p.folder) ≡ None → Finishes p old new → IsPublishing p held old new
 
--- Two calls in a row are one, where no crash between them leaves a stamp of the task.
+-- Two calls in a row are one, where no crash between them leaves a stamp of the task, and the second one writes no key.
 abbrev pub InARow : Type 0
-InARow = (p : Publication) (a b c : Story) → IsSound b → EachNow b (λ image. image (stamp_at p.folder) ≡ None) → Passes a b (IsPublishing p a.held) → Passes b c (IsPublishing p b.held) → Passes a c (IsPublishing p a.held)
+InARow = (p : Publication) (a b c : Story) → IsSound b → EachNow b (λ image. image (stamp_at p.folder) ≡ None) →
+    Passes a b (IsPublishing p a.held) → Passes b c (IsPublishing (settled p) b.held) → Passes a c (IsPublishing p a.held)
 
 -- ---- those that are open beside it
 

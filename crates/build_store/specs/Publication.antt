@@ -14,24 +14,31 @@ use Rattle.store_model.specs.Origins.{Line, row_of}
 use Rattle.store_model.specs.Recording.{recorded}
 use Rattle.store_model.specs.Rows.{row_at, unihash_or}
 use Rattle.store_model.specs.Signatures.{Signed}
-use Rattle.store_model.specs.Spelling.{name_of, signature_bytes}
-use Rattle.store_model.specs.Valid.{stored_of}
-use Rattle.store_model.specs.Paths.{record_path}
-use Rattle.store_model.specs.Publication.{record_file, Publication, work_at, stamp_at, stamp_file}
+use Rattle.store_model.specs.Spelling.{key_name, name_of, signature_bytes}
+use Rattle.store_model.specs.Valid.{key_file, stored_of}
+use Rattle.store_model.specs.Paths.{key_path, record_path}
+use Rattle.store_model.specs.Publication.{record_file, work_at, stamp_at, stamp_file, Publication}
+use Rattle.build_store.specs.Keys.{is_new_key}
+
+-- what is put once its key is known
+abbrev pub settled : Publication → Publication
+settled p = record p { writes_key = false }
 
 -- The path is none of the publication's own: it is not under `tmp/`, it is apart from the work folder, from the folder of an object that is
--- written and from the stamp's path, and it isn't a record that is written.
+-- written and from the stamp's path, and it is neither a record that is written nor such a key.
 pub record IsForeign (p : Publication) (q : List ℕ) : Type 0 where
   pub temporary : IsBelow (codes "tmp") q → ⊥
   pub work : IsApart (work_at p.folder) q
   pub stamp : IsApart (stamp_at p.folder) q
   pub stored : p.is_new ≡ true → q ≢ record_path p.name
+  pub key : p.writes_key ≡ true → q ≢ key_path p.key
   pub shared : (unihash : Hash) → p.object ≡ Some unihash → IsApart (object_folder unihash) q
 
--- All that the stamp tells of is there: it names the stored record, and the folders hold exactly the tree.
+-- All that the stamp tells of is there: it names the stored record, whose key is held, and the folders hold exactly the tree.
 pub record IsPublished (p : Publication) (image : Store) : Type 0 where
   pub stamp : image (stamp_at p.folder) ≡ Some (stamp_file p.name)
   pub stored : image (record_path p.name) ≡ Some p.file
+  pub key : image (key_path p.key) ≡ Some p.key_file
   pub work : HoldsTree (work_at p.folder) p.tree image
   pub shared : (unihash : Hash) → p.object ≡ Some unihash → HoldsTree (object_folder unihash) p.tree image
 
@@ -41,10 +48,11 @@ pub record IsUntouched (folder : List ℕ) (old new : Store) : Type 0 where
   pub work : (q : List ℕ) → IsAtOrBelow (codes "work") q → new q ≡ old q
 
 -- What a publication makes of a store at each moment, as a relation of what was and what is: other paths stay; the record stays, or it
--- is the new one; and the stamp doesn't lie: nothing of the task was touched, or no stamp is held, or all that it tells of is there.
+-- is the new one, and its key is held; and the stamp doesn't lie: nothing of the task was touched, or no stamp is held, or all that it tells of is there.
 pub record Publishes (p : Publication) (old new : Store) : Type 0 where
   pub others : (q : List ℕ) → IsForeign p q → new q ≡ old q
-  pub stored : (new (record_path p.name) ≡ old (record_path p.name)) ⊎ ((p.is_new ≡ true) × (new (record_path p.name) ≡ Some p.file))
+  pub stored : (new (record_path p.name) ≡ old (record_path p.name))
+      ⊎ ((p.is_new ≡ true) × (new (record_path p.name) ≡ Some p.file) × (new (key_path p.key) ≡ Some p.key_file))
   pub honest : IsUntouched p.folder old new ⊎ ((new (stamp_at p.folder) ≡ None) ⊎ IsPublished p new)
 
 -- What a publication, or a restoring, of a folder makes of what others have: all under `stamp` stays that is apart from its own stamp, and all under
@@ -81,7 +89,7 @@ line_for rows s tree = record { sig = s.sig; files = s.task.files; manifest = ma
 abbrev pub object_for : List EquivRow → Signed → Entries → Option Hash
 object_for rows s tree = if s.task.sstate then Some (unihash_for rows s tree) else None
 
--- what is put for a task that gave a tree
+-- what is put for a task that gave a tree, whose key is known
 abbrev pub publication : List EquivRow → Signed → Entries → Publication
 publication rows s tree = record {
   folder = task_folder s.task;
@@ -90,7 +98,14 @@ publication rows s tree = record {
   is_new = is_none (row_at rows (name_of s.sig));
   tree = tree;
   object = object_for rows s tree;
+  key = key_name s.sig.key;
+  key_file = key_file s.sig.key;
+  writes_key = false;
 }
+
+-- ... and as its publication is opened: its key too, where that isn't known
+abbrev pub first_publication : List (List ℕ) → List EquivRow → Signed → Entries → Publication
+first_publication keys rows s tree = record (publication rows s tree) { writes_key = is_new_key keys s.sig }
 
 -- The rows behind a publication: one more, for a name that had none.
 abbrev pub rows_with : List EquivRow → Signed → Entries → List EquivRow
@@ -126,6 +141,9 @@ restoration s row tree = record {
   is_new = false;
   tree = tree;
   object = None;
+  key = key_name s.sig.key;
+  key_file = key_file s.sig.key;
+  writes_key = false;
 }
 
 -- an object of the task, and what restoring it makes of a store

@@ -6,17 +6,17 @@ use Rattle.std.specs.Str.{bytes_eq}
 use Rattle.tree_model.specs.declared.hash.Hash.{Hash}
 use Rattle.tree_model.specs.Path.{IsBelow}
 use Rattle.outside_traits.specs.Passes.{EachNow}
-use Rattle.outside_traits.specs.Store.{Store}
+use Rattle.outside_traits.specs.Store.{Store, slashes}
 use Rattle.outside_traits.specs.Story.{Story}
 use Rattle.store_model.specs.declared.signature.EquivRow.{EquivRow}
 use Rattle.store_model.specs.Available.{task_folder}
-use Rattle.store_model.specs.Paths.{slashes}
 use Rattle.store_model.specs.Publication.{stamp_at}
 use Rattle.store_model.specs.Rows.{hash_eq}
 use Rattle.store_model.specs.Signatures.{Signed}
 use Rattle.store_model.specs.Spelling.{signature_bytes}
 use Rattle.build_store.specs.declared.pieces.OpenPublication.{OpenPublication}
 use Rattle.build_store.specs.Halves.{IsOn}
+use Rattle.build_store.specs.Keys.{HoldsKeyOf, KnowsKeyOf}
 use Rattle.build_store.specs.OpenOnes.{StagesAt, progress_of}
 use Rattle.build_store.specs.OpenTasks.{IsOpenOf}
 use Rattle.build_store.specs.Publication.{publication}
@@ -50,6 +50,14 @@ pub record AreOpen (rows : List EquivRow) (open_ones : List OpenPublication) : T
 -- where the disk tells
 abbrev pub AreOn : List EquivRow → Story → List OpenPublication → Type 0
 AreOn rows story open_ones = AllByRecursion (Stands rows story) open_ones
+
+-- the key of each is known
+abbrev pub KnowsOpen : List (List ℕ) → List OpenPublication → Type 0
+KnowsOpen keys open_ones = AllByRecursion (λ one. KnowsKeyOf keys one.sig) open_ones
+
+-- the key of each is held
+abbrev pub HoldsOpen : List OpenPublication → Store → Type 0
+HoldsOpen open_ones held = AllByRecursion (λ one. HoldsKeyOf one.sig held) open_ones
 
 -- one of them has staged something at the path
 abbrev pub IsStagedBy : List OpenPublication → List ℕ → Type 0

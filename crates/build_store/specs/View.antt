@@ -13,7 +13,7 @@ use Rattle.store_model.specs.Spelling.{signature_bytes}
 use Rattle.build_store.specs.declared.kept.KeptSig.{KeptSig}
 use Rattle.build_store.specs.declared.pieces.OpenPublication.{OpenPublication}
 
--- An open publication: its task's folder, the name of its record, the bytes of its signature, whether an object is written, and what its task gave.
+-- An open publication: its task's folder, the name of its record, the whole text of its signature, whether an object is written, and what its task gave.
 pub record OpenView : Type 0 where
   pub folder : List ℕ
   pub name : Hash
@@ -41,21 +41,24 @@ open_in open_ones = map open_view_of open_ones
 abbrev pub NothingOpen : OpenViews → Type 0
 NothingOpen opened = (folder : List ℕ) → opened_at opened folder ≡ None
 
--- A store: its disk, the rows of its index, the signatures that it keeps of tasks whose publication isn't done, the publications that it has open,
--- and whether each call that changes the disk was answered without a fault.
+-- A store: its disk, the rows of its index, the keys that it knows, by their bytes, the signatures that it keeps of tasks whose publication isn't done, the
+-- publications that it has open, and whether each call that changes the disk was answered without a fault.
 pub record View (D : Type 0) : Type 0 where
   pub disk : D
   pub rows : List EquivRow
+  pub keys : List (List ℕ)
   pub kept : List KeptSig
   pub opened : OpenViews
   pub faultless : Bool
 
-abbrev pub view_of : {D : Type 0} → D → List EquivRow → List KeptSig → List OpenPublication → Bool → View D
-view_of disk rows kept open_ones faultless = record { disk = disk; rows = rows; kept = kept; opened = open_in open_ones; faultless = faultless }
+abbrev pub view_of : {D : Type 0} → D → List EquivRow → List (List ℕ) → List KeptSig → List OpenPublication → Bool → View D
+view_of disk rows keys kept open_ones faultless =
+    record { disk = disk; rows = rows; keys = keys; kept = kept; opened = open_in open_ones; faultless = faultless }
 
 -- all but the disk is as before
 pub record SameBooks {D : Type 0} (old new : View D) : Type 0 where
   pub rows : new.rows ≡ old.rows
+  pub keys : new.keys ≡ old.keys
   pub kept : new.kept ≡ old.kept
   pub opened : new.opened ≡ old.opened
   pub faultless : new.faultless ≡ old.faultless
@@ -63,6 +66,7 @@ pub record SameBooks {D : Type 0} (old new : View D) : Type 0 where
 -- all but the disk is as before, unless it is known no more that no call met a fault
 pub record SameRows {D : Type 0} (old new : View D) : Type 0 where
   pub rows : new.rows ≡ old.rows
+  pub keys : new.keys ≡ old.keys
   pub kept : new.kept ≡ old.kept
   pub opened : new.opened ≡ old.opened
 

@@ -2,15 +2,15 @@
 ghost use Rattle.std.specs.Prelude.{◌≡◌, ◌≤◌, ◌⊎◌, ℕ, [], IfOk, None, OnOk, Some, true};
 ghost use Rattle.tree_model.specs.declared.entry.Entry.{Entry as AnEntry};
 ghost use Rattle.outside_traits.specs.Fault.{Counts, disk_failed};
-ghost use Rattle.outside_traits.specs.Passes.{Passes, Same};
-ghost use Rattle.outside_traits.specs.Store.{IsFree};
+ghost use Rattle.outside_traits.specs.Passes.{IsBrief, Passes, Same};
+ghost use Rattle.outside_traits.specs.Store.{IsFree, slashes};
 ghost use Rattle.outside_traits.specs.Phases.{kept, staged, stamped, stored};
 ghost use Rattle.stamp_store.specs.Stamp.{IsFolder, staged_path};
-ghost use Rattle.store_model.specs.Paths.{record_path, slashes};
-ghost use Rattle.store_model.specs.Publication.{Publication, stamp_at, stamp_file};
+ghost use Rattle.store_model.specs.Paths.{record_path};
+ghost use Rattle.store_model.specs.Publication.{stamp_at, stamp_file, Publication};
 ghost use Rattle.store_opening.specs.Named.{IsName};
 ghost use Rattle.store_opening.specs.Paths.{IsLaidOut, staged_record_path};
-ghost use Rattle.build_store.specs.Calls.{Finishes, KeepsBut, MovesOnly};
+ghost use Rattle.build_store.specs.Calls.{Finishes, HasFreeStamp, KeepsBut, MovesOnly};
 ghost use Rattle.build_store.specs.Drafts.{file_of};
 ghost use Rattle.build_store.specs.Ending.{IsAt, IsTicket};
 ghost use Rattle.build_store.specs.Halves.{IsHalf, IsOn};
@@ -33,6 +33,7 @@ use tree_model::Hash;
 pub(crate) fn take_ticket<D: Disk>(disk: &mut D) -> Result<u64, DiskFault>
     ensures ticket { D.tells → IfOk result (λ k. IsTicket k (D.story disk.new)) }
     ensures same { D.tells → Passes (D.story disk.old) (D.story disk.new) Same }
+    ensures brief { D.tells → IsBrief 1 (D.story disk.old) (D.story disk.new) }
     ensures cause { Counts (D.faults disk.old) (D.faults disk.new) (disk_failed result) }
 {
     let now = disk.moment();
@@ -43,7 +44,7 @@ pub(crate) fn take_ticket<D: Disk>(disk: &mut D) -> Result<u64, DiskFault>
     Ok(now)
 }
 
-/// Writes a new record's file to `tmp/rec/`, if the publication has one.
+/// Writes a new record's file to `tmp/rec2/`, if the publication has one.
 fn stage_record<D: Disk>(
     alloc: Global,
     disk: &mut D,
@@ -56,6 +57,7 @@ fn stage_record<D: Disk>(
     ensures others { D.tells → Passes (D.story disk.old) (D.story disk.new)
         (AddsStagedFile one.now.name (file_of one.now.new)) }
     ensures laid_out { D.tells → IsLaidOut (D.story disk.new).held }
+    ensures brief { D.tells → IsBrief 1 (D.story disk.old) (D.story disk.new) }
     ensures cause { Counts (D.faults disk.old) (D.faults disk.new) (disk_failed result) }
 {
     match &one.new {
@@ -75,6 +77,7 @@ fn stage_files<D: Disk>(alloc: Global, disk: &mut D, one: &OpenPublication) -> R
     ensures others { D.tells → Passes (D.story disk.old) (D.story disk.new)
         (AddsStaged one.now.folder one.now.name (file_of one.now.new)) }
     ensures laid_out { D.tells → IsLaidOut (D.story disk.new).held }
+    ensures brief { D.tells → IsBrief 2 (D.story disk.old) (D.story disk.new) }
     ensures cause { Counts (D.faults disk.old) (D.faults disk.new) (disk_failed result) }
 {
     stage_record(alloc, disk, one)?;
@@ -91,13 +94,14 @@ pub(crate) fn stage_ending<D: Disk>(
     requires fit { IsFit one.now }
     requires laid_out { D.tells → IsLaidOut (D.story disk.old).held }
     ensures at { D.tells → IfOk result (λ reached. (f : AnEntry)
-        → IsFileOf one.now.name (file_of one.now.new) (D.story disk.old).held f
+        → IsFileOf one.now.name (file_of one.now.new) one.now.sig (D.story disk.old).held f
         → IsHalf (put_by one.now f) [] (D.story disk.old) → IsOn (put_by one.now f) (progress_by one.now reached) (D.story disk.new)) }
     ensures suits { IfOk result (IsStaged one.now) }
     ensures adds { D.tells → OnOk result (AddsStaged one.now.folder one.now.name (file_of one.now.new)
         (D.story disk.old).held (D.story disk.new).held) }
     ensures finishes { D.tells → (f : AnEntry) → Passes (D.story disk.old) (D.story disk.new) (Finishes (put_by one.now f)) }
     ensures laid_out { D.tells → IsLaidOut (D.story disk.new).held }
+    ensures brief { D.tells → IsBrief 3 (D.story disk.old) (D.story disk.new) }
     ensures cause { Counts (D.faults disk.old) (D.faults disk.new) (disk_failed result) }
 {
     stage_files(alloc, disk, one)?;
@@ -129,6 +133,7 @@ pub(crate) fn rename_staged_record<D: Disk>(
     ensures swept { D.tells → OnOk result ((D.story disk.new).held (staged_record_path name.now) ≡ None) }
     ensures moves { D.tells → OnOk result (MovesOnly (staged_record_path name.now) (record_path name.now)
         (D.story disk.old).held (D.story disk.new).held) }
+    ensures brief { D.tells → IsBrief 3 (D.story disk.old) (D.story disk.new) }
     ensures cause { Counts (D.faults disk.old) (D.faults disk.new) (disk_failed result) }
 {
     let from = staged_record_path(alloc, name)?;
@@ -163,6 +168,7 @@ fn rename_staged_stamp<D: Disk>(
     ensures swept { D.tells → OnOk result ((D.story disk.new).held (staged_path folder.now) ≡ None) }
     ensures moves { D.tells → OnOk result (MovesOnly (staged_path folder.now) (stamp_at folder.now)
         (D.story disk.old).held (D.story disk.new).held) }
+    ensures brief { D.tells → IsBrief 3 (D.story disk.old) (D.story disk.new) }
     ensures cause { Counts (D.faults disk.old) (D.faults disk.new) (disk_failed result) }
 {
     let from = staged_path(alloc, folder)?;
@@ -199,6 +205,8 @@ pub(crate) fn put_stamp<D: Disk>(
     ensures swept { D.tells → OnOk result ((D.story disk.new).held (staged_path folder.now) ≡ None) }
     ensures moves { D.tells → OnOk result (KeepsBut (staged_path folder.now) (D.story disk.old).held
         (D.story disk.new).held) }
+    ensures brief { D.tells → HasFreeStamp folder.now (D.story disk.old).held
+        → IsBrief 10 (D.story disk.old) (D.story disk.new) }
     ensures cause { Counts (D.faults disk.old) (D.faults disk.new) (disk_failed result) }
 {
     free_stamp(alloc, disk, folder)?;

@@ -11,8 +11,8 @@ use tree_model::{Bytes, Hash, Manifest, Mem, Text};
 pub enum StoreFault {
     /// The disk failed; its count of faults rose.
     Disk,
-    /// Two signatures that differ have one digest, which is the name of both: the one that the store has under that name, and the one
-    /// that was given, each as it is encoded.
+    /// Two byte strings that differ have one digest: what the store has, and what was given. They are the short texts of two signatures, of which this is the
+    /// name, or two keys.
     Collision {
         name: Hash,
         held: Bytes,

@@ -8,7 +8,7 @@ ghost use Rattle.outside_traits.specs.Reading.{IsReading};
 ghost use Rattle.outside_traits.specs.Store.{Store};
 ghost use Rattle.meta_model.specs.CleanBuild.{output_limit};
 ghost use Rattle.store_model.specs.Available.{IsAvailable, Matches, object_folder, stamp_path, work_folder};
-ghost use Rattle.store_model.specs.Spelling.{name_of, signature_bytes};
+ghost use Rattle.store_model.specs.Spelling.{name_of, signature_bytes, text_name};
 ghost use Rattle.build_store.specs.Faults.{IsClash, IsOutside, of_disk, store_failed};
 ghost use Rattle.build_store.specs.Finding.{IsAnswered, IsOtherOrOutside, IsOutput, IsSharedOf, IsStampedFor, IsThere, IsThereAtAll, IsWorkOf};
 ghost use Rattle.build_store.specs.Publication.{AreShort};
@@ -25,7 +25,7 @@ use meta_model::{Avail, MAX_OUTPUT_PATH, PlanTask};
 use outside_traits::{Disk, DiskFault, read_tree};
 use sstate_objects::{read_matching, read_verified};
 use std::alloc::Global;
-use store_model::{EquivRow, SigRecord};
+use store_model::{EquivRow, SigRecord, SigText};
 use store_opening::same_bytes;
 use tree_model::{Entry, Hash, Manifest, Size, Tree};
 
@@ -213,9 +213,11 @@ fn available_at<D: Disk>(
     disk: &mut D,
     task: &PlanTask,
     row: &EquivRow,
-    sig: &[u8],
+    sig: &SigText,
     setscene: bool,
 ) -> Result<Avail, StoreFault>
+    requires row { IsRow row.now }
+    requires named { row.now.name ≡ text_name sig.now }
     ensures found { D.tells → IfOk result (IsThereAtAll task.now row.now setscene (D.story disk.old).held) }
     ensures clear { OnOk result (row.now.sig ≡ sig.now) }
     ensures refused { IfErr result (IsOtherOrOutside row.now sig.now) }
@@ -245,7 +247,7 @@ pub fn available<D: Disk>(
     sig: &SigRecord,
     setscene: bool,
 ) -> Result<Avail, StoreFault>
-    requires { AllByRecursion IsRow index.now }
+    requires rows { AllByRecursion IsRow index.now }
     ensures found { D.tells → IfOk result (IsAvailable (D.story disk.old).held index.now setscene
         (signed_by task.now sig.now)) }
     ensures answered { IfOk result (IsAnswered index.now (signed_by task.now sig.now)) }
@@ -255,7 +257,7 @@ pub fn available<D: Disk>(
 {
     let own = name_of_sig(alloc, sig)?;
     match index.row(&own.name) {
-        Some(row) => available_at(alloc, disk, task, row, own.bytes.as_slice(), setscene),
+        Some(row) => available_at(alloc, disk, task, row, &own.text, setscene),
         None => Ok(Avail::Missing),
     }
 }

@@ -2,10 +2,10 @@
 ghost use Rattle.std.specs.Prelude.{◌≡◌, List, None, OnOk, ℕ};
 ghost use Rattle.tree_model.specs.Path.{IsBelow};
 ghost use Rattle.outside_traits.specs.Fault.{Counts, disk_failed};
-ghost use Rattle.outside_traits.specs.Passes.{Passes};
-ghost use Rattle.outside_traits.specs.Store.{IsFree};
+ghost use Rattle.outside_traits.specs.Passes.{IsBrief, Passes};
+ghost use Rattle.outside_traits.specs.Store.{IsFree, slashes};
 ghost use Rattle.store_model.specs.Publication.{stamp_at};
-ghost use Rattle.build_store.specs.Calls.{ClearsBelow, FreesStamp};
+ghost use Rattle.build_store.specs.Calls.{ClearsBelow, FreesStamp, HasFreeStamp};
 
 use crate::pieces::place_in;
 use crate::places::stamp_at;
@@ -18,10 +18,15 @@ fn clear_below<D: Disk>(alloc: Global, disk: &mut D, path: &str) -> Result<(), D
     ensures gone { D.tells → OnOk result ((q : List ℕ) → IsBelow path.now q → (D.story disk.new).held q ≡ None) }
     ensures clears { D.tells → Passes (D.story disk.old) (D.story disk.new)
         (ClearsBelow path.now (D.story disk.old).held) }
+    ensures brief { D.tells → ((q : List ℕ) → IsBelow path.now q → (D.story disk.old).held q ≡ None)
+        → IsBrief 1 (D.story disk.old) (D.story disk.new) }
     ensures cause { Counts (D.faults disk.old) (D.faults disk.new) (disk_failed result) }
 {
     let prefix = place_in(alloc, path, "")?;
     let paths = disk.list(alloc, prefix.as_str())?;
+    if paths.is_empty() {
+        return Ok(());
+    }
     remove_all(disk, paths.as_slice())
 }
 
@@ -35,6 +40,8 @@ pub(crate) fn free_stamp<D: Disk>(
     ensures free { D.tells → OnOk result (IsFree (D.story disk.new).held (stamp_at folder.now)) }
     ensures frees { D.tells → Passes (D.story disk.old) (D.story disk.new)
         (FreesStamp folder.now (D.story disk.old).held) }
+    ensures brief { D.tells → slashes folder.now ≡ 1 → HasFreeStamp folder.now (D.story disk.old).held
+        → IsBrief 7 (D.story disk.old) (D.story disk.new) }
     ensures cause { Counts (D.faults disk.old) (D.faults disk.new) (disk_failed result) }
 {
     let path = stamp_at(alloc, folder)?;

@@ -2,11 +2,11 @@
 ghost use Rattle.std.specs.Prelude.{◌≡◌, ◌≤◌, IfOk, None, OnOk, Some};
 ghost use Rattle.tree_model.specs.declared.entry.Entry.{Entry as AnEntry};
 ghost use Rattle.outside_traits.specs.Fault.{Counts, disk_failed};
-ghost use Rattle.outside_traits.specs.Passes.{Passes};
+ghost use Rattle.outside_traits.specs.Passes.{IsBrief, Passes};
 ghost use Rattle.store_opening.specs.Paths.{IsLaidOut};
 ghost use Rattle.build_store.specs.Drafts.{file_of};
 ghost use Rattle.stamp_store.specs.Stamp.{old_path};
-ghost use Rattle.build_store.specs.Calls.{Opens};
+ghost use Rattle.build_store.specs.Calls.{HasFreeStamp, Opens};
 ghost use Rattle.build_store.specs.Halves.{IsAside, IsHalf, IsOn};
 ghost use Rattle.build_store.specs.OpenOnes.{IsFit, IsOnOrDone, KeepsEntries, LeadsTo, Suits, Sweeps, items_of, progress_by, progress_of, put_by};
 ghost use Rattle.build_store.specs.Phases.{IsFileOf};
@@ -35,13 +35,14 @@ fn work_on<D: Disk>(
     ensures swept { D.tells → IfOk result (λ next. Sweeps one.now (Reached.Working done) (Some next)
         (D.story disk.old).held (D.story disk.new).held) }
     ensures on { D.tells → IfOk result (λ next. (f : AnEntry)
-        → IsFileOf one.now.name (file_of one.now.new) (D.story disk.old).held f
+        → IsFileOf one.now.name (file_of one.now.new) one.now.sig (D.story disk.old).held f
         → IsOn (put_by one.now f) (progress_by one.now next) (D.story disk.new)) }
     ensures keeps { D.tells → (f : AnEntry) → Passes (D.story disk.old) (D.story disk.new)
         (KeepsEntries (put_by one.now f) (D.story disk.old).held) }
     ensures publishing { D.tells → (f : AnEntry) → Passes (D.story disk.old) (D.story disk.new)
         (IsPublishing (put_by one.now f) (D.story disk.old).held) }
     ensures laid_out { D.tells → IsLaidOut (D.story disk.new).held }
+    ensures brief { D.tells → IsBrief 128 (D.story disk.old) (D.story disk.new) }
     ensures cause { Counts (D.faults disk.old) (D.faults disk.new) (disk_failed result) }
 {
     if done < count_items(one) {
@@ -69,6 +70,7 @@ fn take_on<D: Disk>(
     ensures opens { D.tells → (f : AnEntry) → IsAside (put_by one.now f) ticket (items_of one.now) (D.story disk.old)
         → Passes (D.story disk.old) (D.story disk.new) (Opens (put_by one.now f) (D.story disk.old).held) }
     ensures laid_out { D.tells → IsLaidOut (D.story disk.new).held }
+    ensures brief { D.tells → IsBrief 12 (D.story disk.old) (D.story disk.new) }
     ensures cause { Counts (D.faults disk.old) (D.faults disk.new) (disk_failed result) }
 {
     take_out(
@@ -100,7 +102,7 @@ pub(crate) fn go_on<D: Disk>(
     ensures swept { D.tells → IfOk result (λ next. Sweeps one.now one.now.reached next
         (D.story disk.old).held (D.story disk.new).held) }
     ensures on { D.tells → IfOk result (λ next. (f : AnEntry)
-        → IsFileOf one.now.name (file_of one.now.new) (D.story disk.old).held f
+        → IsFileOf one.now.name (file_of one.now.new) one.now.sig (D.story disk.old).held f
         → IsOn (put_by one.now f) (progress_of one.now) (D.story disk.old)
         → IsOnOrDone (put_by one.now f) (items_of one.now) next (D.story disk.new)) }
     ensures keeps { D.tells → (f : AnEntry)
@@ -110,6 +112,8 @@ pub(crate) fn go_on<D: Disk>(
         → IsOn (put_by one.now f) (progress_of one.now) (D.story disk.old)
         → Passes (D.story disk.old) (D.story disk.new) (IsPublishing (put_by one.now f) (D.story disk.old).held) }
     ensures laid_out { D.tells → IsLaidOut (D.story disk.new).held }
+    ensures brief { D.tells → HasFreeStamp one.now.folder (D.story disk.old).held
+        → IsBrief 128 (D.story disk.old) (D.story disk.new) }
     ensures cause { Counts (D.faults disk.old) (D.faults disk.new) (disk_failed result) }
 {
     match one.reached {

@@ -7,8 +7,8 @@ ghost use Rattle.store_model.specs.Spelling.{signature_bytes};
 
 use crate::kept::KeptSig;
 use meta_model::PlanTask;
-use std::alloc::Global;
-use tree_model::{Bytes, Mem};
+use store_model::SigText;
+use tree_model::Mem;
 
 /// Whether a signature is kept of this task.
 fn is_kept_for(kept: &KeptSig, pn: &str, task: &str) -> bool
@@ -25,12 +25,7 @@ fn is_any_for(kept: &[KeptSig], pn: &str, task: &str) -> bool
 }
 
 /// Keeps a task's signature, unless one of it is kept.
-pub(crate) fn keep(
-    alloc: Global,
-    kept: &mut Vec<KeptSig>,
-    task: &PlanTask,
-    sig: &[u8],
-) -> Result<(), Mem>
+pub(crate) fn keep(kept: &mut Vec<KeptSig>, task: &PlanTask, sig: &SigText) -> Result<(), Mem>
     ensures ok { OnOk result ((own : SigRecord) → sig.now ≡ signature_bytes own
         → kept.new.items ≡ kept_with (signed_by task.now own) kept.old.items) }
     ensures err { OnErr result (kept.new.items ≡ kept.old.items) }
@@ -41,7 +36,7 @@ pub(crate) fn keep(
     let own = KeptSig {
         pn: task.id.pn.copy()?,
         task: task.id.task.copy()?,
-        sig: Bytes::from_slice(alloc, sig)?,
+        sig: sig.copy()?,
     };
     kept.push(own)?;
     Ok(())

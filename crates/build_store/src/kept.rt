@@ -1,5 +1,6 @@
 // Signatures that a store keeps of tasks whose publication isn't done.
-use tree_model::{Bytes, Text};
+use store_model::SigText;
+use tree_model::Text;
 
 /// The signature of a task whose publication was opened and isn't done, or was given up once the disk was touched: the record may be there,
 /// though the index has no row of it.
@@ -9,6 +10,6 @@ pub struct KeptSig {
     pub pn: Text,
     /// The task.
     pub task: Text,
-    /// Its encoded signature.
-    pub sig: Bytes,
+    /// The whole text of its signature.
+    pub sig: SigText,
 }

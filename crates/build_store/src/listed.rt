@@ -17,7 +17,7 @@ use crate::pieces::OpenPublication;
 use meta_model::PlanTask;
 use sig_gen::encode;
 use std::alloc::Global;
-use store_model::SigRecord;
+use store_model::{SigRecord, SigText};
 use tree_model::{Hash, Mem};
 
 /// Whether what stands behind the PN in a folder is a slash and this name.
@@ -50,11 +50,11 @@ pub(crate) fn place_of(open_ones: &[OpenPublication], task: &PlanTask) -> Option
 }
 
 /// Whether the publication has this signature, and an object just where the task is of the shared state.
-fn is_signed(one: &OpenPublication, task: &PlanTask, sig: &[u8]) -> bool
+fn is_signed(one: &OpenPublication, task: &PlanTask, sig: &SigText) -> bool
     ensures is { IsTrue result → (one.now.sig ≡ sig.now) × (is_some one.now.object ≡ task.now.sstate) }
     ensures tells { one.now.sig ≡ sig.now → is_some one.now.object ≡ task.now.sstate → IsTrue result }
 {
-    one.sig.as_slice() == sig && one.object.is_some() == task.sstate
+    one.sig.is_same(sig) && one.object.is_some() == task.sstate
 }
 
 /// The place of the publication of a task that has this signature, if it is open.
@@ -73,7 +73,7 @@ pub(crate) fn place_signed(
     match place_of(open_ones, task) {
         Some(place) => {
             let own = encode(alloc, sig)?;
-            if is_signed(&open_ones[place], task, own.as_slice()) {
+            if is_signed(&open_ones[place], task, &own) {
                 return Ok(Some(place));
             }
             Ok(None)

@@ -1,4 +1,4 @@
-// Signatures with their bytes and their names.
+// Signatures with their texts and their names.
 ghost use Rattle.std.specs.Prelude.{◌≡◌, IfOk};
 ghost use Rattle.store_model.specs.Spelled.{IsSpelled};
 ghost use Rattle.store_model.specs.Spelling.{name_of, signature_bytes};
@@ -6,23 +6,23 @@ ghost use Rattle.sig_gen.specs.Sound.{Spells};
 
 use sig_gen::{encode, name_by};
 use std::alloc::Global;
-use store_model::SigRecord;
-use tree_model::{Bytes, Hash, Mem};
+use store_model::{SigRecord, SigText};
+use tree_model::{Hash, Mem};
 
-/// A signature's bytes, and the name of its record.
+/// A signature's whole text, and the name of its record.
 #[derive(Drop)]
 pub(crate) struct Named {
-    pub(crate) bytes: Bytes,
+    pub(crate) text: SigText,
     pub(crate) name: Hash,
 }
 
-/// A signature with its bytes and its name. What was written is read again, where the lists ascend.
+/// A signature with its whole text and its name. What was written is read again, where the lists ascend.
 pub(crate) fn name_of_sig(alloc: Global, sig: &SigRecord) -> Result<Named, Mem>
-    ensures bytes { IfOk result (λ named. named.bytes ≡ signature_bytes sig.now) }
+    ensures text { IfOk result (λ named. named.text ≡ signature_bytes sig.now) }
     ensures name { IfOk result (λ named. named.name ≡ name_of sig.now) }
-    ensures spells { IfOk result (λ named. IsSpelled sig.now → Spells named.bytes sig.now) }
+    ensures spells { IfOk result (λ named. IsSpelled sig.now → Spells named.text sig.now) }
 {
-    let bytes = encode(alloc, sig)?;
-    let name = name_by(bytes.as_slice());
-    Ok(Named { bytes, name })
+    let text = encode(alloc, sig)?;
+    let name = name_by(&text);
+    Ok(Named { text, name })
 }

@@ -6,12 +6,11 @@ ghost use Rattle.tree_model.specs.Tree.{IsTree, entry_at};
 ghost use Rattle.tree_model.specs.declared.entry.Entry.{Entry as AnEntry};
 ghost use Rattle.tree_model.specs.declared.hash.Hash.{Hash as AHash};
 ghost use Rattle.outside_traits.specs.Fault.{Counts, disk_failed};
-ghost use Rattle.outside_traits.specs.Passes.{EachNow, Passes, Same};
-ghost use Rattle.outside_traits.specs.Store.{IsOpen};
+ghost use Rattle.outside_traits.specs.Passes.{EachNow, IsBrief, Passes, Same};
+ghost use Rattle.outside_traits.specs.Store.{IsOpen, slashes};
 ghost use Rattle.stamp_store.specs.Stamp.{IsFolder, TakesAway, old_path};
 ghost use Rattle.store_model.specs.Available.{object_folder};
-ghost use Rattle.store_model.specs.Paths.{slashes};
-ghost use Rattle.store_model.specs.Publication.{Publication, stamp_at, work_at};
+ghost use Rattle.store_model.specs.Publication.{stamp_at, work_at, Publication};
 ghost use Rattle.store_opening.specs.Named.{IsName};
 ghost use Rattle.store_opening.specs.Paths.{IsLaidOut};
 ghost use Rattle.build_store.specs.Calls.{Opens};
@@ -20,7 +19,7 @@ ghost use Rattle.build_store.specs.Halves.{IsAside, IsHalf, IsOn};
 ghost use Rattle.build_store.specs.declared.pieces.Reached.{Reached as AReached};
 ghost use Rattle.build_store.specs.Items.{Item as AnItem};
 ghost use Rattle.build_store.specs.Noting.{AreNoted};
-ghost use Rattle.build_store.specs.OpenOnes.{AddsOwn, IsAsideAt, IsFirst, IsFit, MakesRoom, NotesIn, extras, items_by, items_of, opened_by, progress_at, progress_of, put_by};
+ghost use Rattle.build_store.specs.OpenOnes.{AddsOwn, HasPlainName, IsAsideAt, IsFirst, IsFit, MakesRoom, NotesIn, extras, items_by, items_of, opened_by, progress_at, progress_of, put_by};
 ghost use Rattle.build_store.specs.Phases.{put_of};
 ghost use Rattle.build_store.specs.Pieces.{IsPublishing};
 ghost use Rattle.build_store.specs.Publication.{AreShort};
@@ -50,6 +49,7 @@ fn put_aside<D: Disk>(alloc: Global, disk: &mut D, folder: &str) -> Result<bool,
     ensures same { D.tells → IfOk result (λ put. OnFalse put (Passes (D.story disk.old) (D.story disk.new) Same)) }
     ensures gone { D.tells → OnOk result ((D.story disk.new).held (stamp_at folder.now) ≡ None) }
     ensures images { D.tells → Passes (D.story disk.old) (D.story disk.new) (TakesAway folder.now) }
+    ensures brief { D.tells → IsBrief 2 (D.story disk.old) (D.story disk.new) }
     ensures cause { Counts (D.faults disk.old) (D.faults disk.new) (disk_failed result) }
 {
     let path = stamp_at(alloc, folder)?;
@@ -73,6 +73,7 @@ fn make_way_of_object<D: Disk>(
         → Passes (D.story disk.old) (D.story disk.new) (MakesRoom p (D.story disk.old).held) }
     ensures work { D.tells → (folder : List ℕ) → IsOpen (work_at folder) (D.story disk.old).held
         → IsOpen (work_at folder) (D.story disk.new).held }
+    ensures brief { D.tells → HasPlainName object.now → IsBrief 4 (D.story disk.old) (D.story disk.new) }
     ensures cause { Counts (D.faults disk.old) (D.faults disk.new) (disk_failed result) }
 {
     match object {
@@ -96,6 +97,7 @@ fn make_way<D: Disk>(
         → IsOpen (object_folder unihash) (D.story disk.new).held) }
     ensures way { D.tells → (p : Publication) → p.folder ≡ folder.now → p.object ≡ object.now
         → Passes (D.story disk.old) (D.story disk.new) (MakesRoom p (D.story disk.old).held) }
+    ensures brief { D.tells → slashes folder.now ≡ 1 → HasPlainName object.now → IsBrief 10 (D.story disk.old) (D.story disk.new) }
     ensures cause { Counts (D.faults disk.old) (D.faults disk.new) (disk_failed result) }
 {
     let work = work_at(alloc, folder)?;
@@ -127,6 +129,7 @@ fn begin<D: Disk>(
     ensures opens { D.tells → (p : Publication) → p.folder ≡ folder.now → p.object ≡ object.now
         → Passes (D.story disk.old) (D.story disk.new) (Opens p (D.story disk.old).held) }
     ensures laid_out { D.tells → IsLaidOut (D.story disk.new).held }
+    ensures brief { D.tells → HasPlainName object.now → IsBrief 12 (D.story disk.old) (D.story disk.new) }
     ensures cause { Counts (D.faults disk.old) (D.faults disk.new) (disk_failed result) }
 {
     if put_aside(alloc, disk, folder)? {
@@ -157,6 +160,7 @@ pub(crate) fn take_out<D: Disk>(
         → (items : List AnItem) → IsAside p ticket items (D.story disk.old)
         → Passes (D.story disk.old) (D.story disk.new) (Opens p (D.story disk.old).held) }
     ensures laid_out { D.tells → IsLaidOut (D.story disk.new).held }
+    ensures brief { D.tells → HasPlainName object.now → IsBrief 12 (D.story disk.old) (D.story disk.new) }
     ensures cause { Counts (D.faults disk.old) (D.faults disk.new) (disk_failed result) }
 {
     let aside = old_path(alloc, folder)?;
@@ -207,6 +211,7 @@ fn note_in<D: Disk>(
 ) -> Result<(), DiskFault>
     ensures noted { D.tells → OnOk result (NotesIn folder.now tree.now (D.story disk.old).held extra.old extra.new) }
     ensures same { D.tells → Passes (D.story disk.old) (D.story disk.new) Same }
+    ensures brief { D.tells → IsBrief 1 (D.story disk.old) (D.story disk.new) }
     ensures cause { Counts (D.faults disk.old) (D.faults disk.new) (disk_failed result) }
 {
     let prefix = place_in(alloc, folder, "")?;
@@ -227,6 +232,7 @@ fn note_object<D: Disk>(
     ensures noted { D.tells → OnOk result ((unihash : AHash) → object.now ≡ Some unihash
         → NotesIn (object_folder unihash) tree.now (D.story disk.old).held extra.old extra.new) }
     ensures same { D.tells → Passes (D.story disk.old) (D.story disk.new) Same }
+    ensures brief { D.tells → IsBrief 1 (D.story disk.old) (D.story disk.new) }
     ensures cause { Counts (D.faults disk.old) (D.faults disk.new) (disk_failed result) }
 {
     match object {
@@ -249,6 +255,7 @@ fn note<D: Disk>(
     ensures noted { D.tells → IfOk result (λ extra. (p : Publication) → p.folder ≡ folder.now → p.object ≡ object.now
         → p.tree ≡ tree.now → AreNoted p (items_by p extra) (D.story disk.new).held) }
     ensures same { D.tells → Passes (D.story disk.old) (D.story disk.new) Same }
+    ensures brief { D.tells → IsBrief 2 (D.story disk.old) (D.story disk.new) }
     ensures cause { Counts (D.faults disk.old) (D.faults disk.new) (disk_failed result) }
 {
     let mut extra = Texts::new(alloc);
@@ -280,6 +287,7 @@ fn note_few<D: Disk>(
     ensures noted { D.tells → IfOk result (λ extra. (p : Publication) → p.folder ≡ folder.now → p.object ≡ object.now
         → p.tree ≡ tree.now → AreNoted p (items_by p extra) (D.story disk.new).held) }
     ensures same { D.tells → Passes (D.story disk.old) (D.story disk.new) Same }
+    ensures brief { D.tells → IsBrief 2 (D.story disk.old) (D.story disk.new) }
     ensures cause { Counts (D.faults disk.old) (D.faults disk.new) (disk_failed result) }
 {
     let extra = note(alloc, disk, folder, object, tree)?;
@@ -302,14 +310,14 @@ fn opened_by(
 {
     let Draft {
         name,
-        bytes,
+        text,
         unihash,
         new,
     } = draft;
     OpenPublication {
         folder,
         name,
-        sig: bytes,
+        sig: text,
         tree,
         unihash,
         object,
@@ -347,10 +355,11 @@ pub(crate) fn open_publication<D: Disk>(
     ensures opened { D.tells → IfOk result (λ one. (f : AnEntry) → IsOn (put_by one f) (progress_of one) (D.story disk.new)) }
     ensures swept { D.tells → IfOk result (λ one. AddsOwn one (D.story disk.old).held (D.story disk.new).held) }
     ensures opens { D.tells → (f : AnEntry) → Passes (D.story disk.old) (D.story disk.new)
-        (Opens (put_of folder draft.name tree object (file_of draft.new) f) (D.story disk.old).held) }
+        (Opens (put_of folder draft.name tree object (file_of draft.new) f draft.text) (D.story disk.old).held) }
     ensures publishing { D.tells → (f : AnEntry) → Passes (D.story disk.old) (D.story disk.new)
-        (IsPublishing (put_of folder draft.name tree object (file_of draft.new) f) (D.story disk.old).held) }
+        (IsPublishing (put_of folder draft.name tree object (file_of draft.new) f draft.text) (D.story disk.old).held) }
     ensures laid_out { D.tells → IsLaidOut (D.story disk.new).held }
+    ensures brief { D.tells → IsBrief 14 (D.story disk.old) (D.story disk.new) }
     ensures cause { Counts (D.faults disk.old) (D.faults disk.new) (disk_failed result) }
 {
     let _entries = tree.entries();

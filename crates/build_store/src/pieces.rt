@@ -7,8 +7,9 @@ ghost use Rattle.build_store.specs.OpenOnes.{items_of, shared_writings};
 use crate::drafting::NewRecord;
 use sstate_objects::object_folder;
 use std::alloc::Global;
+use store_model::SigText;
 use store_opening::work_at;
-use tree_model::{Bytes, Entry, Hash, Mem, Text, Texts, Tree};
+use tree_model::{Entry, Hash, Mem, Text, Texts, Tree};
 
 /// How far an open publication is. A number is the moment of its last ticket.
 #[derive(Clone, Copy)]
@@ -36,8 +37,8 @@ pub(crate) struct OpenPublication {
     pub(crate) folder: Text,
     /// The name of its record.
     pub(crate) name: Hash,
-    /// The bytes of its signature.
-    pub(crate) sig: Bytes,
+    /// The whole text of its signature.
+    pub(crate) sig: SigText,
     /// What the task gave.
     pub(crate) tree: Tree,
     /// The task's unihash.

@@ -2,6 +2,7 @@
 ghost use Rattle.std.specs.Prelude.{◌≡◌, IfOk};
 ghost use Rattle.stamp_store.specs.Stamp.{old_path, staged_path};
 ghost use Rattle.store_model.specs.Available.{task_folder, work_folder};
+ghost use Rattle.store_model.specs.Paths.{key_path};
 ghost use Rattle.store_model.specs.Publication.{stamp_at};
 ghost use Rattle.store_opening.specs.Paths.{staged_record_path};
 
@@ -59,7 +60,16 @@ pub(crate) fn work_folder(alloc: Global, task: &PlanTask) -> Result<Text, Mem>
 pub(crate) fn staged_record_path(alloc: Global, name: &Hash) -> Result<Text, Mem>
     ensures { IfOk result (λ path. path ≡ staged_record_path name.now) }
 {
-    let mut path = Text::from_str(alloc, "tmp/rec/")?;
+    let mut path = Text::from_str(alloc, "tmp/rec2/")?;
+    path.push_str(name.text(alloc)?.as_str())?;
+    Ok(path)
+}
+
+/// Where a key stands.
+pub(crate) fn key_path(alloc: Global, name: &Hash) -> Result<Text, Mem>
+    ensures { IfOk result (λ path. path ≡ key_path name.now) }
+{
+    let mut path = Text::from_str(alloc, "key/")?;
     path.push_str(name.text(alloc)?.as_str())?;
     Ok(path)
 }

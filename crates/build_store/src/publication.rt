@@ -1,13 +1,14 @@
 // What a restoring does to a disk, one phase after the other; and how a record's file is written.
-ghost use Rattle.std.specs.Prelude.{◌≡◌, ◌≤◌, OnOk, None, Some};
+ghost use Rattle.std.specs.Prelude.{◌≡◌, ◌≤◌, List, OnOk, None, Some, ℕ};
 ghost use Rattle.tree_model.specs.declared.entry.Entry.{Entry as AnEntry};
 ghost use Rattle.outside_traits.specs.Fault.{Counts, disk_failed};
-ghost use Rattle.outside_traits.specs.Passes.{EachNow, Passes};
-ghost use Rattle.outside_traits.specs.Store.{AgreesApart, AgreesRound, ChangesAt, HoldsTree, LaysTree};
+ghost use Rattle.outside_traits.specs.Passes.{EachNow, IsBrief, Passes};
+ghost use Rattle.outside_traits.specs.Store.{AgreesApart, AgreesRound, ChangesAt, HoldsTree, LaysTree, slashes};
 ghost use Rattle.stamp_store.specs.Stamp.{IsFolder, staged_path};
 ghost use Rattle.store_opening.specs.Paths.{IsLaidOut, staged_record_path};
-ghost use Rattle.store_model.specs.Paths.{record_path, slashes};
+ghost use Rattle.store_model.specs.Paths.{record_path};
 ghost use Rattle.build_store.specs.Calls.{KeepsAround};
+ghost use Rattle.build_store.specs.Keys.{HoldsKeyOf};
 ghost use Rattle.build_store.specs.Phases.{put_of};
 ghost use Rattle.build_store.specs.Publication.{AreShort, IsPublished, KeepsRight, Publishes};
 ghost use Rattle.build_store.specs.Standing.{AddsNoLitter};
@@ -45,7 +46,7 @@ fn lay_work<D: Disk>(
     put_tree(alloc, disk, work.as_str(), tree)
 }
 
-/// Writes a record's file to `tmp/rec/`.
+/// Writes a record's file to `tmp/rec2/`.
 pub(crate) fn write_record<D: Disk>(
     alloc: Global,
     disk: &mut D,
@@ -57,6 +58,7 @@ pub(crate) fn write_record<D: Disk>(
     requires laid_out { D.tells → IsLaidOut (D.story disk.old).held }
     ensures staged { D.tells → OnOk result ((D.story disk.new).held (staged_record_path name.now) ≡ Some entry.now) }
     ensures others { D.tells → Passes (D.story disk.old) (D.story disk.new) (ChangesAt (staged_record_path name.now)) }
+    ensures brief { D.tells → IsBrief 1 (D.story disk.old) (D.story disk.new) }
     ensures cause { Counts (D.faults disk.old) (D.faults disk.new) (disk_failed result) }
 {
     let path = staged_record_path(alloc, name)?;
@@ -84,8 +86,8 @@ fn stage_synced<D: Disk>(
     disk.sync()
 }
 
-/// Puts a tree whose record is stored: what is in the way of its stamp goes, its work folder becomes the tree, and last comes the stamp, which names
-/// the record.
+/// Puts a tree whose record is stored, and whose key is held: what is in the way of its stamp goes, its work folder becomes the tree, and last
+/// comes the stamp, which names the record.
 ///
 /// At each moment the stamp is gone, or all that it tells of is there, or nothing was touched yet. What is held of the tree already isn't
 /// written again.
@@ -102,10 +104,12 @@ pub(crate) fn put<D: Disk>(
     requires short { AreShort tree.now }
     requires laid_out { D.tells → IsLaidOut (D.story disk.old).held }
     ensures published { D.tells → OnOk result ((f : AnEntry) → (D.story disk.old).held (record_path name.now) ≡ Some f
-        → EachNow (D.story disk.new) (IsPublished (put_of folder.now name.now tree.now None None f))) }
+        → (text : List ℕ) → HoldsKeyOf text (D.story disk.old).held
+        → EachNow (D.story disk.new) (IsPublished (put_of folder.now name.now tree.now None None f text))) }
     ensures swept { D.tells → OnOk result (AddsNoLitter (D.story disk.old).held (D.story disk.new).held) }
     ensures others { D.tells → (f : AnEntry) → (D.story disk.old).held (record_path name.now) ≡ Some f
-        → Passes (D.story disk.old) (D.story disk.new) (Publishes (put_of folder.now name.now tree.now None None f)) }
+        → (text : List ℕ) → HoldsKeyOf text (D.story disk.old).held
+        → Passes (D.story disk.old) (D.story disk.new) (Publishes (put_of folder.now name.now tree.now None None f text)) }
     ensures laid_out { D.tells → IsLaidOut (D.story disk.new).held }
     ensures round { D.tells → Passes (D.story disk.old) (D.story disk.new)
         (KeepsAround folder.now (D.story disk.old).held) }

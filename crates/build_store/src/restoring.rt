@@ -1,5 +1,5 @@
 // Restoring outputs from objects.
-ghost use Rattle.std.specs.Prelude.{◌≡◌, ◌≤◌, IfErr, IfNone, IfOk, IfSome, MatchBool, None, OnOk, Some};
+ghost use Rattle.std.specs.Prelude.{◌≡◌, ◌≤◌, IfErr, IfNone, IfOk, IfSome, List, MatchBool, None, OnOk, Some, ℕ};
 ghost use Rattle.std.specs.Bool.{OnFalse};
 ghost use Rattle.std.specs.List.{AllByRecursion};
 ghost use Rattle.tree_model.specs.Tree.{IsTree};
@@ -8,7 +8,8 @@ ghost use Rattle.outside_traits.specs.Passes.{EachNow, Passes, Same};
 ghost use Rattle.sstate_objects.specs.Matching.{IsMatching};
 ghost use Rattle.store_model.specs.Available.{Matches, object_folder, task_folder};
 ghost use Rattle.store_model.specs.Spelled.{IsSpelled};
-ghost use Rattle.store_model.specs.Spelling.{name_of, signature_bytes};
+ghost use Rattle.store_model.specs.Spelling.{name_of, signature_bytes, text_name};
+ghost use Rattle.build_store.specs.Keys.{HoldsKeyOf};
 ghost use Rattle.store_model.specs.Rows.{IsClear, row_at};
 ghost use Rattle.store_model.specs.declared.signature.EquivRow.{EquivRow as ARow};
 ghost use Rattle.build_store.specs.Faults.{IsClash, IsOutside, store_failed};
@@ -36,7 +37,7 @@ use meta_model::PlanTask;
 use outside_traits::{Disk, DiskFault};
 use sstate_objects::read_verified;
 use std::alloc::Global;
-use store_model::{EquivRow, SigRecord};
+use store_model::{EquivRow, SigRecord, SigText};
 use tree_model::{Hash, Tree};
 
 /// The tree, where its paths are short.
@@ -83,11 +84,12 @@ fn put_task<D: Disk>(
     requires short { AreShort tree.now }
     requires laid_out { D.tells → IsLaidOut (D.story disk.old).held }
     ensures published { D.tells → OnOk result ((f : AnEntry) → (D.story disk.old).held (record_path name.now) ≡ Some f
-        → EachNow (D.story disk.new) (IsPublished (put_of (task_folder task.now) name.now tree.now None None f))) }
+        → (text : List ℕ) → HoldsKeyOf text (D.story disk.old).held
+        → EachNow (D.story disk.new) (IsPublished (put_of (task_folder task.now) name.now tree.now None None f text))) }
     ensures swept { D.tells → OnOk result (AddsNoLitter (D.story disk.old).held (D.story disk.new).held) }
     ensures others { D.tells → (f : AnEntry) → (D.story disk.old).held (record_path name.now) ≡ Some f
-        → Passes (D.story disk.old) (D.story disk.new)
-        (Publishes (put_of (task_folder task.now) name.now tree.now None None f)) }
+        → (text : List ℕ) → HoldsKeyOf text (D.story disk.old).held → Passes (D.story disk.old) (D.story disk.new)
+        (Publishes (put_of (task_folder task.now) name.now tree.now None None f text)) }
     ensures laid_out { D.tells → IsLaidOut (D.story disk.new).held }
     ensures refused { IfErr result IsOutside }
     ensures round { D.tells → Passes (D.story disk.old) (D.story disk.new)
@@ -147,11 +149,12 @@ fn restore_at<D: Disk>(
     disk: &mut D,
     task: &PlanTask,
     row: &EquivRow,
-    sig: &[u8],
+    sig: &SigText,
 ) -> Result<bool, StoreFault>
     requires reach { 3600 ≤ D.reach }
     requires place { HasPlace task.now }
     requires row { IsRow row.now }
+    requires named { row.now.name ≡ text_name sig.now }
     requires laid_out { D.tells → IsLaidOut (D.story disk.old).held }
     ensures restored { D.tells → IfOk result (λ found. MatchBool found
         (IsPutBack task.now row.now (D.story disk.old) (D.story disk.new))
@@ -207,7 +210,7 @@ pub(crate) fn restore<D: Disk>(
 {
     let own = name_of_sig(alloc, sig)?;
     match index.row(&own.name) {
-        Some(row) => restore_at(alloc, disk, task, row, own.bytes.as_slice()),
+        Some(row) => restore_at(alloc, disk, task, row, &own.text),
         None => Ok(false),
     }
 }

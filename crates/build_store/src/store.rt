@@ -4,53 +4,61 @@ ghost use Rattle.std.specs.Bool.{OnFalse, OnTrue};
 ghost use Rattle.std.specs.Option.{option_map};
 ghost use Rattle.tree_model.specs.Manifest.{manifest_lines};
 ghost use Rattle.outside_traits.specs.Fault.{Counts};
-ghost use Rattle.outside_traits.specs.Passes.{EachNow, Passes, Same};
+ghost use Rattle.outside_traits.specs.Passes.{EachNow, IsBrief, Passes, Same};
 ghost use Rattle.outside_traits.specs.Story.{IsFresh, moment as moment_of};
 ghost use Rattle.store_model.specs.Available.{IsAvailable, task_folder, work_folder};
 ghost use Rattle.store_model.specs.Rows.{row_at, IsClear};
 ghost use Rattle.store_model.specs.declared.signature.EquivRow.{EquivRow as ARow};
 ghost use Rattle.store_model.specs.Spelled.{IsSpelled};
-ghost use Rattle.store_model.specs.Spelling.{name_of, signature_bytes};
+ghost use Rattle.store_model.specs.Spelling.{name_of, signature_bytes, text_name};
+ghost use Rattle.build_store.specs.Keys.{HasNewKey, is_new_key, keys_with};
 ghost use Rattle.sig_gen.specs.Sound.{IsNameBy};
 ghost use Rattle.build_store.specs.Faults.{IsClash, IsOutside, IsRefusal, OnDifference, OnMemory, store_failed};
+ghost use Rattle.build_store.specs.Calls.{HasFreeStamp};
 ghost use Rattle.build_store.specs.Finding.{IsAnswered, IsOutput};
+ghost use Rattle.build_store.specs.declared.fault.StoreFault.TheVariants as FaultsOf;
+ghost use Rattle.std.specs.List.{AllByRecursion};
+ghost use Rattle.store_opening.specs.Sound.{IsKept};
 ghost use Rattle.store_opening.specs.Opening.{Clears};
 ghost use Rattle.store_model.specs.Opened.{HasNoLitter, IsOpened};
 ghost use Rattle.build_store.specs.Outcome.{disk_of, open_failed};
 ghost use Rattle.store_opening.specs.Paths.{HasPlace};
-ghost use Rattle.build_store.specs.Publication.{AreShort, HasNoObject, IsRestored, KeepsCopied, KeepsOthers, Restores, line_for, object_for, publication};
+ghost use Rattle.build_store.specs.Publication.{AreShort, HasNoObject, IsRestored, KeepsCopied, KeepsOthers, Restores, first_publication, line_for, object_for, publication};
 ghost use Rattle.build_store.specs.Openings.{IsOpen, LandsOn, Meets, NoneNamed, OpensTask, StepsTo};
 ghost use Rattle.build_store.specs.OpenOnes.{KeepsEntries};
 ghost use Rattle.build_store.specs.Pieces.{IsPublishing};
 ghost use Rattle.meta_model.specs.CleanBuild.{Entries};
-ghost use Rattle.store_model.specs.Readable.{HoldsRecords, IsReadable};
+ghost use Rattle.store_model.specs.Readable.{HoldsRecords, IsReadable, IsRow};
 ghost use Rattle.build_store.specs.View.{IsSignatureOf, IsWanting, NothingOpen, SameBooks, SameRows, opened_at, signed_by};
 
 use crate::comparing::compare_at;
 use crate::fault::StoreFault;
 use crate::finding::{available, output};
 use crate::kept::KeptSig;
+use crate::keys::keys_of;
 use crate::listed::{place_of, place_signed};
 use crate::pieces::OpenPublication;
 use crate::refused::OpenRefused;
 use crate::restoring::restore;
 use crate::step::Step;
-use crate::tasks::{open_beside, prepare, step_at};
+use crate::tasks::{open_with_key, prepare, step_at};
 use hash_equiv::Index;
 use meta_model::{Avail, PlanTask};
 use outside_traits::{Disk, DiskFault};
+use record_move::KnownKeys;
 use std::alloc::Global;
 use std::marker::Model;
-use store_model::SigRecord;
+use store_model::{SigRecord, SigText};
 use store_opening::{Ahead, open_disk};
 use tree_model::{Hash, Manifest, Tree};
 
-/// What runs of plans left on a disk, with the index of its records. Contracts see the disk, the rows, the kept signatures, what is open, and
-/// whether no call that changes the disk met a fault.
+/// What runs of plans left on a disk, with the index of its records. Contracts see the disk, the rows, the known keys, the kept signatures, what is
+/// open, and whether no call that changes the disk met a fault.
 #[derive(Drop)]
 pub struct Store<D: Disk> {
     disk: D,
     index: Index,
+    keys: KnownKeys,
     kept: Vec<KeptSig>,
     open_ones: Vec<OpenPublication>,
     faultless: bool,
@@ -61,21 +69,49 @@ impl<D: Disk> Model for Store<D> {
     ghost use Rattle.std.specs.List.{AllByRecursion};
     ghost use Rattle.store_model.specs.Readable.{IsRow};
     ghost use Rattle.store_opening.specs.Sound.{IsKept};
-    ghost use Rattle.build_store.specs.Standing.{AreOn, AreOpen, IsTidy};
+    ghost use Rattle.build_store.specs.Keys.{HoldsKeys, KnowsRows};
+    ghost use Rattle.build_store.specs.Standing.{AreOn, AreOpen, IsTidy, KnowsOpen};
     ghost use Rattle.build_store.specs.View.{View, view_of};
 
     ghost Value = { View D };
 
-    ghost view = { λ s. view_of s.disk s.index s.kept.items s.open_ones.items s.faultless };
+    ghost view = { λ s. view_of s.disk s.index s.keys s.kept.items s.open_ones.items s.faultless };
 
     ghost invariant = { λ s. AllByRecursion IsRow s.index × (D.tells → IsKept s.index (D.story s.disk))
         × AreOpen s.index s.open_ones.items × (D.tells → AreOn s.index (D.story s.disk) s.open_ones.items)
-        × (D.tells → s.faultless ≡ true → IsTidy s.open_ones.items (D.story s.disk)) };
+        × (D.tells → s.faultless ≡ true → IsTidy s.open_ones.items (D.story s.disk))
+        × KnowsRows s.keys s.index × KnowsOpen s.keys s.open_ones.items × (D.tells → HoldsKeys s.keys (D.story s.disk).held) };
+}
+
+/// The store of a disk that was opened, with these rows.
+fn store_of<D: Disk>(alloc: Global, disk: D, index: Index) -> Result<Store<D>, OpenRefused<D>>
+    requires rows { AllByRecursion IsRow index }
+    requires keeps { D.tells → IsKept index (D.story disk) }
+    requires clean { D.tells → HasNoLitter (D.story disk).held }
+    requires durable { D.tells → EachNow (D.story disk) (λ image. image ≡ (D.story disk).held) }
+    ensures store { IfOk result (λ store. (store.disk ≡ disk) × (store.rows ≡ index) × (store.kept ≡ [])
+        × NothingOpen store.opened × (store.faultless ≡ true)) }
+    ensures refused { IfErr result (λ refused. (refused.disk ≡ disk) × (refused.fault ≡ FaultsOf.Memory)) }
+{
+    match keys_of(alloc, &index) {
+        Ok(keys) => Ok(Store {
+            disk,
+            index,
+            keys,
+            kept: Vec::new(alloc),
+            open_ones: Vec::new(alloc),
+            faultless: true,
+        }),
+        Err(_) => Err(OpenRefused {
+            disk,
+            fault: StoreFault::Memory,
+        }),
+    }
 }
 
 /// Opens the store that a disk holds, whatever that is.
 ///
-/// Records, stamps and temporary files are cleared up: all under `tmp/` goes, and of what is under `rec/` and `stamp/` just the believed
+/// Records, stamps and temporary files are cleared up: all under `tmp/` goes, and of what is under `rec2/` and `stamp/` just the believed
 /// records and the files that are stamps stay, with nothing held above their work folders. What is held at `obj` itself goes. The rows are
 /// those of the believed records, in an order in which what a record names stands before it: by depth, then by name. What is under `work/`
 /// and `obj/` is left alone. Then the disk is synced. (Own rule.) What `ahead` knows of just the files that are read spares the work on
@@ -104,13 +140,7 @@ pub fn open_store<D: Disk>(
 {
     let mut disk = disk;
     match open_disk(alloc, &mut disk, ahead) {
-        Ok(index) => Ok(Store {
-            disk,
-            index,
-            kept: Vec::new(alloc),
-            open_ones: Vec::new(alloc),
-            faultless: true,
-        }),
+        Ok(index) => store_of(alloc, disk, index),
         Err(DiskFault::Failed) => Err(OpenRefused {
             disk,
             fault: StoreFault::Disk,
@@ -123,10 +153,11 @@ pub fn open_store<D: Disk>(
 }
 
 impl<D: Disk> Store<D> {
-    /// Compares the bytes of a signature with those of the row of its name, if there is one. It looks at the rows alone.
+    /// Compares the whole text of a signature with that of the row of its name, if there is one. It looks at the rows alone.
     ///
     /// `Collision` comes exactly where that row has another signature.
-    pub fn compare(&self, alloc: Global, name: &Hash, sig: &[u8]) -> Result<(), StoreFault>
+    pub fn compare(&self, alloc: Global, name: &Hash, sig: &SigText) -> Result<(), StoreFault>
+        requires named { name.now ≡ text_name sig.now }
         ensures clear { OnOk result (IsClear self.now.rows name.now sig.now) }
         ensures refused { IfErr result (IsClash self.now.rows name.now sig.now) }
         ensures inside { store_failed result ≡ false }
@@ -258,7 +289,7 @@ impl<D: Disk> Store<D> {
         ensures busy { IfOk result (λ is_open. OnFalse is_open ((self.new ≡ self.old)
             × Meets self.old.rows self.old.opened (name_of sig.now)
             (object_for self.old.rows (signed_by task.now sig.now) tree))) }
-        ensures refused { IfErr result (IsRefusal self.old.rows (signed_by task.now sig.now) tree) }
+        ensures refused { IfErr result (IsRefusal self.old.rows self.old.keys (signed_by task.now sig.now) tree) }
         ensures refused_open { OnErr result (self.new.opened ≡ self.old.opened) }
         ensures unchanged { IfErr result (λ fault. OnDifference fault (self.new ≡ self.old)) }
         ensures wanting { IfErr result (λ fault. OnMemory fault
@@ -266,11 +297,15 @@ impl<D: Disk> Store<D> {
 
         // Whatever it answers.
         ensures rows { self.new.rows ≡ self.old.rows }
+        ensures keys { (self.new.keys ≡ self.old.keys) ⊎ (self.new.keys ≡ keys_with self.old.keys sig.now) }
+        ensures new_key { is_new_key self.old.keys sig.now ≡ true → HasNewKey self.old.rows self.old.opened sig.now }
         ensures apart { (self.new ≡ self.old) ⊎ NoneNamed self.old.opened (name_of sig.now) }
         ensures publishing { D.tells → Passes (D.story self.old.disk) (D.story self.new.disk)
-            (IsPublishing (publication self.old.rows (signed_by task.now sig.now) tree) (D.story self.old.disk).held) }
+            (IsPublishing (first_publication self.old.keys self.old.rows (signed_by task.now sig.now) tree)
+            (D.story self.old.disk).held) }
         ensures readable { IsReadable (line_for self.old.rows (signed_by task.now sig.now) tree)
             ⊎ (self.new.disk ≡ self.old.disk) }
+        ensures brief { D.tells → IsBrief 16 (D.story self.old.disk) (D.story self.new.disk) }
         ensures cause { Counts (D.faults self.old.disk) (D.faults self.new.disk) (store_failed result) }
     {
         if !self.faultless {
@@ -279,6 +314,7 @@ impl<D: Disk> Store<D> {
         match prepare(
             alloc,
             &self.index,
+            &self.keys,
             &mut self.kept,
             &mut self.open_ones,
             task,
@@ -286,10 +322,11 @@ impl<D: Disk> Store<D> {
             manifest,
         )? {
             Some(draft) => {
-                let done = open_beside(
+                let done = open_with_key(
                     alloc,
                     &mut self.disk,
                     &self.index,
+                    &mut self.keys,
                     &mut self.open_ones,
                     task,
                     sig,
@@ -339,6 +376,9 @@ impl<D: Disk> Store<D> {
         ensures publishing { D.tells → (tree : Entries) → IsOpen self.old.opened (signed_by task.now sig.now) tree
             → Passes (D.story self.old.disk) (D.story self.new.disk)
             (IsPublishing (publication self.old.rows (signed_by task.now sig.now) tree) (D.story self.old.disk).held) }
+        ensures keys { self.new.keys ≡ self.old.keys }
+        ensures brief { D.tells → HasFreeStamp (task_folder task.now) (D.story self.old.disk).held
+            → IsBrief 129 (D.story self.old.disk) (D.story self.new.disk) }
         ensures cause { Counts (D.faults self.old.disk) (D.faults self.new.disk) (store_failed result) }
     {
         match place_signed(alloc, self.open_ones.as_slice(), task, sig)? {
@@ -366,8 +406,8 @@ impl<D: Disk> Store<D> {
         }
     }
 
-    /// The name of a signature, which has this PN, by its bytes, where one of the PN's first rows has them. No memory.
-    pub fn known_name(&self, pn: &str, sig: &[u8]) -> Option<Hash>
+    /// The name of a signature, which has this PN, by its whole text, where one of the PN's first rows has it. No memory.
+    pub fn known_name(&self, pn: &str, sig: &SigText) -> Option<Hash>
         ensures { IfSome result (IsNameBy sig.now) }
     {
         self.index.name_of(pn, sig)
@@ -397,6 +437,7 @@ impl<D: Disk> Store<D> {
         let Store {
             disk,
             index: _,
+            keys: _,
             kept: _,
             open_ones: _,
             faultless: _,

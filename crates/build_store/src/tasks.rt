@@ -4,7 +4,7 @@ ghost use Rattle.std.specs.List.{AllByRecursion};
 ghost use Rattle.std.specs.Vec.{vec_capacity, vec_len};
 ghost use Rattle.tree_model.specs.Manifest.{manifest_lines};
 ghost use Rattle.outside_traits.specs.Fault.{Counts};
-ghost use Rattle.outside_traits.specs.Passes.{EachNow, Passes};
+ghost use Rattle.outside_traits.specs.Passes.{EachNow, IsBrief, Passes};
 ghost use Rattle.outside_traits.specs.Story.{Story};
 ghost use Rattle.meta_model.specs.CleanBuild.{Entries};
 ghost use Rattle.store_model.specs.Available.{task_folder};
@@ -18,13 +18,15 @@ ghost use Rattle.sig_gen.specs.Sound.{Spells};
 ghost use Rattle.build_store.specs.declared.pieces.OpenPublication.{OpenPublication as AOne};
 ghost use Rattle.build_store.specs.Drafts.{IsDraft};
 ghost use Rattle.build_store.specs.Faults.{IsOutside, IsRefusal, store_failed};
+ghost use Rattle.build_store.specs.Calls.{HasFreeStamp};
 ghost use Rattle.build_store.specs.Halves.{IsOn};
+ghost use Rattle.build_store.specs.Keys.{HasNoOtherKey, HoldsKeyOf, HoldsKeys, KnowsKeyOf, KnowsRows, keys_with};
 ghost use Rattle.build_store.specs.OpenOnes.{AddsOwn, IsOnOrDone, KeepsEntries, LeadsTo, Sweeps, at_next, items_of, progress_of};
 ghost use Rattle.build_store.specs.OpenTasks.{IsOpenOf};
 ghost use Rattle.build_store.specs.Openings.{IsGoing, IsOpen, LandsOn, Meets, OpensOne, StepsTo, open_view};
 ghost use Rattle.build_store.specs.Pieces.{IsPublishing};
-ghost use Rattle.build_store.specs.Publication.{AreShort, IsAgreed, IsPublished, line_for, object_for, publication, rows_with, unihash_for};
-ghost use Rattle.build_store.specs.Standing.{AreOn, AreOpen, IsClearOf, IsTidy, StandsAt};
+ghost use Rattle.build_store.specs.Publication.{AreShort, IsAgreed, IsPublished, first_publication, line_for, object_for, publication, rows_with, unihash_for};
+ghost use Rattle.build_store.specs.Standing.{AreOn, AreOpen, HoldsOpen, IsClearOf, IsTidy, KnowsOpen, StandsAt};
 ghost use Rattle.build_store.specs.View.{IsSignatureOf, kept_with, kept_without, open_in, opened_at, signed_by, view_of};
 
 use crate::drafting::{Draft, draft_of};
@@ -32,6 +34,7 @@ use crate::fault::StoreFault;
 use crate::going::go_on;
 use crate::keeping::{forget, keep};
 use crate::kept::KeptSig;
+use crate::keys::put_key;
 use crate::listed::is_busy;
 use crate::opening::open_publication;
 use crate::pieces::{OpenPublication, Reached};
@@ -41,6 +44,7 @@ use crate::step::Step;
 use hash_equiv::Index;
 use meta_model::PlanTask;
 use outside_traits::Disk;
+use record_move::KnownKeys;
 use std::alloc::Global;
 use store_model::SigRecord;
 use tree_model::{Hash, Manifest, Mem, Tree};
@@ -50,6 +54,7 @@ use tree_model::{Hash, Manifest, Mem, Tree};
 pub(crate) fn prepare(
     alloc: Global,
     index: &Index,
+    keys: &KnownKeys,
     kept: &mut Vec<KeptSig>,
     open_ones: &mut Vec<OpenPublication>,
     task: &PlanTask,
@@ -58,8 +63,9 @@ pub(crate) fn prepare(
 ) -> Result<Option<Draft>, StoreFault>
     requires spelled { IsSpelled sig.now }
     requires rows { AllByRecursion IsRow index.now }
+    requires known { KnowsRows keys.now index.now }
     requires stand { AreOpen index.now open_ones.old.items }
-    ensures bytes { IfOk result (λ found. IfSome found (λ draft. draft.bytes ≡ signature_bytes sig.now)) }
+    ensures text { IfOk result (λ found. IfSome found (λ draft. draft.text ≡ signature_bytes sig.now)) }
     ensures draft { IfOk result (λ found. IfSome found (λ draft. (tree : Entries) → manifest.now ≡ manifest_lines tree
         → IsDraft index.now (signed_by task.now sig.now) tree draft)) }
     ensures apart { IfOk result (λ found. IfSome found (λ draft. (tree : Entries) → manifest.now ≡ manifest_lines tree
@@ -72,18 +78,19 @@ pub(crate) fn prepare(
         → Meets index.now (open_in open_ones.old.items) (name_of sig.now)
         (object_for index.now (signed_by task.now sig.now) tree))) }
     ensures listed { open_ones.new.items ≡ open_ones.old.items }
+    ensures one_key { OnOk result (HasNoOtherKey keys.now sig.now) }
     ensures unkept { OnErr result (kept.new.items ≡ kept.old.items) }
     ensures refused { IfErr result (λ fault. (tree : Entries) → manifest.now ≡ manifest_lines tree
-        → IsRefusal index.now (signed_by task.now sig.now) tree fault) }
+        → IsRefusal index.now keys.now (signed_by task.now sig.now) tree fault) }
     ensures inside { store_failed result ≡ false }
 {
-    let draft = draft_of(alloc, index, task, sig, manifest)?;
+    let draft = draft_of(alloc, index, keys, task, sig, manifest)?;
     let object = object_of(task, draft.unihash);
     if is_busy(open_ones.as_slice(), &draft.name, &object) {
         return Ok(None);
     }
     open_ones.reserve(1)?;
-    keep(alloc, kept, task, draft.bytes.as_slice())?;
+    keep(kept, task, &draft.text)?;
     Ok(Some(draft))
 }
 
@@ -102,7 +109,7 @@ fn open_task<D: Disk>(
     requires spelled { IsSpelled sig.now }
     requires short { AreShort tree }
     requires draft { IsDraft index.now (signed_by task.now sig.now) tree draft }
-    requires bytes { draft.bytes ≡ signature_bytes sig.now }
+    requires text { draft.text ≡ signature_bytes sig.now }
     requires rows { AllByRecursion IsRow index.now }
     requires keeps { D.tells → IsKept index.now (D.story disk.old) }
     requires settled { D.tells → EachNow (D.story disk.old)
@@ -117,6 +124,7 @@ fn open_task<D: Disk>(
     ensures line { OnOk result (IsReadable (line_for index.now (signed_by task.now sig.now) tree)) }
     ensures readable { IsReadable (line_for index.now (signed_by task.now sig.now) tree) ⊎ (disk.new ≡ disk.old) }
     ensures keeps { D.tells → IsKept index.now (D.story disk.new) }
+    ensures brief { D.tells → IsBrief 14 (D.story disk.old) (D.story disk.new) }
     ensures cause { Counts (D.faults disk.old) (D.faults disk.new) (store_failed result) }
 {
     let _entries = tree.entries();
@@ -126,7 +134,7 @@ fn open_task<D: Disk>(
 }
 
 /// Opens the publication of what a task gave, beside those that are open. There is room for it.
-pub(crate) fn open_beside<D: Disk>(
+fn open_beside<D: Disk>(
     alloc: Global,
     disk: &mut D,
     index: &Index,
@@ -142,7 +150,7 @@ pub(crate) fn open_beside<D: Disk>(
     requires named { IsSignatureOf task.now sig.now }
     requires short { AreShort tree }
     requires draft { IsDraft index.now (signed_by task.now sig.now) tree draft }
-    requires bytes { draft.bytes ≡ signature_bytes sig.now }
+    requires text { draft.text ≡ signature_bytes sig.now }
     requires rows { AllByRecursion IsRow index.now }
     requires keeps { D.tells → IsKept index.now (D.story disk.old) }
     requires room { vec_len open_ones.old < vec_capacity open_ones.old }
@@ -158,17 +166,74 @@ pub(crate) fn open_beside<D: Disk>(
     ensures stand { AreOpen index.now open_ones.new.items }
     ensures on { D.tells → AreOn index.now (D.story disk.new) open_ones.new.items }
     ensures tidy { D.tells → OnOk result (IsTidy open_ones.new.items (D.story disk.new)) }
+    ensures known { (keys : List (List ℕ)) → KnowsOpen keys open_ones.old.items → KnowsKeyOf keys (signature_bytes sig.now)
+        → KnowsOpen keys open_ones.new.items }
     ensures refused { IfErr result IsOutside }
     ensures publishing { D.tells → Passes (D.story disk.old) (D.story disk.new)
         (IsPublishing (publication index.now (signed_by task.now sig.now) tree) (D.story disk.old).held) }
     ensures line { OnOk result (IsReadable (line_for index.now (signed_by task.now sig.now) tree)) }
     ensures readable { IsReadable (line_for index.now (signed_by task.now sig.now) tree) ⊎ (disk.new ≡ disk.old) }
     ensures keeps { D.tells → IsKept index.now (D.story disk.new) }
+    ensures brief { D.tells → IsBrief 14 (D.story disk.old) (D.story disk.new) }
     ensures cause { Counts (D.faults disk.old) (D.faults disk.new) (store_failed result) }
 {
     let one = open_task(alloc, disk, index, task, sig, draft, tree)?;
     open_ones.push_reserved(one);
     Ok(())
+}
+
+/// Opens the publication of what a task gave, beside those that are open, once its key is put. There is room for it.
+pub(crate) fn open_with_key<D: Disk>(
+    alloc: Global,
+    disk: &mut D,
+    index: &Index,
+    keys: &mut KnownKeys,
+    open_ones: &mut Vec<OpenPublication>,
+    task: &PlanTask,
+    sig: &SigRecord,
+    draft: Draft,
+    tree: Tree,
+) -> Result<(), StoreFault>
+    requires reach { 3600 ≤ D.reach }
+    requires place { HasPlace task.now }
+    requires spelled { IsSpelled sig.now }
+    requires named { IsSignatureOf task.now sig.now }
+    requires short { AreShort tree }
+    requires draft { IsDraft index.now (signed_by task.now sig.now) tree draft }
+    requires text { draft.text ≡ signature_bytes sig.now }
+    requires one_key { HasNoOtherKey keys.old sig.now }
+    requires rows { AllByRecursion IsRow index.now }
+    requires keeps { D.tells → IsKept index.now (D.story disk.old) }
+    requires room { vec_len open_ones.old < vec_capacity open_ones.old }
+    requires closed { opened_at (open_in open_ones.old.items) (task_folder task.now) ≡ None }
+    requires apart { AllByRecursion (IsClearOf draft.name (object_for index.now (signed_by task.now sig.now) tree)) open_ones.old.items }
+    requires stand { AreOpen index.now open_ones.old.items }
+    requires on { D.tells → AreOn index.now (D.story disk.old) open_ones.old.items }
+    requires tidy { D.tells → IsTidy open_ones.old.items (D.story disk.old) }
+    requires known { KnowsRows keys.old index.now × KnowsOpen keys.old open_ones.old.items }
+    requires holds { D.tells → HoldsKeys keys.old (D.story disk.old).held }
+    ensures opens { OnOk result (OpensOne (task_folder task.now) (open_view (signed_by task.now sig.now) tree)
+        (open_in open_ones.old.items) (open_in open_ones.new.items)) }
+    ensures agrees { OnOk result (IsAgreed index.now (signed_by task.now sig.now) tree) }
+    ensures same { OnErr result (open_ones.new.items ≡ open_ones.old.items) }
+    ensures keys { OnOk result (keys.new ≡ keys_with keys.old sig.now) }
+    ensures no_more { (keys.new ≡ keys.old) ⊎ (keys.new ≡ keys_with keys.old sig.now) }
+    ensures stand { AreOpen index.now open_ones.new.items }
+    ensures on { D.tells → AreOn index.now (D.story disk.new) open_ones.new.items }
+    ensures tidy { D.tells → OnOk result (IsTidy open_ones.new.items (D.story disk.new)) }
+    ensures known { KnowsRows keys.new index.now × KnowsOpen keys.new open_ones.new.items }
+    ensures holds { D.tells → HoldsKeys keys.new (D.story disk.new).held }
+    ensures refused { IfErr result IsOutside }
+    ensures publishing { D.tells → Passes (D.story disk.old) (D.story disk.new)
+        (IsPublishing (first_publication keys.old index.now (signed_by task.now sig.now) tree) (D.story disk.old).held) }
+    ensures readable { IsReadable (line_for index.now (signed_by task.now sig.now) tree) }
+    ensures keeps { D.tells → IsKept index.now (D.story disk.new) }
+    ensures brief { D.tells → IsBrief 16 (D.story disk.old) (D.story disk.new) }
+    ensures cause { Counts (D.faults disk.old) (D.faults disk.new) (store_failed result) }
+{
+    let _entries = tree.entries();
+    put_key(alloc, disk, keys, &draft.text)?;
+    open_beside(alloc, disk, index, open_ones, task, sig, draft, tree)
 }
 
 /// Goes on with the open publication of a task, by at most 64 items or one phase of its end: what it has reached then, or nothing where
@@ -186,6 +251,7 @@ fn step_task<D: Disk>(
     requires rows { AllByRecursion IsRow index.now }
     requires keeps { D.tells → IsKept index.now (D.story disk.old) }
     requires of { IsOpenOf index.now (signed_by task.now sig.now) one.now.tree one.now }
+    requires key { D.tells → HoldsKeyOf one.now.sig (D.story disk.old).held }
     requires on { D.tells → IsOn (publication index.now (signed_by task.now sig.now) one.now.tree) (progress_of one.now)
         (D.story disk.old) }
     ensures leads { IfOk result (LeadsTo one.now one.now.reached) }
@@ -201,6 +267,8 @@ fn step_task<D: Disk>(
     ensures publishing { D.tells → Passes (D.story disk.old) (D.story disk.new)
         (IsPublishing (publication index.now (signed_by task.now sig.now) one.now.tree) (D.story disk.old).held) }
     ensures keeps { D.tells → IsKept index.now (D.story disk.new) }
+    ensures brief { D.tells → HasFreeStamp one.now.folder (D.story disk.old).held
+        → IsBrief 128 (D.story disk.old) (D.story disk.new) }
     ensures cause { Counts (D.faults disk.old) (D.faults disk.new) (store_failed result) }
 {
     Ok(go_on(alloc, disk, one, synced)?)
@@ -288,9 +356,10 @@ pub(crate) fn step_at<D: Disk>(
     requires keeps { D.tells → IsKept index.old (D.story disk.old) }
     requires stand { AreOpen index.old open_ones.old.items }
     requires on { D.tells → AreOn index.old (D.story disk.old) open_ones.old.items }
-    ensures steps { IfOk result (λ step. (faultless : Bool)
-        → StepsTo (view_of disk.old index.old kept.old.items open_ones.old.items faultless)
-        (view_of disk.new index.new kept.new.items open_ones.new.items faultless) (signed_by task.now sig.now) step) }
+    requires keyed { D.tells → HoldsOpen open_ones.old.items (D.story disk.old).held }
+    ensures steps { IfOk result (λ step. (keys : List (List ℕ)) (faultless : Bool)
+        → StepsTo (view_of disk.old index.old keys kept.old.items open_ones.old.items faultless)
+        (view_of disk.new index.new keys kept.new.items open_ones.new.items faultless) (signed_by task.now sig.now) step) }
     ensures published { D.tells → IfOk result (LandsOn (D.story disk.new) index.old (open_in open_ones.old.items)
         (signed_by task.now sig.now)) }
     ensures refused { IfErr result IsOutside }
@@ -310,6 +379,10 @@ pub(crate) fn step_at<D: Disk>(
     ensures on { D.tells → AreOn index.new (D.story disk.new) open_ones.new.items }
     ensures tidy { D.tells → IsTidy open_ones.old.items (D.story disk.old)
         → OnOk result (IsTidy open_ones.new.items (D.story disk.new)) }
+    ensures knows { (keys : List (List ℕ)) → KnowsRows keys index.old → KnowsOpen keys open_ones.old.items
+        → KnowsRows keys index.new × KnowsOpen keys open_ones.new.items }
+    ensures brief { D.tells → HasFreeStamp (task_folder task.now) (D.story disk.old).held
+        → IsBrief 128 (D.story disk.old) (D.story disk.new) }
     ensures cause { Counts (D.faults disk.old) (D.faults disk.new) (store_failed result) }
 {
     match step_task(alloc, disk, index, task, sig, &open_ones[place], synced) {

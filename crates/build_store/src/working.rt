@@ -2,7 +2,7 @@
 ghost use Rattle.std.specs.Prelude.{◌≡◌, ◌≤◌, ◌<◌, ◌+◌, ◌^◌, ℕ, IfOk, OnOk, drop, length, min, take};
 ghost use Rattle.tree_model.specs.declared.entry.Entry.{Entry as AnEntry};
 ghost use Rattle.outside_traits.specs.Fault.{Counts, disk_failed};
-ghost use Rattle.outside_traits.specs.Passes.{Passes};
+ghost use Rattle.outside_traits.specs.Passes.{IsBrief, Passes};
 ghost use Rattle.store_opening.specs.Paths.{IsLaidOut};
 ghost use Rattle.build_store.specs.Calls.{Works};
 ghost use Rattle.build_store.specs.Halves.{IsHalf};
@@ -28,6 +28,7 @@ fn do_item<D: Disk>(
     ensures works { D.tells → Passes (D.story disk.old) (D.story disk.new) (Works (take 1 (drop item (items_of one.now)))) }
     ensures keeps { D.tells → (f : AnEntry) → Passes (D.story disk.old) (D.story disk.new)
         (KeepsEntries (put_by one.now f) (D.story disk.old).held) }
+    ensures brief { D.tells → IsBrief 2 (D.story disk.old) (D.story disk.new) }
     ensures cause { Counts (D.faults disk.old) (D.faults disk.new) (disk_failed result) }
 {
     let path = path_of_item(alloc, one, item)?;
@@ -68,6 +69,7 @@ pub(crate) fn step<D: Disk>(
     ensures publishing { D.tells → (f : AnEntry) → Passes (D.story disk.old) (D.story disk.new)
         (IsPublishing (put_by one.now f) (D.story disk.old).held) }
     ensures laid_out { D.tells → IsLaidOut (D.story disk.old).held → IsLaidOut (D.story disk.new).held }
+    ensures brief { D.tells → IsBrief 128 (D.story disk.old) (D.story disk.new) }
     ensures cause { Counts (D.faults disk.old) (D.faults disk.new) (disk_failed result) }
 {
     let end = next_end(done, count_items(one));

@@ -1,7 +1,8 @@
 //! The program `cases`: runs the case files of `data/` over devices in memory.
 //!
 //! A case file is a small project, words for the program, and what is wanted, as text; `docs/CASES.md` has the form. Each file
-//! `TOPIC/NAME.case` below the current folder is run through the top call, and nothing else of the repository is called. For a case
+//! `TOPIC/NAME.case` below the current folder is run through the top call, before which a store of the first format is moved, as the
+//! program does it (`upgrading`); nothing else of the repository is called. For a case
 //! that goes otherwise its name is printed, what was wanted and what came; the last line is the number of cases. The status is 0
 //! where all went as wanted.
 //!
@@ -13,6 +14,7 @@ mod escapes;
 mod folder;
 mod judge;
 mod project;
+mod upgrading;
 mod words;
 mod wrong;
 

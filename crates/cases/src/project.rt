@@ -3,7 +3,9 @@ ghost use Rattle.std.specs.Prelude.{◌<◌, IfOk, vec_len};
 ghost use Rattle.outside_traits.specs.Story.{IsFresh};
 ghost use Rattle.outside_mem.specs.Told.{story_of};
 
+use crate::upgrading::{begins_with_upgrade, bring_up};
 use crate::wrong::Wrong;
+use bb_report::fault_text;
 use bitbake_top::bitbake;
 use build_store::{Ahead, Known};
 use meta_model::Status;
@@ -22,7 +24,10 @@ const WORK: &str = "work/";
 const CONFIGS: &str = "mc/";
 
 /// Where records stand on the disk.
-const RECORDS: &str = "rec/";
+const RECORDS: &str = "rec2/";
+
+/// Where the keys of a disk stand.
+const KEYS: &str = "key/";
 
 /// Entries by their paths, each as its kind and its content.
 pub type Listing = BTreeMap<String, Vec<u8>>;
@@ -156,14 +161,41 @@ impl Project {
         alloc: Global,
         words: &Vec<Text>,
     ) -> Result<Ran, Wrong> {
+        let status = self.upgrade(alloc, words)?;
+        if !matches!(status, Status::Ok) {
+            return refused(alloc, &status);
+        }
         let held = mem::replace(&mut self.held, Vec::new(alloc));
         let disk = MemDisk::new(alloc, held)?;
         let ahead = Ahead::none();
-        ahead.put(Known::of_files(alloc, records_in(alloc, disk.held())?)?);
+        let records = files_in(alloc, disk.held(), RECORDS)?;
+        let keys = files_in(alloc, disk.held(), KEYS)?;
+        ahead.put(Known::of_files(alloc, records, keys)?);
         match self.crash.take() {
             Some(crash) => self.run_into_crash(rt, alloc, &ahead, words, disk, crash),
             None => self.run_to_end(rt, alloc, &ahead, words, disk),
         }
+    }
+
+    /// Brings the store to the present format of records, where words ask for a run and the disk holds something of the first one. The calls of the disk that it
+    /// takes are the first ones of the run.
+    fn upgrade(&mut self, alloc: Global, words: &Vec<Text>) -> Result<Status, Wrong> {
+        if !begins_with_upgrade(alloc, words, self.held.as_slice()) {
+            return Ok(Status::Ok);
+        }
+        let held = mem::replace(&mut self.held, Vec::new(alloc));
+        let disk = MemDisk::new(alloc, held)?;
+        let brought = bring_up(alloc, disk, &self.fails, self.crash)?;
+        self.held = brought.held;
+        if !matches!(brought.status, Status::Ok) {
+            self.fails = NONE_FAILS;
+            self.crash = None;
+        }
+        self.fails.disk = self.fails.disk.saturating_sub(brought.calls);
+        if let Some(crash) = &mut self.crash {
+            crash.calls = crash.calls.saturating_sub(brought.calls);
+        }
+        Ok(brought.status)
     }
 
     /// A run that comes to its end.
@@ -297,6 +329,17 @@ fn of_config(path: &str) -> Option<(&str, &str)> {
     Some((config, rest.strip_prefix(WORK)?))
 }
 
+/// What a run answered that is refused before it begins.
+fn refused(alloc: Global, status: &Status) -> Result<Ran, Wrong> {
+    let line = fault_text(alloc, status)?;
+    let mut text = Vec::new(alloc);
+    text.extend_from_slice(line.as_str().as_bytes())?;
+    Ok(Ran {
+        code: status.code(),
+        text,
+    })
+}
+
 /// What a run answered and printed.
 fn answer(alloc: Global, status: &Status, sink: &MemSink) -> Result<Ran, Wrong> {
     let mut text = Vec::new(alloc);
@@ -307,12 +350,16 @@ fn answer(alloc: Global, status: &Status, sink: &MemSink) -> Result<Ran, Wrong> 
     })
 }
 
-/// The files under `rec/`, for a run that knows what they say before it opens its store. (The program works that out in a thread
+/// The files under a folder, for a run that knows what they say before it opens its store. (The program works that out in a thread
 /// of its own meanwhile.)
-fn records_in(alloc: Global, held: &[(Text, Entry)]) -> Result<Vec<(Text, Entry)>, Wrong> {
+fn files_in(
+    alloc: Global,
+    held: &[(Text, Entry)],
+    folder: &str,
+) -> Result<Vec<(Text, Entry)>, Wrong> {
     let mut files = Vec::new(alloc);
     for (path, entry) in held {
-        if path.as_str().starts_with(RECORDS) {
+        if path.as_str().starts_with(folder) {
             files.push((path.copy()?, entry.copy()?))?;
         }
     }
@@ -327,7 +374,7 @@ fn numbers(alloc: Global, number: u64) -> Result<Vec<u64>, Wrong> {
 }
 
 /// The same paths and entries again.
-fn copied(alloc: Global, list: &[(Text, Entry)]) -> Result<Vec<(Text, Entry)>, Wrong> {
+pub fn copied(alloc: Global, list: &[(Text, Entry)]) -> Result<Vec<(Text, Entry)>, Wrong> {
     let mut made = Vec::new(alloc);
     for (path, entry) in list {
         made.push((Text::from_str(alloc, path.as_str())?, entry.copy()?))?;

@@ -24,6 +24,12 @@ use Rattle.store_model.specs.Origins.{Book, Reading}
 use Rattle.run_model.specs.Runs.{Runs}
 use Rattle.build_resume.specs.Build.{IsEntry, Leaves}
 use Rattle.config_build.specs.Below.{LeavesStory, WentOn}
+use Rattle.config_build.specs.Upgrading.{BringsUp, made_ready, story_at}
+use Rattle.store_upgrade.specs.Faults.{is_the_disks}
+use Rattle.store_upgrade.specs.Halfway.{IsAlong}
+use Rattle.store_upgrade.specs.Upgraded.{IsUpgraded}
+use Rattle.store_upgrade.specs.declared.fault.UpgradeFault.{UpgradeFault}
+use Rattle.store_upgrade.specs.declared.fault.UpgradeFault.TheVariants as upgrade
 use Rattle.multi_config.specs.Configs.{store_prefix}
 use Rattle.multi_config.specs.Parts.{DidFolder, MakesReady, ready, store_folder}
 
@@ -128,3 +134,35 @@ pub did_folder : (disk bench : Type 0) (given : List Gives) (plan : Plan) (optio
 did_folder disk bench given plan options mc prefix tale s before start now runs runs_now is way settled went =
     ready start went.sub way settled (held_below mc before.held before.held start.held way.held) (subst (λ (p : List ℕ). GoesOn p start now went.sub) is went.goes_on)
     (subst (λ (h : Store). LeavesStory disk bench given plan options tale s h runs runs_now went.sub) (ready_holds mc prefix before start is way) went.kept)
+
+-- ---- bringing a store up
+
+-- what is counted over the folder's disk, which began with no fault, is so of the whole one
+pub counts_so : (start now old mine : ℕ) (failed : Bool) → old ≡ 0 → Counts old mine failed → FaultsSince start now mine → Counts start now failed
+counts_so start now old mine true none counts since = record { later = since.later; rose = since.rose (let rose = counts.rose in omega (arith, none, rose)); stayed = tt }
+counts_so start now old mine false none counts since = record { later = since.later; rose = tt; stayed = since.stayed (counts.stayed ∙ none) }
+
+-- what is counted behind a call that was well is so from before it
+pub counts_after : (before start now : ℕ) (failed : Bool) → Counts before start false → Counts start now failed → Counts before now failed
+counts_after before start now true well counts = record { later = let a = well.stayed in let b = counts.later in omega (arith, a, b); rose = let a = well.stayed in let b = counts.rose in omega (arith, a, b); stayed = tt }
+counts_after before start now false well counts = record { later = let a = well.stayed in let b = counts.later in omega (arith, a, b); rose = tt; stayed = counts.stayed ∙ well.stayed }
+
+-- a fault of the disk is one of an upgrade
+pub disk_fault_same : (T : Type 0) (before now : ℕ) (f : DiskFault) → Counts before now (disk_failed {T = T} (Err f)) → Counts before now (is_the_disks (upgrade.Disk f))
+disk_fault_same T before now disk.Failed counts = counts
+disk_fault_same T before now disk.Memory counts = counts
+
+-- what an upgrade left of the story of its folder's disk is what is left of the disk
+pub brings_up : (mc prefix : List ℕ) (before start now : Story) → prefix ≡ store_prefix mc → Passes before start (MakesReady mc before.held) → IsSettledWhole start
+    → WentOn prefix start now (λ sub. Passes (story_at prefix start) sub (λ earlier image. IsAlong (below prefix start.held) image)) → BringsUp mc before now
+brings_up mc prefix before start now is way settled went =
+    made_ready start went.sub way settled (held_below mc before.held before.held start.held way.held) (subst (λ (p : List ℕ). GoesOn p start now went.sub) is went.goes_on)
+    (subst (λ (h : Store). Passes (story_at (store_prefix mc) start) went.sub (λ earlier image. IsAlong h image)) (ready_holds mc prefix before start is way)
+    (subst (λ (p : List ℕ). Passes (story_at p start) went.sub (λ earlier image. IsAlong (below prefix start.held) image)) is went.kept))
+
+-- what an upgrade left of the folder's disk is what it left of what is held in the folder
+pub upgraded_below : {T : Type 0} (done : Result T UpgradeFault) (old held new now : Store) → old ≡ held → now ≡ new → OnOk done (IsUpgraded old new) → OnOk done (IsUpgraded held now)
+upgraded_below done old held new now before behind is = subst (λ (h : Store). OnOk done (IsUpgraded h now)) before (subst (λ (n : Store). OnOk done (IsUpgraded old n)) (sym behind) is)
+
+pub along_below : (own start sub : Story) → own ≡ start → Passes own sub (λ earlier image. IsAlong own.held image) → Passes start sub (λ earlier image. IsAlong start.held image)
+along_below own start sub same passes = subst (λ (s : Story). Passes s sub (λ earlier image. IsAlong s.held image)) same passes

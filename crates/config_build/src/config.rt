@@ -75,7 +75,11 @@ fn ready_for<D: Disk>(alloc: Global, disk: &mut D, mc: &str) -> Result<(), DiskF
 }
 
 /// The prefix of a configuration's paths, once the disk is ready for its store.
-fn prefix_ready<D: Disk>(alloc: Global, disk: &mut D, mc: &str) -> Result<Text, DiskFault>
+pub(crate) fn prefix_ready<D: Disk>(
+    alloc: Global,
+    disk: &mut D,
+    mc: &str,
+) -> Result<Text, DiskFault>
     ensures prefix { IfOk result (λ prefix. prefix ≡ store_prefix mc.now) }
     ensures settled { D.tells → OnOk result (IsSettledWhole (D.story disk.new)) }
     ensures clear { D.tells → OnOk result (IsReachable (store_prefix mc.now) (D.story disk.new).held) }
@@ -91,7 +95,7 @@ fn prefix_ready<D: Disk>(alloc: Global, disk: &mut D, mc: &str) -> Result<Text, 
 /// gives. It writes the line of each event, and the last line of its status; the text of the plan was written before. The store of the configuration
 /// NAME stands in the folder `mc/NAME`, which is made ready first; that of the default configuration, whose name is empty, is the whole disk.
 ///
-/// What `ahead` knows of just the files under the store's `rec/` that are read spares work, and changes nothing.
+/// What `ahead` knows of just the files under the store's `rec2/` and `key/` that are read spares work, and changes nothing.
 pub fn build_config<D, B, W, R>(
     rt: &R,
     alloc: Global,

@@ -1,7 +1,7 @@
 // The datastore.
 ghost use Rattle.std.specs.Prelude.{◌≡◌, ◌++◌, ◌∷◌, [], OnOk, OnErr, IfOk, IfErr, IfSome, Ok, Some, None, option_copied, is_some, filter, fold, true, List, ℕ};
 ghost use Rattle.std.specs.Option.{option_map};
-ghost use Rattle.std.specs.Rc.{rc_value};
+ghost use Rattle.std.specs.Arc.{arc_value};
 ghost use Rattle.meta_model.specs.declared.entry.EntryLine.{EntryLine as Line};
 ghost use Rattle.meta_model.specs.Active as entries;
 ghost use Rattle.meta_model.specs.Base as base;
@@ -27,7 +27,7 @@ use crate::tasks::ordered_tasks;
 use meta_model::{EntryLine, Resolved};
 use std::alloc::Global;
 use std::marker::Model;
-use std::rc::Rc;
+use std::sync::Arc;
 use tree_model::{Mem, Text, Texts};
 use value_maps::{AllFlags, Base, Maps};
 
@@ -107,9 +107,9 @@ impl Datastore {
     }
 
     /// A store of shared entries alone.
-    fn over(alloc: Global, base: Option<Rc<Base>>) -> Datastore
-        requires { KeepsBase (option_map rc_value base) }
-        ensures { result ≡ under_entries (option_map rc_value base) }
+    fn over(alloc: Global, base: Option<Arc<Base>>) -> Datastore
+        requires { KeepsBase (option_map arc_value base) }
+        ensures { result ≡ under_entries (option_map arc_value base) }
     {
         Datastore {
             past: Vec::new(alloc),

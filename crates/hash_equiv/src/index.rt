@@ -1,5 +1,5 @@
 // The index.
-ghost use Rattle.std.specs.Prelude.{◌≡◌, ◌++◌, ◌∷◌, [], Some, None, OnOk, OnErr, IfErr, IfSome, IsTrue, ◌↔◌, find, option_copied};
+ghost use Rattle.std.specs.Prelude.{◌≡◌, ◌++◌, ◌∷◌, [], Some, None, OnOk, OnErr, IfErr, IfSome, IsTrue, ◌↔◌, find, length, option_copied, slice_get};
 ghost use Rattle.std.specs.Option.{option_map};
 ghost use Rattle.std.specs.Map.{values_of};
 ghost use Rattle.store_model.specs.declared.signature.EquivRow.{EquivRow};
@@ -14,18 +14,18 @@ use indexmap::IndexMap;
 use std::alloc::Global;
 use std::collections::BTreeMap;
 use std::marker::Model;
-use store_model::EquivRow;
-use tree_model::{Bytes, Hash, ListOf, ManifestLine, Mem};
+use store_model::{EquivRow, SigText};
+use tree_model::{Hash, ListOf, ManifestLine, Mem};
 
 /// Why a row isn't added.
 #[derive(Debug, Drop)]
 pub enum EquivFault {
     /// The index has a row of that name with another signature. Two signatures have one digest.
     Collision {
-        /// The encoded signature of the index.
-        held: Bytes,
+        /// The whole text of the signature of the index.
+        held: SigText,
         /// That of the row that was given.
-        given: Bytes,
+        given: SigText,
     },
     /// The index has a row of that name and signature with another manifest: the task's output differs from one run to another.
     Unsteady {
@@ -75,7 +75,7 @@ fn compared(alloc: Global, held: &EquivRow, given: EquivRow) -> Result<(), Equiv
     ensures ok { OnOk result ((held.now.sig ≡ given.sig) × (held.now.manifest ≡ given.manifest)) }
     ensures err { IfErr result (IsDifference held.now given) }
 {
-    if held.sig != given.sig {
+    if !held.sig.is_same(&given.sig) {
         let held = held.sig.copy()?;
         let given = given.sig;
         return Err(EquivFault::Collision { held, given });
@@ -143,17 +143,17 @@ fn first_at(
 const COMPARED: usize = 64;
 
 /// The name of the row at a place, where it has this signature.
-fn name_at(rows: &IndexMap<[u8; 32], EquivRow>, place: usize, sig: &[u8]) -> Option<Hash>
+fn name_at(rows: &IndexMap<[u8; 32], EquivRow>, place: usize, sig: &SigText) -> Option<Hash>
     ensures { IfSome result (IsNameIn (values_of rows.now.entries) sig.now) }
 {
     match rows.get_index(place) {
-        Some((_, row)) if row.sig.as_slice() == sig => Some(row.name),
+        Some((_, row)) if row.sig.is_same(sig) => Some(row.name),
         _ => None,
     }
 }
 
 /// The name of the first row at these places that has this signature.
-fn first_name(rows: &IndexMap<[u8; 32], EquivRow>, places: &[usize], sig: &[u8]) -> Option<Hash>
+fn first_name(rows: &IndexMap<[u8; 32], EquivRow>, places: &[usize], sig: &SigText) -> Option<Hash>
     ensures { IfSome result (IsNameIn (values_of rows.now.entries) sig.now) }
 {
     for place in places {
@@ -183,6 +183,23 @@ impl Index {
         self.rows.get(&name.bytes)
     }
 
+    /// How many rows there are.
+    pub fn len(&self) -> usize
+        ensures { result ≡ length self.now }
+    {
+        self.rows.len()
+    }
+
+    /// The row at a place, in the order in which rows were added; none beyond the last.
+    pub fn at(&self, place: usize) -> Option<&EquivRow>
+        ensures { option_copied result ≡ slice_get self.now place }
+    {
+        match self.rows.get_index(place) {
+            Some((_, row)) => Some(row),
+            None => None,
+        }
+    }
+
     /// The unihash of a name that has a row.
     pub fn unihash_of(&self, name: &Hash) -> Option<Hash>
         ensures { result ≡ option_map (λ r. r.unihash) (row_at self.now name.now) }
@@ -195,7 +212,7 @@ impl Index {
 
     /// The name of a row that has this signature, if it is one of the first rows of this PN: what it is known by is not digested
     /// again. It looks at 64 rows at most, so `None` says nothing.
-    pub fn name_of(&self, pn: &str, sig: &[u8]) -> Option<Hash>
+    pub fn name_of(&self, pn: &str, sig: &SigText) -> Option<Hash>
         ensures { IfSome result (IsNameIn self.now sig.now) }
     {
         let places = places_for(&self.of_pn, pn);

@@ -41,17 +41,22 @@ use Rattle.multi_config.proofs.Tests.{on_false, on_true}
 off_named : (mc c : List ℕ) → mc ≢ [] → IsNamed mc → c ≢ [] → IsNamed c → c ≢ mc → (q : List ℕ) → IsOff c (store_prefix mc ++ q)
 off_named mc c some named some_c named_c other q = subst (IsOff c) (sym (prefix_path mc q some)) (off_other mc c q (slashless mc some named) (slashless c some_c named_c) some_c other)
 
--- a record of any configuration is off the folder of another one
-rec_off : (mc c : List ℕ) → IsNamed mc → c ≢ [] → IsNamed c → c ≢ mc → (path : List ℕ) → IsOff c (store_prefix mc ++ inside (codes "rec") path)
-rec_off [] c named some_c named_c other path = off_first c 114 _ some_c refl
-rec_off (d ∷ mc) c named some_c named_c other path = off_named (d ∷ mc) c (λ e. cc) named some_c named_c other (inside (codes "rec") path)
+-- records and keys stand below these
+abbrev IsTop : List ℕ → Type 0
+IsTop top = (top ≡ codes "rec2") ⊎ (top ≡ codes "key")
+
+-- a record or a key of any configuration is off the folder of another one
+top_off : (mc c : List ℕ) → IsNamed mc → c ≢ [] → IsNamed c → c ≢ mc → (top : List ℕ) → IsTop top → (path : List ℕ) → IsOff c (store_prefix mc ++ inside top path)
+top_off [] c named some_c named_c other top (inl e) path = subst (λ (x : List ℕ). IsOff c (inside x path)) (sym e) (off_first c 114 _ some_c refl)
+top_off [] c named some_c named_c other top (inr e) path = subst (λ (x : List ℕ). IsOff c (inside x path)) (sym e) (off_first c 107 _ some_c refl)
+top_off (d ∷ mc) c named some_c named_c other top is path = off_named (d ∷ mc) c (λ e. cc) named some_c named_c other (inside top path)
 
 abbrev OffAll : List PartEnd → List ℕ → Type 0
 OffAll ends q = AllByRecursion (λ (e : PartEnd). IsOff e.part.mc q) ends
 
-recs_off : (mc : List ℕ) → IsNamed mc → (ends : List PartEnd) → AreOthers mc ends → (path : List ℕ) → OffAll ends (store_prefix mc ++ inside (codes "rec") path)
-recs_off mc named [] others path = tt
-recs_off mc named (e ∷ ends) others path = (rec_off mc e.part.mc named others.0.0 others.0.1.0 others.0.1.1 path, recs_off mc named ends others.1 path)
+tops_off : (mc : List ℕ) → IsNamed mc → (ends : List PartEnd) → AreOthers mc ends → (top : List ℕ) → IsTop top → (path : List ℕ) → OffAll ends (store_prefix mc ++ inside top path)
+tops_off mc named [] others top is path = tt
+tops_off mc named (e ∷ ends) others top is path = (top_off mc e.part.mc named others.0.0 others.0.1.0 others.0.1.1 top is path, tops_off mc named ends others.1 top is path)
 
 prefix_long : (d : ℕ) (c q : List ℕ) → length (store_prefix (d ∷ c) ++ q) ≡ length (store_folder (d ∷ c)) + 1 + length q
 prefix_long d c q =
@@ -83,7 +88,8 @@ not_m y xs ys e other = absurd (other (heads 109 y xs ys e))
 
 m_elsewhere : (q : List ℕ) → IsElsewhere (109 ∷ q)
 m_elsewhere q = record {
-  records = λ at. by 114 (codes "ec") (λ e. omega (arith, e)) at;
+  records = λ at. by 114 (codes "ec2") (λ e. omega (arith, e)) at;
+  keys = λ at. by 107 (codes "ey") (λ e. omega (arith, e)) at;
   stamps = λ at. by 115 (codes "tamp") (λ e. omega (arith, e)) at;
   temporary = λ at. by 116 (codes "mp") (λ e. omega (arith, e)) at;
   objects = λ e. not_m 111 q (codes "bj") e (λ same. omega (arith, same));
@@ -109,13 +115,15 @@ m_aside held plan touched published q = record {
     output : IsShared (109 ∷ q) → ⊥
     output (inl (inl e)) = not_m 114 q _ e (λ same. omega (arith, same))
     output (inl (inr under)) = not_m 114 q _ under.1 (λ same. omega (arith, same))
-    output (inr (inl e)) = not_m 111 q _ e (λ same. omega (arith, same))
-    output (inr (inr under)) = not_m 111 q _ under.1 (λ same. omega (arith, same))
+    output (inr (inl (inl e))) = not_m 107 q _ e (λ same. omega (arith, same))
+    output (inr (inl (inr under))) = not_m 107 q _ under.1 (λ same. omega (arith, same))
+    output (inr (inr (inl e))) = not_m 111 q _ e (λ same. omega (arith, same))
+    output (inr (inr (inr under))) = not_m 111 q _ under.1 (λ same. omega (arith, same))
 
 -- ---- stores that a crash leaves
 
-crash_moved : (gives : Gives) (reading : Reading) (book : Book) (old new : Store) → ((path : List ℕ) → new (inside (codes "rec") path) ≡ old (inside (codes "rec") path)) → IsCrash gives reading book old → IsCrash gives reading book new
-crash_moved gives reading book old new same c = record { again = c.again; same = c.same; lines = c.lines; valid = valid_elsewhere gives reading old new (c.again ++ c.lines) same c.valid; readable = c.readable }
+crash_moved : (gives : Gives) (reading : Reading) (book : Book) (old new : Store) → ((top : List ℕ) → IsTop top → (path : List ℕ) → new (inside top path) ≡ old (inside top path)) → IsCrash gives reading book old → IsCrash gives reading book new
+crash_moved gives reading book old new same c = record { again = c.again; same = c.same; lines = c.lines; valid = valid_elsewhere gives reading old new (c.again ++ c.lines) (same (codes "rec2") (inl refl)) (same (codes "key") (inr refl)) c.valid; readable = c.readable }
 
 same_lines : (book : Book) → HaveSameLines book book
 same_lines book = record { whole = λ behind line stands. (behind, stands); only = λ behind line stands. (behind, stands) }
@@ -213,14 +221,14 @@ module _ (layers disk bench sink : Type 0) (files : Files) (request : RunRequest
     abbrev MayOwn : List PartEnd → Store → Type 0
     MayOwn ends held = AllByRecursion (λ (e : PartEnd). e.part.mc ≡ mc → (plan : Plan) → e.plans ≡ plan ∷ [] → MayBegin gives reading book (below (store_prefix mc) held) plan) ends
 
-    safe_moved : (old new : Store) → ((path : List ℕ) → new (store_prefix mc ++ inside (codes "rec") path) ≡ old (store_prefix mc ++ inside (codes "rec") path)) → Safe old → Safe new
+    safe_moved : (old new : Store) → ((top : List ℕ) → IsTop top → (path : List ℕ) → new (store_prefix mc ++ inside top path) ≡ old (store_prefix mc ++ inside top path)) → Safe old → Safe new
     safe_moved old new same c = crash_moved gives reading book (below (store_prefix mc) old) (below (store_prefix mc) new) same c
 
     -- parts of others leave it safe
     others_safe : (ends : List PartEnd) (before now : Standing) → Are ends before now → AreOthers mc ends → t ≤ moment before.story → EachSafe before.story → EachSafe now.story
     others_safe ends before now each others le safe image i =
         let came = parts_since ends before now each le image i in
-        safe_moved came.0 image (λ path. came.2 _ (recs_off mc named ends others path)) (safe came.0 came.1)
+        safe_moved came.0 image (λ top is path. came.2 _ (tops_off mc named ends others top is path)) (safe came.0 came.1)
 
     -- and so does its own part
     own_folder : (tale : List Logged) (plan : Plan) (tales : List (List Logged)) (s : Status) (before now : Standing) → t ≤ moment before.story → All (λ g. g ≡ gives) before.gives → MayBegin gives reading book (below (store_prefix mc) before.story.held) plan
@@ -232,7 +240,7 @@ module _ (layers disk bench sink : Type 0) (files : Files) (request : RunRequest
           where
             by : IsImageSince a t image ⊎ ((earlier : Store) × IsImage a earlier × MakesReady mc held earlier image) → Safe image
             by (inl x) = each image x
-            by (inr w) = safe_moved w.0 image (λ path. ready_in mc held w.0 image w.2 (inside (codes "rec") path)) (each w.0 (now-since a t w.0 on w.1))
+            by (inr w) = safe_moved w.0 image (λ top is path. ready_in mc held w.0 image w.2 (inside top path)) (each w.0 (now-since a t w.0 on w.1))
     own_folder tale plan tales s before now le all may (ready start sub way settled same goes kept) safe image i = by (goes.split t image i)
       where
         made : (each : EachSafe before.story) → EachSafe start
@@ -240,7 +248,7 @@ module _ (layers disk bench sink : Type 0) (files : Files) (request : RunRequest
           where
             from : IsImageSince before.story t image ⊎ ((earlier : Store) × IsImage before.story earlier × MakesReady mc before.story.held earlier image) → Safe image
             from (inl x) = each image x
-            from (inr w) = safe_moved w.0 image (λ path. ready_in mc before.story.held w.0 image w.2 (inside (codes "rec") path)) (each w.0 (now-since before.story t w.0 le w.1))
+            from (inr w) = safe_moved w.0 image (λ top is path. ready_in mc before.story.held w.0 image w.2 (inside top path)) (each w.0 (now-since before.story t w.0 le w.1))
 
         zero_more : moment start ≡ moment start + 0
         zero_more = omega arith
@@ -289,7 +297,7 @@ module _ (layers disk bench sink : Type 0) (files : Files) (request : RunRequest
             let differs = not_same one.part.mc mc other in
             let off = λ (q : List ℕ). off_named mc one.part.mc some named others.0.0 others.0.1.0 differs q in
             let same : below (store_prefix mc) mid.story.held ≡ below (store_prefix mc) before.story.held = (λ i q. (part_held one before mid each.1 (store_prefix mc ++ q) (off q)) i) in
-            let here : EachSafe mid.story = (λ image i. let came = part_since one before mid each.1 le image i in safe_moved came.0 image (λ path. came.2 _ (off (inside (codes "rec") path))) (safe came.0 came.1)) in
+            let here : EachSafe mid.story = (λ image i. let came = part_since one before mid each.1 le image i in safe_moved came.0 image (λ top is path. came.2 _ (off (inside top path))) (safe came.0 came.1)) in
             rest on (subst (λ (l : List Gives). All (λ g. g ≡ gives) l) (sym each.1.stay.gives) all) (may_moved more before.story.held mid.story.held same may.1) here
 
     -- a run of the default configuration, which is the first
@@ -322,7 +330,7 @@ module _ (layers disk bench sink : Type 0) (files : Files) (request : RunRequest
 
         by : (image : Store) → IsImageSince start t image ⊎ IsImageSince now.story (moment start) image → Safe image
         by image (inl before_it) = default_ready before.story start le way safe image before_it
-        by image (inr last) = safe_moved before.story.held image (λ path. alone some first before.story.held plan tale s sub left image (goes.since_below 0 image (omega arith) (subst (λ (n : ℕ). IsImageSince now.story n image) zero_more last)) (inside (codes "rec") path)) base
+        by image (inr last) = safe_moved before.story.held image (λ top is path. alone some first before.story.held plan tale s sub left image (goes.since_below 0 image (omega arith) (subst (λ (n : ℕ). IsImageSince now.story n image) zero_more last)) (inside top path)) base
 
     default_safe : mc ≢ [] → (first_reading : Reading) (first : Book) (one : PartEnd) (before now : Standing) → Is one before now → one.part.mc ≡ [] → t ≤ moment before.story → All (λ g. g ≡ gives) before.gives → ((plan : Plan) → one.plans ≡ plan ∷ [] → MayBegin gives first_reading first before.story.held plan)
         → Safe before.story.held → EachSafe before.story → Left before.story now.story

@@ -16,7 +16,7 @@
 //   stamp stage FOLDER DIGEST       stamp put FOLDER           stamp current FOLDER       stamp invalidate FOLDER
 //
 // `ahead hold` lets the disk take its lock before its first call, and says whether it has it; `ahead read` reads ahead for it,
-// and `ahead records` answers these files under `rec/` with what they hold, or nothing where they weren't read or a link stands
+// and `ahead records` answers these files under `rec2/` with what they hold, or nothing where they weren't read or a link stands
 // among them. `other` makes a call of the disk on another object over the same folder, and says what that says of its first
 // fault. Calls of one bench behind one another are made on one object; a call of another bench begins with a new one. `bench K
 // wait` waits for a sync, and says whether it went well. KIND is `file`, `program` or `link`. `disk sync`, and `disk end`, which ends

@@ -1,6 +1,6 @@
 // What is read of a disk before its first call.
 use crate::disk::{ROOT, part_of};
-use crate::limits::{RECORDS, is_beyond};
+use crate::limits::{KEYS, RECORDS, is_beyond};
 use crate::listed::Listing;
 use host_files::{list_items, put_joined};
 use std::alloc::Global;
@@ -12,7 +12,7 @@ use tree_model::{Entry, Text};
 /// The most bytes that are read ahead of a part.
 const MOST: u64 = 268_435_456;
 
-/// What stands under `rec/`, all of which opening a store reads, read in a thread of its own while the metadata is read. A disk that had its lock
+/// What stands under `rec2/` and under `key/`, all of which opening a store reads, read in a thread of its own while the metadata is read. A disk that had its lock
 /// before (`FolderDisk::hold_early`) answers from it, until it changes anything: with the lock held nothing else does.
 ///
 /// Nothing is waited for. What isn't there when it is asked for the disk reads by itself, and what can't be read ahead is
@@ -20,6 +20,7 @@ const MOST: u64 = 268_435_456;
 #[derive(Drop)]
 pub struct ReadAhead {
     records: OnceLock<Listing>,
+    keys: OnceLock<Listing>,
     stopped: OnceLock<()>,
 }
 
@@ -28,15 +29,32 @@ impl ReadAhead {
     pub fn none() -> Self {
         ReadAhead {
             records: OnceLock::new(),
+            keys: OnceLock::new(),
             stopped: OnceLock::new(),
         }
     }
 
-    /// Reads the files under `rec/`, until it is to stop.
+    /// Reads the files under `rec2/` and under `key/`, until it is to stop.
     pub fn read<R: Files + AllocGlobal>(&self, rt: &R) {
         if let Ok(Some(listing)) = self.part(rt, RECORDS) {
             let _ = self.records.try_set(listing);
         }
+        if let Ok(Some(listing)) = self.part(rt, KEYS) {
+            let _ = self.keys.try_set(listing);
+        }
+    }
+
+    /// How many files were read so far, and how many bytes these have.
+    pub fn size(&self) -> (usize, u64) {
+        let mut count = 0usize;
+        let mut bytes = 0u64;
+        for part in [&self.records, &self.keys] {
+            if let Some(listing) = part.get() {
+                count = count.saturating_add(listing.count());
+                bytes = bytes.saturating_add(listing.size());
+            }
+        }
+        (count, bytes)
     }
 
     /// Lets no more be read.
@@ -44,9 +62,23 @@ impl ReadAhead {
         let _ = self.stopped.try_set(());
     }
 
-    /// The files under `rec/`, in the order of their paths, where they were read, nothing else stands there, and nothing is to stop.
+    /// The files under `rec2/`, in the order of their paths, where they were read, nothing else stands there, and nothing is to stop.
     pub fn records(&self, alloc: Global) -> io::Result<Option<Vec<(Text, Entry)>>> {
-        match self.records.get() {
+        self.files_of(alloc, &self.records)
+    }
+
+    /// The files under `key/`, in the same way.
+    pub fn keys(&self, alloc: Global) -> io::Result<Option<Vec<(Text, Entry)>>> {
+        self.files_of(alloc, &self.keys)
+    }
+
+    /// The files of a part, where it was read and nothing is to stop.
+    fn files_of(
+        &self,
+        alloc: Global,
+        part: &OnceLock<Listing>,
+    ) -> io::Result<Option<Vec<(Text, Entry)>>> {
+        match part.get() {
             Some(listing) if self.stopped.get().is_none() => listing.files(alloc),
             _ => Ok(None),
         }
@@ -54,10 +86,12 @@ impl ReadAhead {
 
     /// What was read of a part. Where that isn't all of it yet, no more is read.
     pub(crate) fn listing(&self, prefix: &str) -> Option<&Listing> {
-        if prefix != RECORDS {
-            return None;
-        }
-        let found = self.records.get();
+        let part = match prefix {
+            RECORDS => &self.records,
+            KEYS => &self.keys,
+            _ => return None,
+        };
+        let found = part.get();
         if found.is_none() {
             self.stop();
         }

@@ -61,6 +61,11 @@ impl Listing {
         self.bytes.len() as u64
     }
 
+    /// How many files and links it saw.
+    pub fn count(&self) -> usize {
+        self.items.len()
+    }
+
     /// What was seen behind this place, where that is the path.
     fn item_at(&self, place: Place, path: &str) -> Option<Item> {
         let item = *self.items.get(place.count)?;

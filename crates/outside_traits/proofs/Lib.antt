@@ -8,6 +8,7 @@ pub mod Listing
 pub mod Laid
 pub mod Folders
 pub mod Steps
+pub mod Slashes
 pub mod Readings
 pub mod Durable
 pub mod Syncing

@@ -1,5 +1,5 @@
 -- What any run of calls did to a disk, whatever the calls answered.
-use Rattle.std.specs.Prelude.{◌≡◌, ◌⊎◌, ◌≤◌, ℕ, List, None, Result, OnOk}
+use Rattle.std.specs.Prelude.{◌≡◌, ◌⊎◌, ◌≤◌, ◌+◌, ℕ, List, None, Result, OnOk}
 use Rattle.outside_traits.specs.declared.fault.DiskFault.{DiskFault}
 use Rattle.outside_traits.specs.Store.{Store, ChangesAt}
 use Rattle.outside_traits.specs.Story.{Story, moment, IsImage, IsImageAbove, IsImageSince}
@@ -20,6 +20,10 @@ pub record Passes (old new : Story) (R : Store → Store → Type 0) : Type 0 wh
       → IsImageSince old t image ⊎ ((earlier : Store) × IsImage old earlier × R earlier image)
   -- each image now, where besides a moment that isn't after the run's beginning is durable
   pub above : (k : ℕ) (image : Store) → k ≤ moment old → IsImageAbove new k image → (earlier : Store) × IsImageAbove old k earlier × R earlier image
+
+-- at most so many calls were answered
+abbrev pub IsBrief : ℕ → Story → Story → Type 0
+IsBrief calls old new = moment new ≤ moment old + calls
 
 -- each image now has the property
 abbrev pub EachNow : Story → (Store → Type 0) → Type 0

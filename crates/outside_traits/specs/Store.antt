@@ -1,5 +1,5 @@
 -- What a device holds, as a function from paths, and how one store differs from another.
-use Rattle.std.specs.Prelude.{◌≡◌, ◌≢◌, ◌⊎◌, ℕ, List, Option, Some, None, IsSome, Contains, if◌then◌else◌}
+use Rattle.std.specs.Prelude.{◌≡◌, ◌≢◌, ◌⊎◌, ◌==◌, ℕ, suc, List, [], ◌∷◌, Option, Some, None, IsSome, Contains, if◌then◌else◌}
 use Rattle.std.specs.Ordering.{nat_cmp}
 use Rattle.std.specs.List.Sorted.{IsStrictlySortedBy}
 use Rattle.std.specs.Cmp.Lexicographic.{slice_cmp}
@@ -98,3 +98,8 @@ pub record IsCleared (folder : List ℕ) (tree : List (List ℕ × Entry)) (list
   pub within : (path : List ℕ) → IsSome (held (inside folder path)) → IsSome (entry_at tree path)
   pub are_listed : (path : List ℕ) → IsSome (held (inside folder path)) → Contains listed (inside folder path)
   pub outside : IsOpen folder held
+
+-- how many slashes a text has
+abbrev pub slashes : List ℕ → ℕ
+slashes [] = 0
+slashes (b ∷ bs) = if b == 47 then suc (slashes bs) else slashes bs

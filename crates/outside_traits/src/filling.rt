@@ -6,7 +6,7 @@ ghost use Rattle.std.specs.Cmp.Lexicographic.{slice_cmp};
 ghost use Rattle.tree_model.specs.Path.{IsClean, inside};
 ghost use Rattle.tree_model.specs.Tree.{IsTree};
 ghost use Rattle.outside_traits.specs.Store.{HoldsTree, IsCleared, IsFree, LaysTree, PutsEntry};
-ghost use Rattle.outside_traits.specs.Passes.{Passes, Same};
+ghost use Rattle.outside_traits.specs.Passes.{IsBrief, Passes, Same};
 ghost use Rattle.outside_traits.specs.Fault.{Counts, disk_failed};
 
 use crate::trees::joined;
@@ -41,7 +41,7 @@ pub(crate) fn fill<D: Disk>(
 }
 
 /// Makes a path hold the entry. Where it is held there already nothing changes. The path is read only where something may be
-/// held at it.
+/// held at it. Two calls of the disk at most.
 pub fn put_entry<D: Disk>(
     alloc: Global,
     disk: &mut D,
@@ -56,6 +56,7 @@ pub fn put_entry<D: Disk>(
     ensures held { D.tells → OnOk result ((D.story disk.new).held path.now ≡ Some entry.now) }
     ensures puts { D.tells → Passes (D.story disk.old) (D.story disk.new)
         (PutsEntry path.now entry.now (D.story disk.old).held) }
+    ensures brief { D.tells → IsBrief 2 (D.story disk.old) (D.story disk.new) }
     ensures cause { Counts (D.faults disk.old) (D.faults disk.new) (disk_failed result) }
 {
     if may_be_held && holds(alloc, disk, path, entry)? {
@@ -71,6 +72,7 @@ fn holds<D: Disk>(alloc: Global, disk: &mut D, path: &str, entry: &Entry) -> Res
         ((D.story disk.old).held path.now ≡ Some entry.now → ⊥)) }
     ensures held { D.tells → (D.story disk.new).held ≡ (D.story disk.old).held }
     ensures others { D.tells → Passes (D.story disk.old) (D.story disk.new) Same }
+    ensures brief { D.tells → IsBrief 1 (D.story disk.old) (D.story disk.new) }
     ensures cause { Counts (D.faults disk.old) (D.faults disk.new) (disk_failed result) }
 {
     match disk.read(alloc, path)? {

@@ -1,9 +1,9 @@
 // A folder of a disk becomes a tree.
-ghost use Rattle.std.specs.Prelude.{◌≡◌, ◌≤◌, ◌++◌, List, ℕ, length, All, OnOk, IfOk, is_some};
+ghost use Rattle.std.specs.Prelude.{◌≡◌, ◌≤◌, ◌+◌, ◌++◌, List, ℕ, length, All, OnOk, IfOk, is_some};
 ghost use Rattle.tree_model.specs.Path.{IsClean, inside};
 ghost use Rattle.tree_model.specs.Tree.{entry_at};
-ghost use Rattle.outside_traits.specs.Store.{AgreesApart, AgreesRound, HoldsTree, IsCleared, IsOpen, LaysTree, MakesWay};
-ghost use Rattle.outside_traits.specs.Passes.{Clears, Passes};
+ghost use Rattle.outside_traits.specs.Store.{AgreesApart, AgreesRound, HoldsTree, IsCleared, IsOpen, LaysTree, MakesWay, slashes};
+ghost use Rattle.outside_traits.specs.Passes.{Clears, IsBrief, Passes};
 ghost use Rattle.outside_traits.specs.Fault.{Counts, disk_failed};
 
 use crate::filling::fill;
@@ -44,6 +44,7 @@ pub fn put_tree<D: Disk>(
 /// Removes what the path holds. Where it holds nothing it isn't touched: after a crash a removed path may hold anything.
 fn clear_at<D: Disk>(alloc: Global, disk: &mut D, path: &str) -> Result<(), DiskFault>
     ensures clears { D.tells → Clears path.now (D.story disk.old) (D.story disk.new) result }
+    ensures brief { D.tells → IsBrief 2 (D.story disk.old) (D.story disk.new) }
     ensures cause { Counts (D.faults disk.old) (D.faults disk.new) (disk_failed result) }
 {
     match disk.read(alloc, path)? {
@@ -52,10 +53,11 @@ fn clear_at<D: Disk>(alloc: Global, disk: &mut D, path: &str) -> Result<(), Disk
     }
 }
 
-/// Removes what stands at the folder or above it.
+/// Removes what stands at the folder or above it, by two calls of the disk at most for each of these paths.
 pub fn clear_above<D: Disk>(alloc: Global, disk: &mut D, folder: &str) -> Result<(), DiskFault>
     ensures open { D.tells → OnOk result (IsOpen folder.now (D.story disk.new).held) }
     ensures way { D.tells → Passes (D.story disk.old) (D.story disk.new) (MakesWay folder.now (D.story disk.old).held) }
+    ensures brief { D.tells → IsBrief (2 + (slashes folder.now + slashes folder.now)) (D.story disk.old) (D.story disk.new) }
     ensures cause { Counts (D.faults disk.old) (D.faults disk.new) (disk_failed result) }
 {
     clear_at(alloc, disk, folder)?;

@@ -26,7 +26,7 @@ use Rattle.store_model.specs.declared.signature.SigRecord.{SigRecord}
 use Rattle.store_model.specs.OneSpelling.{AllFit, DepFits, FileFits, Fits, LineFits, SignatureFits}
 use Rattle.store_model.specs.Rows.{hash_eq, uni}
 use Rattle.store_model.specs.Signatures.{Signed, dep_line, file_hash, is_dep_before, is_laid_before, is_line_before, is_signed_of, order_line, own_laid, own_tasks, signature, signatures, signed_from, signed_needs, with_order}
-use Rattle.store_model.specs.Spelling.{name_of, signature_bytes}
+use Rattle.store_model.specs.Spelling.{name_of, short_bytes, short_of}
 use Rattle.store_model.proofs.Laying.{each_kept}
 use Rattle.store_model.proofs.Ordered.{each_append, each_ordered, map_each, put_each}
 use Rattle.plan_model.specs.Names.{is_task_name}
@@ -57,7 +57,7 @@ digest_is_hash m = record { size = length-sha256 m; bytes = digest_is_bytes m }
 
 name_is_hash : (sig : SigRecord) → IsHash (name_of sig)
 unfolding name_of
-name_is_hash sig = digest_is_hash (signature_bytes sig)
+name_is_hash sig = digest_is_hash (short_bytes (short_of sig))
 
 -- what stands for a digest among rows of digests is one
 row_is_hash : (name : Hash) (rows : List EquivRow) → IsHash name → AllByRecursion (λ r. IsHash r.unihash) rows → IsHash (uni rows name)

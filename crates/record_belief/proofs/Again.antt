@@ -5,7 +5,7 @@ use Rattle.std.proofs.lemmas.Option.{get_or_from_slice_get, slice_get_within, sl
 use Rattle.std.proofs.lemmas.List.Elements.{recursion_from_All}
 use Rattle.meta_model.specs.CleanBuild.{Entries, Gives, Lack}
 use Rattle.store_model.specs.declared.signature.DepLine.{DepLine}
-use Rattle.store_model.specs.declared.signature.SigRecord.{SigRecord}
+use Rattle.store_model.specs.declared.signature.ShortSig.{ShortSig}
 use Rattle.store_model.specs.Spelling.{name_of}
 use Rattle.store_model.specs.Origins.{Reading, Line, Book, Traced, origin, traced, traced_over, dep_outputs, with_dep, outcome_named}
 use Rattle.store_model.specs.Valid.{StandsIn, AreAlike as Alike, IsNamedBefore, IsNamedAlike, IsValidLine, IsValidBook}
@@ -95,7 +95,7 @@ module _ (gives : Gives) (reading : Reading) (book : Book) (candidates : List Ca
   dep_at before line s i dep e =
       let a = line_at before line s in
       let m = named_at before line s in
-      let f : slice_get a.candidate.stored.sig.deps i ≡ Some dep = ap (λ (x : SigRecord). slice_get x.deps i) (sig_of line a.candidate a.records) ∙ e in
+      let f : slice_get a.candidate.stored.sig.deps i ≡ Some dep = ap (λ (x : ShortSig). slice_get x.deps i) (sig_of line a.candidate a.records) ∙ e in
       let n = m.deps i dep f in
       let l = earlier_of before line s n.other n.admitted in
       (l.0, l.1, l.2, sym l.3.name ∙ n.name_is, l.4)

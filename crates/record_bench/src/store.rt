@@ -23,28 +23,34 @@ fn file(alloc: Global, bytes: &[u8]) -> Result<Entry> {
     Ok(Entry::File { exec: false, bytes })
 }
 
-/// The signature of the task of a number, which needs the task of the number before, if there is one.
-fn signature(alloc: Global, number: u32, needed: Option<&Hash>) -> Result<String> {
+/// The key of each task: no lines.
+const KEY: &[u8] = b"0;";
+
+/// The short text of the signature of the task of a number, which needs the task of the number before, if there is one.
+fn signature(alloc: Global, number: u32, key: &str, needed: Option<&Hash>) -> Result<String> {
     Ok(match needed {
         Some(hash) => format!(in alloc;
-            "6:bbsig1,1:p,10:do_{number:07},0;0;1;1:p,10:do_{:07},64:{},",
+            "6:bbsig2,1:p,10:do_{number:07},64:{key},0;1;1:p,10:do_{:07},64:{},",
             number.saturating_sub(1),
             digits(alloc, hash)?
         )?,
-        None => format!(in alloc; "6:bbsig1,1:p,10:do_{number:07},0;0;0;")?,
+        None => format!(in alloc; "6:bbsig2,1:p,10:do_{number:07},64:{key},0;0;")?,
     })
 }
 
-/// So many records of tasks that gave no file, each of which needs the one before.
+/// So many records of tasks that gave no file, each of which needs the one before; and their key.
 fn records(alloc: Global, count: u32) -> Result<Vec<(Text, Entry)>> {
     let mut list = Vec::new(alloc);
+    let key = digits(alloc, &Hash::of(KEY))?;
+    let path = format!(in alloc; "key/{key}")?;
+    list.push((Text::from_string(path), file(alloc, KEY)?))?;
     let mut last = None;
     for number in 0..count {
-        let sig = signature(alloc, number, last.as_ref())?;
+        let sig = signature(alloc, number, key.as_str(), last.as_ref())?;
         let name = Hash::of(sig.as_bytes());
         let text = digits(alloc, &name)?;
-        let record = format!(in alloc; "6:bbrec1,{}:{sig},0;64:{text},", sig.len())?;
-        let path = format!(in alloc; "rec/{text}")?;
+        let record = format!(in alloc; "6:bbrec2,{}:{sig},0;64:{text},", sig.len())?;
+        let path = format!(in alloc; "rec2/{text}")?;
         list.push((Text::from_string(path), file(alloc, record.as_bytes())?))?;
         last = Some(name);
     }
@@ -65,7 +71,7 @@ fn odd_bytes(alloc: Global, number: u32) -> Result<Vec<u8>> {
 fn odd_path(alloc: Global, number: u32) -> Result<Text> {
     if number.is_multiple_of(2) {
         let text = digits(alloc, &Hash::of(&number.to_be_bytes()))?;
-        return Ok(Text::from_string(format!(in alloc; "rec/{text}")?));
+        return Ok(Text::from_string(format!(in alloc; "rec2/{text}")?));
     }
     Ok(Text::from_string(format!(in alloc; "stamp/p/do_{number:07}")?))
 }
@@ -103,6 +109,6 @@ fn open(rt: &HostRuntime, files: Vec<(Text, Entry)>, name: &str, timed: bool) ->
 
 /// A store of so many records is opened, and one of so many files that are no records and no stamps.
 pub fn measure(rt: &HostRuntime, count: u32, timed: bool) -> Result<()> {
-    open(rt, records(rt.alloc(), count)?, "records", timed)?;
+    open(rt, records(rt.alloc(), count)?, "records and keys", timed)?;
     open(rt, odd_files(rt.alloc(), count)?, "odd files", timed)
 }

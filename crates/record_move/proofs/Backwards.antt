@@ -5,7 +5,7 @@ use Rattle.std.specs.Option.{is_some, option_or}
 use Rattle.std.proofs.lemmas.List.{drop_more, take_more}
 use Rattle.std.proofs.lemmas.List.Folds.{list_any-append}
 use Rattle.tree_model.specs.declared.hash.Hash.{Hash}
-use Rattle.store_model.specs.declared.candidate.Candidate.{Candidate}
+use Rattle.record_move.specs.declared.records.OldRecord.{OldRecord}
 use Rattle.store_model.specs.declared.signature.DepLine.{DepLine}
 use Rattle.store_model.specs.declared.signature.StoredSig.{StoredSig}
 use Rattle.store_model.specs.Rows.{hash_eq}
@@ -57,12 +57,12 @@ names_noted first mid new stored deps puts q =
     ∙ or_joined (is_some (value_at first q)) (list_any (λ (dep : DepLine). hash_eq dep.name q) stored.sig.deps) (hash_eq stored.unihash q)
 
 -- a record more is taken
-pub taken_noted : (first new : Noted) (old : Candidate) (records : List Candidate) → ((q : Hash) → is_some (value_at first q) ≡ is_named q records) → ((q : Hash) → is_some (value_at new q) ≡ (is_some (value_at first q) || names q old.stored))
+pub taken_noted : (first new : Noted) (old : OldRecord) (records : List OldRecord) → ((q : Hash) → is_some (value_at first q) ≡ is_named q records) → ((q : Hash) → is_some (value_at new q) ≡ (is_some (value_at first q) || names q old.stored))
     → (q : Hash) → is_some (value_at new q) ≡ is_named q (old ∷ records)
 taken_noted first new old records so_far more q = more q ∙ ap (λ (b : Bool). b || names q old.stored) (so_far q) ∙ or_turned (is_named q records) (names q old.stored)
 
 -- what is wanted of one record more in front
-pub wanted_more : (asked : List Bool) (n : ℕ) (b : Bool) (old : Candidate) (rest : List Candidate) → n < length asked → b ≡ get_or asked n false
+pub wanted_more : (asked : List Bool) (n : ℕ) (b : Bool) (old : OldRecord) (rest : List OldRecord) → n < length asked → b ≡ get_or asked n false
     → wanted_of (drop n asked) (old ∷ rest) ≡ cond (b || is_named old.name (wanted_of (drop (n + 1) asked) rest)) (old ∷ wanted_of (drop (n + 1) asked) rest) (wanted_of (drop (n + 1) asked) rest)
 wanted_more asked n b old rest lt is =
     ap (λ (l : List Bool). wanted_of l (old ∷ rest)) (drop_more asked n false lt)

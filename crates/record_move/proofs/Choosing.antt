@@ -4,7 +4,7 @@ use Rattle.std.specs.Prelude.{Contains}
 use Rattle.std.specs.List.{AllByRecursion, list_any}
 use Rattle.tree_model.specs.declared.hash.Hash.{Hash}
 use Rattle.meta_model.proofs.Bools.{either_way, from_or, not_both, or_first, or_later}
-use Rattle.store_model.specs.declared.candidate.Candidate.{Candidate}
+use Rattle.record_move.specs.declared.records.OldRecord.{OldRecord}
 use Rattle.store_model.specs.declared.signature.DepLine.{DepLine}
 use Rattle.store_model.specs.Origins.{Book, Line}
 use Rattle.store_model.specs.Rows.{hash_eq}
@@ -21,13 +21,13 @@ use Rattle.record_move.specs.Wanted.{AskedAreWanted, WantedIsValid, is_named, is
 -- ---- records beside lines
 
 module _ (from : Format) where
-  same_named : (name : Hash) (olds : List Candidate) (lines : Book) → AreLinesOf from olds lines → is_named name olds ≡ is_named_by name lines
+  same_named : (name : Hash) (olds : List OldRecord) (lines : Book) → AreLinesOf from olds lines → is_named name olds ≡ is_named_by name lines
   same_named name [] [] are = refl
   same_named name [] (line ∷ lines) are = absurd are
   same_named name (c ∷ olds) [] are = absurd are
   same_named name (c ∷ olds) (line ∷ lines) are = λ i. names name (sym are.0.stored i) || same_named name olds lines are.1 i
 
-  beside : (asked : List Bool) (olds : List Candidate) (book : Book) → AreLinesOf from olds book → AreLinesOf from (wanted_of asked olds) (wanted_lines from asked book)
+  beside : (asked : List Bool) (olds : List OldRecord) (book : Book) → AreLinesOf from olds book → AreLinesOf from (wanted_of asked olds) (wanted_lines from asked book)
   beside [] olds book are = tt
   beside (a ∷ asked) [] [] are = tt
   beside (a ∷ asked) [] (line ∷ book) are = absurd are

@@ -11,7 +11,7 @@ use Rattle.tree_model.specs.declared.hash.Hash.{Hash}
 use Rattle.meta_model.specs.declared.value.Key.{Key}
 use Rattle.meta_model.proofs.Bools.{same_text, text_itself}
 use Rattle.store_model.specs.declared.signature.SigRecord.{SigRecord}
-use Rattle.sig_gen.specs.Second.{key_bytes, key_name, second_bytes, second_name}
+use Rattle.store_model.specs.Spelling.{key_bytes, key_name, name_of, signature_bytes}
 use Rattle.record_move.specs.declared.fault.MoveFault.{MoveFault}
 use Rattle.record_move.specs.declared.fault.MoveFault.TheVariants.{Collision, KeyCollision, Memory}
 use Rattle.record_move.specs.Faults.{IsKeyFault, IsKeyFaultOf}
@@ -62,11 +62,7 @@ fault_is keys name held key (KeyCollision n h g) found is differ f =
     (ap (key_named keys) f.0 ∙ found ∙ ap Some (sym f.1), f.2, ap (λ (x : Hash). x.bytes) f.0 ∙ found_is_named keys name held found ∙ ap sha256 (sym f.1), ap (λ (x : Hash). x.bytes) f.0 ∙ is ∙ ap sha256 (sym f.2), λ same. differ (sym f.1 ∙ same ∙ f.2))
 fault_is keys name held key Memory found is differ f = tt
 
--- ---- names of signatures and of keys
-
-pub name_is : (h : Hash) (bytes : List ℕ) (sig : SigRecord) → h.bytes ≡ sha256 bytes → bytes ≡ second_bytes sig → h ≡ second_name sig
-unfolding second_name
-name_is h bytes sig is same = λ i. record { bytes = (is ∙ ap sha256 same) i }
+-- ---- names of keys
 
 pub key_name_is : (key : Key) → digest (key_bytes key) ≡ key_name key
 unfolding key_name

@@ -12,17 +12,17 @@ use Rattle.store_model.specs.Rows.{hash_eq}
 use Rattle.store_model.specs.Valid.{StandsIn, stored_of}
 use Rattle.store_model.proofs.Listing.{hash_itself, hash_same}
 use Rattle.store_model.proofs.Standing.{stands_behind, stands_first}
-use Rattle.sig_gen.specs.Second.{second_name}
+use Rattle.store_model.specs.Spelling.{name_of}
 use Rattle.store_move.specs.Formats.{IsValidBook}
 use Rattle.store_move.specs.Parts.{IsClosed}
 use Rattle.store_move.proofs.Closing.{part_is_valid}
 use Rattle.record_move.specs.declared.records.AddedRecord.{AddedRecord}
 use Rattle.record_move.specs.Rounds.{AreRounds, IsAddedAs, IsInRound, RemovalIsValid, RoundIsValid, behind, round_for, round_in, round_of}
-use Rattle.record_move.specs.Second.{second}
+use Rattle.store_move.specs.Moves.{present}
 
 -- ---- lines of two books, one behind the other
 
--- the line stands in the first book, or in the second one, behind all of the first
+-- the line stands in the first book, or in the present one, behind all of the first
 split_at : (start more before rest : Book) (line : Line) → start ++ more ≡ before ++ line ∷ rest → StandsIn start before line ⊎ ((middle : Book) × (before ≡ start ++ middle) × StandsIn more middle line)
 split_at [] more before rest line e = inr (before, refl, record { rest = rest; is = e })
 split_at (s ∷ start) more [] rest line e = let first : s ≡ line = cc in inl (record { rest = start; is = ap (λ (l : Line). l ∷ start) first })
@@ -68,7 +68,7 @@ module _ (round : ℕ) (keep : Line → Bool) where
       record { front = a ∷ c.front; one = c.one; rest = c.rest; is = ap (λ (l : List AddedRecord). a ∷ l) c.is; here = c.here; earlier = (all.0, c.earlier) }
 
   -- the record of a name is found where none before it has the name
-  found_at : (lines : Book) (front rest : List AddedRecord) (one : AddedRecord) (name : Hash) → AllZip Beside lines front → ((b : Book) (l : Line) → StandsIn lines b l → second_name l.sig ≢ name) → one.name ≡ name
+  found_at : (lines : Book) (front rest : List AddedRecord) (one : AddedRecord) (name : Hash) → AllZip Beside lines front → ((b : Book) (l : Line) → StandsIn lines b l → name_of l.sig ≢ name) → one.name ≡ name
       → find (λ a. hash_eq a.name name) (front ++ one ∷ rest) ≡ Some one
   found_at [] [] rest one name all none is = ap (λ (b : Bool). cond b (Some one) (find (λ a. hash_eq a.name name) rest)) (hash_itself one.name name is)
   found_at [] (y ∷ front) rest one name all none is = absurd all
@@ -94,12 +94,12 @@ each_above added (d ∷ deps) first zero dep lt is =
     omega (arith, le, same)
 each_above added (d ∷ deps) first (suc k) dep lt is = each_above added deps (max first (behind (round_of added d.name))) k dep (omega (arith, lt)) is
 
-module _ (gives : Gives) (reading : Reading) (start more : Book) (added : List AddedRecord) (round : ℕ) (keep : Line → Bool) (valid : IsValidBook second gives reading (start ++ more)) (lines : AllZip IsAddedAs more added) (rounds : AreRounds added) (at : IsInRound start more added round keep) where
+module _ (gives : Gives) (reading : Reading) (start more : Book) (added : List AddedRecord) (round : ℕ) (keep : Line → Bool) (valid : IsValidBook present gives reading (start ++ more)) (lines : AllZip IsAddedAs more added) (rounds : AreRounds added) (at : IsInRound start more added round keep) where
   sides : AllZip (Beside round keep) more added
   sides = beside round keep more added lines at.earlier at.later
 
   -- what an added line that is there names is there, where its round is above
-  earlier_kept : (middle : Book) (line : Line) → StandsIn more middle line → keep line ≡ true → (name : Hash) → ((front : List AddedRecord) → behind (round_of front name) ≤ round_for front (stored_of line)) → (behind_it : Book) (earlier : Line) → StandsIn (start ++ middle) behind_it earlier → second_name earlier.sig ≡ name → keep earlier ≡ true
+  earlier_kept : (middle : Book) (line : Line) → StandsIn more middle line → keep line ≡ true → (name : Hash) → ((front : List AddedRecord) → behind (round_of front name) ≤ round_for front (stored_of line)) → (behind_it : Book) (earlier : Line) → StandsIn (start ++ middle) behind_it earlier → name_of earlier.sig ≡ name → keep earlier ≡ true
   earlier_kept middle line s kept name above behind_it earlier t named = elim (split_stands start middle behind_it earlier t) [
     | inl u ↦ at.stood behind_it earlier u
     | inr u ↦ in_more u.0 u.1 u.2
@@ -112,7 +112,7 @@ module _ (gives : Gives) (reading : Reading) (start more : Book) (added : List A
       in_more inner is u =
           let d = cut_at round keep inner u.rest earlier c.front (subst (λ (b : Book). AllZip (Beside round keep) b c.front) u.is c.earlier) in
           let w = valid behind_it earlier (stands_there inner is u) in
-          let none : (b : Book) (l : Line) → StandsIn inner b l → second_name l.sig ≢ name = λ b l v same.
+          let none : (b : Book) (l : Line) → StandsIn inner b l → name_of l.sig ≢ name = λ b l v same.
           w.new (start ++ b) l (record { rest = v.rest; is = is ∙ ap (λ (x : Book). start ++ x) v.is ∙ sym (append_assoc start b (l ∷ v.rest)) }) (same ∙ sym named) in
           let found : find (λ a. hash_eq a.name name) c.front ≡ Some d.one = ap (find (λ a. hash_eq a.name name)) d.is ∙ found_at round keep inner d.front d.rest d.one name d.earlier none (d.here.added.name ∙ named) in
           let up : behind (Some d.one.round) ≤ round_for c.front (stored_of line) = subst (λ (o : Option AddedRecord). behind (round_in o) ≤ round_for c.front (stored_of line)) found (above c.front) in
@@ -128,7 +128,7 @@ module _ (gives : Gives) (reading : Reading) (start more : Book) (added : List A
             is = ap (λ (b : Book). start ++ b) (s.is ∙ ap (λ (b : Book). b ++ line ∷ s.rest) u.is ∙ append_assoc inner (earlier ∷ u.rest) (line ∷ s.rest)) ∙ sym (append_assoc start inner (earlier ∷ (u.rest ++ line ∷ s.rest))) ∙ ap (λ (b : Book). b ++ earlier ∷ (u.rest ++ line ∷ s.rest)) (sym is);
           }
 
-  closed : IsClosed second keep (start ++ more)
+  closed : IsClosed present keep (start ++ more)
   closed before line s kept = elim (split_stands start more before line s) [
     | inl u ↦ record {
       deps = λ dep c behind_it earlier t named. at.stood behind_it earlier (stands_in_start before line u behind_it earlier t);
@@ -144,11 +144,11 @@ module _ (gives : Gives) (reading : Reading) (start more : Book) (added : List A
       stands_in_start b l u c e t = record { rest = t.rest ++ l ∷ u.rest; is = u.is ∙ ap (λ (x : Book). x ++ l ∷ u.rest) t.is ∙ append_assoc c (e ∷ t.rest) (l ∷ u.rest) }
 
 pub round_is_valid : RoundIsValid
-round_is_valid gives reading start more added round keep valid lines rounds at = part_is_valid second gives reading (start ++ more) keep valid (closed gives reading start more added round keep valid lines rounds at)
+round_is_valid gives reading start more added round keep valid lines rounds at = part_is_valid present gives reading (start ++ more) keep valid (closed gives reading start more added round keep valid lines rounds at)
 
 -- ---- lines that go
 
-union_closed : (book : Book) (stay keep : Line → Bool) → IsClosed second stay book → IsClosed second keep book → IsClosed second (λ line. stay line || keep line) book
+union_closed : (book : Book) (stay keep : Line → Bool) → IsClosed present stay book → IsClosed present keep book → IsClosed present (λ line. stay line || keep line) book
 union_closed book stay keep a b before line s kept = elim (either_way (stay line)) [
   | inl t ↦ record {
     deps = λ dep c behind_it earlier u named. let at = a before line s t in or_first (stay earlier) (keep earlier) (at.deps dep c behind_it earlier u named);
@@ -162,4 +162,4 @@ union_closed book stay keep a b before line s kept = elim (either_way (stay line
 
 pub removal_is_valid : RemovalIsValid
 removal_is_valid gives reading book added round stay keep valid lines rounds closed_stay at =
-    part_is_valid second gives reading book (λ line. stay line || keep line) valid (union_closed book stay keep closed_stay (closed gives reading [] book added round keep valid lines rounds at))
+    part_is_valid present gives reading book (λ line. stay line || keep line) valid (union_closed book stay keep closed_stay (closed gives reading [] book added round keep valid lines rounds at))

@@ -9,7 +9,7 @@ use Rattle.sha2.specs.Sha256.{sha256}
 use Rattle.tree_model.specs.declared.hash.Hash.{Hash}
 use Rattle.tree_model.specs.declared.manifest.ManifestLine.{ManifestLine}
 use Rattle.meta_model.specs.declared.value.Key.{Key}
-use Rattle.store_model.specs.declared.candidate.Candidate.{Candidate}
+use Rattle.record_move.specs.declared.records.OldRecord.{OldRecord}
 use Rattle.store_model.specs.declared.signature.DepLine.{DepLine}
 use Rattle.store_model.specs.declared.signature.EquivRow.{EquivRow}
 use Rattle.store_model.specs.declared.signature.SigRecord.{SigRecord}
@@ -21,9 +21,10 @@ use Rattle.store_model.specs.Spelled.{IsSpelled}
 use Rattle.store_model.specs.Valid.{StandsIn, stored_of}
 use Rattle.store_model.proofs.Listing.{find_splits, hash_same}
 use Rattle.store_model.proofs.Standing.{split_last}
-use Rattle.sig_gen.specs.Second.{key_bytes, second_bytes, second_name}
+use Rattle.store_model.specs.Spelling.{key_bytes, name_of, short_bytes, short_of, signature_bytes, text_name}
+use Rattle.store_model.proofs.Reading.{short_of_whole}
 use Rattle.store_move.specs.Formats.{Format, HasNoneNamed, row_of, rows_of}
-use Rattle.store_move.specs.Moves.{IsClear, Move, Pair, is_named, line_at, moved_by, moved_dep, moved_line, moved_sig, step, unihash_in}
+use Rattle.store_move.specs.Moves.{is_named, IsClear, line_at, Move, moved_by, moved_dep, moved_line, moved_sig, Pair, present, step, unihash_in}
 use Rattle.store_move.proofs.Renames.{still_spelled}
 use Rattle.store_move.proofs.Places.{row_found, row_none, row_of_line}
 use Rattle.record_move.specs.declared.adding.Adding.{Adding as AddingNow}
@@ -39,7 +40,6 @@ use Rattle.record_move.specs.Known.{IsKnown, KnowsKey}
 use Rattle.record_move.specs.Moved.{IsLineOf, IsMoveOf, IsPairOf, StandWell}
 use Rattle.record_move.specs.Named.{PutsFirst, dep_by, sig_by, value_at}
 use Rattle.record_move.specs.Rounds.{AreRounds, IsAddedAs, round_for, round_of}
-use Rattle.record_move.specs.Second.{second}
 use Rattle.record_move.proofs.Keeping.{known_further}
 use Rattle.record_move.proofs.Reading.{one_signature}
 
@@ -106,11 +106,11 @@ rounds_more added a are is before rest x e = elim (last_or_before added before r
 
 -- ---- rows and lines
 
-row_is : (book : Book) (name : Hash) → row_at (rows_of second book) name ≡ option_map (row_of second) (line_at second book name)
+row_is : (book : Book) (name : Hash) → row_at (rows_of present book) name ≡ option_map (row_of present) (line_at present book name)
 row_is [] name = refl
-row_is (line ∷ book) name = by (hash_eq (second_name line.sig) name) refl (row_is book name)
+row_is (line ∷ book) name = by (hash_eq (name_of line.sig) name) refl (row_is book name)
   where
-    by : (b : Bool) → hash_eq (second_name line.sig) name ≡ b → row_at (rows_of second book) name ≡ option_map (row_of second) (line_at second book name) → row_at (rows_of second (line ∷ book)) name ≡ option_map (row_of second) (line_at second (line ∷ book) name)
+    by : (b : Bool) → hash_eq (name_of line.sig) name ≡ b → row_at (rows_of present book) name ≡ option_map (row_of present) (line_at present book name) → row_at (rows_of present (line ∷ book)) name ≡ option_map (row_of present) (line_at present (line ∷ book) name)
     by true e rest = rw e refl
     by false e rest = rw e rest
 
@@ -118,10 +118,10 @@ row_is (line ∷ book) name = by (hash_eq (second_name line.sig) name) refl (row
 
 module _ (from : Format) (start : Book) (move : Move) (m : MovingNow) (line : Line) (going : IsGoing from start move m) where
   abbrev Made : Line
-  Made = moved_line from second move line
+  Made = moved_line from present move line
 
   abbrev Next : Move
-  Next = step from second move line
+  Next = step from present move line
 
   -- what is told behind it
   pub record IsStep (rows : List EquivRow) (adding : AddingNow) (names : List (List ℕ × Hash)) (records : List MovedRecord) : Type 0 where
@@ -130,8 +130,8 @@ module _ (from : Format) (start : Book) (move : Move) (m : MovingNow) (line : Li
     pub rounds_are : AreRoundsOf adding.added.items adding.rounds.entries
 
   module _ (rows : List EquivRow) (adding : AddingNow) (names : List (List ℕ × Hash)) (records : List MovedRecord) (unihash old_name : Hash) (puts : PutsFirst m.names.entries names old_name unihash) (named : old_name ≡ from.name_of line.sig)
-      (told : records ≡ m.records.items ++ record { old_name = old_name; old_unihash = line.unihash; name = second_name Made.sig; unihash = unihash } ∷ []) where
-    pair_told : (pair : Pair) → pair.old ≡ line → second_name pair.new.sig ≡ second_name Made.sig → unihash ≡ pair.new.unihash → AllZip (IsPairOf from) (move.pairs ++ pair ∷ []) records
+      (told : records ≡ m.records.items ++ record { old_name = old_name; old_unihash = line.unihash; name = name_of Made.sig; unihash = unihash } ∷ []) where
+    pair_told : (pair : Pair) → pair.old ≡ line → name_of pair.new.sig ≡ name_of Made.sig → unihash ≡ pair.new.unihash → AllZip (IsPairOf from) (move.pairs ++ pair ∷ []) records
     pair_told pair old name is = subst (AllZip (IsPairOf from) (move.pairs ++ pair ∷ [])) (sym told) (zip_push (IsPairOf from) move.pairs m.records.items pair _ going.told.each (record {
       old_name = named ∙ ap (λ (l : Line). from.name_of l.sig) (sym old);
       old_unihash = ap (λ (l : Line). l.unihash) (sym old);
@@ -140,20 +140,20 @@ module _ (from : Format) (start : Book) (move : Move) (m : MovingNow) (line : Li
     }))
 
     stood : HasStood m.rows Made.sig unihash → rows ≡ m.rows → adding.added.items ≡ m.adding.added.items → adding.rounds.entries ≡ m.adding.rounds.entries → IsStep rows adding names records
-    stood s rows_same added_same rounds_same = by (line_at second move.book (second_name Made.sig)) refl
+    stood s rows_same added_same rounds_same = by (line_at present move.book (name_of Made.sig)) refl
       where
-        row_found_is : row_at (rows_of second move.book) (second_name Made.sig) ≡ Some s.row
-        row_found_is = ap (λ (r : List EquivRow). row_at r (second_name Made.sig)) (sym going.told.rows_are) ∙ s.found
+        row_found_is : row_at (rows_of present move.book) (name_of Made.sig) ≡ Some s.row
+        row_found_is = ap (λ (r : List EquivRow). row_at r (name_of Made.sig)) (sym going.told.rows_are) ∙ s.found
 
-        by : (o : Option Line) → line_at second move.book (second_name Made.sig) ≡ o → IsStep rows adding names records
-        by None none = absurd (let bad : Some s.row ≡ None = sym row_found_is ∙ row_is move.book (second_name Made.sig) ∙ ap (option_map (row_of second)) none in cc)
+        by : (o : Option Line) → line_at present move.book (name_of Made.sig) ≡ o → IsStep rows adding names records
+        by None none = absurd (let bad : Some s.row ≡ None = sym row_found_is ∙ row_is move.book (name_of Made.sig) ∙ ap (option_map (row_of present)) none in cc)
         by (Some held) some =
             let pair : Pair = record { old = line; new = held } in
             let next : Next ≡ record { pairs = move.pairs ++ pair ∷ []; book = move.book } = ap (moved_by move line Made) some in
-            let rows_one : Some s.row ≡ Some (row_of second held) = sym row_found_is ∙ row_is move.book (second_name Made.sig) ∙ ap (option_map (row_of second)) some in
-            let row_one : s.row ≡ row_of second held = cc in
+            let rows_one : Some s.row ≡ Some (row_of present held) = sym row_found_is ∙ row_is move.book (name_of Made.sig) ∙ ap (option_map (row_of present)) some in
+            let row_one : s.row ≡ row_of present held = cc in
             let is : unihash ≡ held.unihash = s.is ∙ ap (λ (r : EquivRow). r.unihash) row_one in
-            let name = hash_same (second_name held.sig) (second_name Made.sig) (find_splits (λ (l : Line). hash_eq (second_name l.sig) (second_name Made.sig)) move.book held some).1 in
+            let name = hash_same (name_of held.sig) (name_of Made.sig) (find_splits (λ (l : Line). hash_eq (name_of l.sig) (name_of Made.sig)) move.book held some).1 in
             record {
               told = subst (λ (n : Move). IsMoveOf from start n rows records adding.added.items) (sym next) (record {
                 rows_are = rows_same ∙ going.told.rows_are;
@@ -168,22 +168,22 @@ module _ (from : Format) (start : Book) (move : Move) (m : MovingNow) (line : Li
             }
 
     added : IsAdded m.rows m.adding.added.items Made.sig line.manifest unihash rows adding.added.items adding.rounds.entries → IsStep rows adding names records
-    added a = by (line_at second move.book (second_name Made.sig)) refl
+    added a = by (line_at present move.book (name_of Made.sig)) refl
       where
-        none_is : row_at (rows_of second move.book) (second_name Made.sig) ≡ None
-        none_is = ap (λ (r : List EquivRow). row_at r (second_name Made.sig)) (sym going.told.rows_are) ∙ a.none
+        none_is : row_at (rows_of present move.book) (name_of Made.sig) ≡ None
+        none_is = ap (λ (r : List EquivRow). row_at r (name_of Made.sig)) (sym going.told.rows_are) ∙ a.none
 
-        by : (o : Option Line) → line_at second move.book (second_name Made.sig) ≡ o → IsStep rows adding names records
-        by (Some held) some = absurd (let bad : Some (row_of second held) ≡ None = sym (ap (option_map (row_of second)) some) ∙ sym (row_is move.book (second_name Made.sig)) ∙ none_is in cc)
+        by : (o : Option Line) → line_at present move.book (name_of Made.sig) ≡ o → IsStep rows adding names records
+        by (Some held) some = absurd (let bad : Some (row_of present held) ≡ None = sym (ap (option_map (row_of present)) some) ∙ sym (row_is move.book (name_of Made.sig)) ∙ none_is in cc)
         by None none =
             let pair : Pair = record { old = line; new = Made } in
             let next : Next ≡ record { pairs = move.pairs ++ pair ∷ []; book = move.book ++ Made ∷ [] } = ap (moved_by move line Made) none in
-            let stored : made_stored m.rows (second_name Made.sig) Made.sig line.manifest ≡ stored_of Made = ap (λ (r : List EquivRow). made_stored r (second_name Made.sig) Made.sig line.manifest) going.told.rows_are in
+            let stored : made_stored m.rows (name_of Made.sig) Made.sig line.manifest ≡ stored_of Made = ap (λ (r : List EquivRow). made_stored r (name_of Made.sig) Made.sig line.manifest) going.told.rows_are in
             let is : unihash ≡ Made.unihash = a.is ∙ ap (λ (s : StoredSig). s.unihash) stored in
-            let one : AddedRecord = record { name = second_name Made.sig; stored = made_stored m.rows (second_name Made.sig) Made.sig line.manifest; round = round_for m.adding.added.items (made_stored m.rows (second_name Made.sig) Made.sig line.manifest) } in
+            let one : AddedRecord = record { name = name_of Made.sig; stored = made_stored m.rows (name_of Made.sig) Made.sig line.manifest; round = round_for m.adding.added.items (made_stored m.rows (name_of Made.sig) Made.sig line.manifest) } in
             record {
               told = subst (λ (n : Move). IsMoveOf from start n rows records adding.added.items) (sym next) (record {
-                rows_are = a.row ∙ (λ i. going.told.rows_are i ++ made_row (second_name Made.sig) (second_bytes Made.sig) (stored i) ∷ []) ∙ sym (map-append (row_of second) move.book (Made ∷ []));
+                rows_are = a.row ∙ (λ i. going.told.rows_are i ++ made_row (name_of Made.sig) (signature_bytes Made.sig) (stored i) ∷ []) ∙ sym (map-append (row_of present) move.book (Made ∷ []));
                 each = pair_told pair refl refl is;
                 more = going.told.more ++ Made ∷ [];
                 longer = ap (λ (b : Book). b ++ Made ∷ []) going.told.longer ∙ append_assoc start going.told.more (Made ∷ []);
@@ -205,26 +205,26 @@ module _ (from : Format) (start : Book) (move : Move) (m : MovingNow) (line : Li
     further : (before : Book) (l : Line) → StandsIn move.book before l → IsKnown keys l.sig.key
     further before l s = known_further m.keys keys line.sig.key l.sig.key grown (well.known before l s)
 
-    pub is_clear : IsClear from second move line
+    pub is_clear : IsClear from present move line
     is_clear before held s same = by stands
       where
         by : Stands m.rows m.adding Made.sig line.manifest unihash rows adding → held.sig ≡ Made.sig
         by (inl t) =
-            let here = row_of_line second move.book before held well.new s in
-            let found : row_at (rows_of second move.book) (second_name Made.sig) ≡ Some t.0.row = ap (λ (r : List EquivRow). row_at r (second_name Made.sig)) (sym going.told.rows_are) ∙ t.0.found in
-            let rows_one : Some (row_of second held) ≡ Some t.0.row = sym here ∙ ap (row_at (rows_of second move.book)) same ∙ found in
-            let row_one : row_of second held ≡ t.0.row = cc in
-            one_signature keys held.sig Made.sig (well.sound before held s) sound (ap (λ (r : EquivRow). r.sig) row_one ∙ t.0.signed) (further before held s) known
-        by (inr a) = absurd (row_none second move.book (second_name Made.sig) (ap (λ (r : List EquivRow). row_at r (second_name Made.sig)) (sym going.told.rows_are) ∙ a.none) before held s same)
+            let here = row_of_line present move.book before held well.new s in
+            let found : row_at (rows_of present move.book) (name_of Made.sig) ≡ Some t.0.row = ap (λ (r : List EquivRow). row_at r (name_of Made.sig)) (sym going.told.rows_are) ∙ t.0.found in
+            let rows_one : Some (row_of present held) ≡ Some t.0.row = sym here ∙ ap (row_at (rows_of present move.book)) same ∙ found in
+            let row_one : row_of present held ≡ t.0.row = cc in
+            one_signature held.sig Made.sig (well.sound before held s) sound (ap (λ (r : EquivRow). r.sig) row_one ∙ t.0.signed)
+        by (inr a) = absurd (row_none present move.book (name_of Made.sig) (ap (λ (r : List EquivRow). row_at r (name_of Made.sig)) (sym going.told.rows_are) ∙ a.none) before held s same)
 
     pub stay_well : StandWell keys Next.book
-    stay_well = by (line_at second move.book (second_name Made.sig)) refl
+    stay_well = by (line_at present move.book (name_of Made.sig)) refl
       where
-        by : (o : Option Line) → line_at second move.book (second_name Made.sig) ≡ o → StandWell keys Next.book
+        by : (o : Option Line) → line_at present move.book (name_of Made.sig) ≡ o → StandWell keys Next.book
         by (Some held) some = subst (λ (n : Move). StandWell keys n.book) (sym (ap (moved_by move line Made) some)) (record { new = well.new; sound = well.sound; known = further })
         by None none = subst (λ (n : Move). StandWell keys n.book) (sym (ap (moved_by move line Made) none)) (record {
           new = λ before l s. elim (split_last move.book before Made l s) [
-            | inl p ↦ subst (λ (b : Book). HasNoneNamed second b l.sig) (sym p.0) (subst (λ (x : Line). HasNoneNamed second move.book x.sig) (sym p.1) (row_none second move.book (second_name Made.sig) (row_is move.book (second_name Made.sig) ∙ ap (option_map (row_of second)) none)))
+            | inl p ↦ subst (λ (b : Book). HasNoneNamed present b l.sig) (sym p.0) (subst (λ (x : Line). HasNoneNamed present move.book x.sig) (sym p.1) (row_none present move.book (name_of Made.sig) (row_is move.book (name_of Made.sig) ∙ ap (option_map (row_of present)) none)))
             | inr u ↦ well.new before l u
           ];
           sound = λ before l s. elim (split_last move.book before Made l s) [
@@ -244,22 +244,22 @@ module _ (from : Format) (start : Book) (move : Move) (m : MovingNow) (line : Li
   key_fault (KeyCollision name held given) f = f
   key_fault Memory f = tt
 
-  name_bytes : (sig : SigRecord) → (second_name sig).bytes ≡ sha256 (second_bytes sig)
-  unfolding second_name
-  name_bytes sig = refl
+  name_is_text : (sig : SigRecord) → name_of sig ≡ text_name (signature_bytes sig)
+  unfolding name_of signature_bytes
+  name_is_text sig = ap (λ (short : List ℕ). record { bytes = sha256 short }) (sym (short_of_whole (short_bytes (short_of sig)) (key_bytes sig.key)))
 
-  pub other_fault : (fault : MoveFault) → IsOther m.rows (second_name Made.sig) (second_bytes Made.sig) fault → IsFaultAt from move m.keys line fault
+  pub other_fault : (fault : MoveFault) → IsOther m.rows (name_of Made.sig) (signature_bytes Made.sig) fault → IsFaultAt from move m.keys line fault
   other_fault (Collision name held given) f =
-      let found : row_at (rows_of second move.book) (second_name Made.sig) ≡ Some f.0 = ap (λ (r : List EquivRow). row_at r (second_name Made.sig)) (sym going.told.rows_are) ∙ f.1 in
-      let l = row_found second move.book (second_name Made.sig) f.0 found in
-      let bytes : held ≡ second_bytes l.1.sig = f.4 ∙ ap (λ (r : EquivRow). r.sig) (sym l.3) in
-      (l.0, l.1, l.2, bytes, f.5, ap (λ (h : Hash). h.bytes) (f.3 ∙ sym l.4) ∙ name_bytes l.1.sig ∙ ap sha256 (sym bytes), ap (λ (h : Hash). h.bytes) f.3 ∙ name_bytes Made.sig ∙ ap sha256 (sym f.5), λ same. f.2 (sym f.4 ∙ same ∙ f.5))
+      let found : row_at (rows_of present move.book) (name_of Made.sig) ≡ Some f.0 = ap (λ (r : List EquivRow). row_at r (name_of Made.sig)) (sym going.told.rows_are) ∙ f.1 in
+      let l = row_found present move.book (name_of Made.sig) f.0 found in
+      let bytes : held ≡ signature_bytes l.1.sig = f.4 ∙ ap (λ (r : EquivRow). r.sig) (sym l.3) in
+      (l.0, l.1, l.2, bytes, f.5, f.3 ∙ sym l.4 ∙ name_is_text l.1.sig ∙ ap text_name (sym bytes), f.3 ∙ name_is_text Made.sig ∙ ap text_name (sym f.5), λ same. f.2 (sym f.4 ∙ same ∙ f.5))
   other_fault (KeyCollision name held given) f = absurd f
   other_fault Memory f = tt
 
 -- ---- as the code makes it
 
-module _ (from : Format) (start : Book) (move : Move) (m : MovingNow) (old : Candidate) (line : Line) (going : IsGoing from start move m) (is : IsLineOf from old line) (sig : SigRecord) (made : sig ≡ sig_by m.names.entries old.stored.sig) where
+module _ (from : Format) (start : Book) (move : Move) (m : MovingNow) (old : OldRecord) (line : Line) (going : IsGoing from start move m) (is : IsLineOf from old line) (sig : SigRecord) (made : sig ≡ sig_by m.names.entries old.stored.sig) where
   pub made_is : sig ≡ moved_sig from move.pairs line.sig
   made_is = made ∙ sig_is from start move m line old.stored going is.stored
 
@@ -270,11 +270,11 @@ module _ (from : Format) (start : Book) (move : Move) (m : MovingNow) (old : Can
       (subst (λ (g : SigRecord). Stands m.rows m.adding g old.stored.manifest unihash rows adding) made_is (stands going.rounds))
 
   pub goes_on : (rows : List EquivRow) (adding : AddingNow) (names : List (List ℕ × Hash)) (records : List MovedRecord) (name unihash : Hash) → (AreRoundsOf m.adding.added.items m.adding.rounds.entries → Stands m.rows m.adding sig old.stored.manifest unihash rows adding)
-      → name ≡ second_name sig → PutsFirst m.names.entries names old.name unihash → records ≡ m.records.items ++ record { old_name = old.name; old_unihash = old.stored.unihash; name = name; unihash = unihash } ∷ []
+      → name ≡ name_of sig → PutsFirst m.names.entries names old.name unihash → records ≡ m.records.items ++ record { old_name = old.name; old_unihash = old.stored.unihash; name = name; unihash = unihash } ∷ []
       → IsStep from start move m line going rows adding names records
   goes_on rows adding names records name unihash stands named puts told =
       stepped from start move m line going rows adding names records unihash old.name puts is.name
-      (told ∙ (λ i. m.records.items ++ record { old_name = old.name; old_unihash = (sym is.stored i).unihash; name = (named ∙ ap second_name made_is) i; unihash = unihash } ∷ []))
+      (told ∙ (λ i. m.records.items ++ record { old_name = old.name; old_unihash = (sym is.stored i).unihash; name = (named ∙ ap name_of made_is) i; unihash = unihash } ∷ []))
       (stands_made rows adding unihash stands)
 
   pub sound_made : (IsSpelled sig → IsSignature sig) → IsSpelled line.sig → IsSignature (moved_sig from move.pairs line.sig)
@@ -287,17 +287,17 @@ module _ (from : Format) (start : Book) (move : Move) (m : MovingNow) (old : Can
   key_known keys known = subst (IsKnown keys) (ap (λ (g : SigRecord). g.key) made_is) known
 
   pub clear_made : (rows : List EquivRow) (adding : AddingNow) (unihash : Hash) (keys : List (List ℕ)) → (AreRoundsOf m.adding.added.items m.adding.rounds.entries → Stands m.rows m.adding sig old.stored.manifest unihash rows adding) → KnowsKey m.keys sig.key keys → IsKnown keys sig.key
-      → (IsSpelled sig → IsSignature sig) → IsSpelled line.sig → StandWell m.keys move.book → IsClear from second move line
+      → (IsSpelled sig → IsSignature sig) → IsSpelled line.sig → StandWell m.keys move.book → IsClear from present move line
   clear_made rows adding unihash keys stands grown known sound spelled well =
       is_clear from start move m line going rows adding unihash keys (stands_made rows adding unihash stands) (key_grown keys grown) (key_known keys known) well (sound_made sound spelled)
 
   pub well_made : (rows : List EquivRow) (adding : AddingNow) (unihash : Hash) (keys : List (List ℕ)) → (AreRoundsOf m.adding.added.items m.adding.rounds.entries → Stands m.rows m.adding sig old.stored.manifest unihash rows adding) → KnowsKey m.keys sig.key keys → IsKnown keys sig.key
-      → (IsSpelled sig → IsSignature sig) → IsSpelled line.sig → StandWell m.keys move.book → StandWell keys (step from second move line).book
+      → (IsSpelled sig → IsSignature sig) → IsSpelled line.sig → StandWell m.keys move.book → StandWell keys (step from present move line).book
   well_made rows adding unihash keys stands grown known sound spelled well =
       stay_well from start move m line going rows adding unihash keys (stands_made rows adding unihash stands) (key_grown keys grown) (key_known keys known) well (sound_made sound spelled)
 
   pub key_refused : (fault : MoveFault) → IsKeyFault m.keys (key_bytes sig.key) fault → IsFaultAt from move m.keys line fault
   key_refused fault f = key_fault from start move m line going fault (subst (λ (k : Key). IsKeyFault m.keys (key_bytes k) fault) (ap (λ (g : SigRecord). g.key) made_is) f)
 
-  pub other_refused : (fault : MoveFault) → IsOther m.rows (second_name sig) (second_bytes sig) fault → IsFaultAt from move m.keys line fault
-  other_refused fault f = other_fault from start move m line going fault (subst (λ (g : SigRecord). IsOther m.rows (second_name g) (second_bytes g) fault) made_is f)
+  pub other_refused : (fault : MoveFault) → IsOther m.rows (name_of sig) (signature_bytes sig) fault → IsFaultAt from move m.keys line fault
+  other_refused fault f = other_fault from start move m line going fault (subst (λ (g : SigRecord). IsOther m.rows (name_of g) (signature_bytes g) fault) made_is f)

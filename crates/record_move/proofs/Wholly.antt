@@ -2,10 +2,9 @@
 use Rattle.std.proofs.Common.{sym, subst, [], append-nil}
 use Rattle.store_model.specs.Origins.{Book}
 use Rattle.store_move.specs.Formats.{IsValidBook}
-use Rattle.store_move.specs.Moves.{begun, moved_from}
+use Rattle.store_move.specs.Moves.{begun, moved_from, present}
 use Rattle.store_move.specs.Parts.{part}
 use Rattle.store_move.proofs.Whole.{moving_is_valid}
-use Rattle.record_move.specs.Second.{second}
 use Rattle.record_move.specs.Whole.{MoveLeavesValid, ValidAreAsAsked}
 use Rattle.record_move.proofs.Rounding.{round_is_valid}
 
@@ -19,9 +18,9 @@ valid_are_as_asked from gives reading keys book start old new sound known = reco
 pub move_leaves_valid : MoveLeavesValid
 move_leaves_valid from gives reading book start rows records added may told = record {
   whole_valid = whole;
-  stopped = λ round keep at. subst (λ (b : Book). IsValidBook second gives reading (part keep b)) (sym told.longer)
-      (round_is_valid gives reading start told.more added round keep (subst (IsValidBook second gives reading) told.longer whole) told.lines told.in_rounds at);
+  stopped = λ round keep at. subst (λ (b : Book). IsValidBook present gives reading (part keep b)) (sym told.longer)
+      (round_is_valid gives reading start told.more added round keep (subst (IsValidBook present gives reading) told.longer whole) told.lines told.in_rounds at);
 }
   where
-    whole : IsValidBook second gives reading (moved_from from second (begun start) book).book
-    whole = let good = moving_is_valid from second gives reading book start book [] may (sym (append-nil book)) in good.valid
+    whole : IsValidBook present gives reading (moved_from from present (begun start) book).book
+    whole = let good = moving_is_valid from present gives reading book start book [] may (sym (append-nil book)) in good.valid

@@ -8,7 +8,7 @@ use Rattle.store_model.specs.declared.signature.StoredSig.{StoredSig}
 use Rattle.store_model.specs.Rows.{new_unihash, row_at}
 use Rattle.record_move.specs.declared.fault.MoveFault.{MoveFault}
 use Rattle.record_move.specs.declared.fault.MoveFault.TheVariants.{Collision, KeyCollision, Memory}
-use Rattle.sig_gen.specs.Second.{second_bytes, second_name}
+use Rattle.store_model.specs.Spelling.{name_of, signature_bytes}
 use Rattle.record_move.specs.declared.adding.Adding.{Adding as AddingNow}
 use Rattle.record_move.specs.declared.records.AddedRecord.{AddedRecord}
 use Rattle.record_move.specs.Named.{value_at}
@@ -53,16 +53,16 @@ pub record AddsRecord (old : List AddedRecord) (name : Hash) (stored : StoredSig
 -- what stands for a signature: the record of its name, which is there with the same signature, and nothing changes
 pub record HasStood (rows : List EquivRow) (sig : SigRecord) (unihash : Hash) : Type 0 where
   pub row : EquivRow
-  pub found : row_at rows (second_name sig) ≡ Some row
-  pub signed : row.sig ≡ second_bytes sig
+  pub found : row_at rows (name_of sig) ≡ Some row
+  pub signed : row.sig ≡ signature_bytes sig
   pub is : unihash ≡ row.unihash
 
 -- ... or a new one
 pub record IsAdded (rows : List EquivRow) (added : List AddedRecord) (sig : SigRecord) (manifest : List ManifestLine) (unihash : Hash) (longer : List EquivRow) (more : List AddedRecord) (now : List (List ℕ × ℕ)) : Type 0 where
-  pub none : row_at rows (second_name sig) ≡ None
-  pub is : unihash ≡ new_unihash rows (second_name sig) sig.pn sig.task manifest
-  pub row : longer ≡ rows ++ made_row (second_name sig) (second_bytes sig) (made_stored rows (second_name sig) sig manifest) ∷ []
-  pub adds : AddsRecord added (second_name sig) (made_stored rows (second_name sig) sig manifest) more now
+  pub none : row_at rows (name_of sig) ≡ None
+  pub is : unihash ≡ new_unihash rows (name_of sig) sig.pn sig.task manifest
+  pub row : longer ≡ rows ++ made_row (name_of sig) (signature_bytes sig) (made_stored rows (name_of sig) sig manifest) ∷ []
+  pub adds : AddsRecord added (name_of sig) (made_stored rows (name_of sig) sig manifest) more now
 
 -- What was there has the signature's name, or it is added.
 abbrev pub Stands : List EquivRow → AddingNow → SigRecord → List ManifestLine → Hash → List EquivRow → AddingNow → Type 0

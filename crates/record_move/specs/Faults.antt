@@ -5,20 +5,19 @@ use Rattle.sha2.specs.Sha256.{sha256}
 use Rattle.tree_model.specs.declared.hash.Hash.{Hash}
 use Rattle.store_model.specs.Origins.{Book, Line}
 use Rattle.store_model.specs.Valid.{StandsIn}
-use Rattle.sig_gen.specs.Second.{key_bytes, second_bytes}
+use Rattle.store_model.specs.Spelling.{key_bytes, signature_bytes, text_name}
 use Rattle.store_move.specs.Formats.{Format}
-use Rattle.store_move.specs.Moves.{Move, begun, moved_from, moved_sig}
+use Rattle.store_move.specs.Moves.{begun, Move, moved_from, moved_sig, present}
 use Rattle.record_move.specs.declared.fault.MoveFault.{MoveFault}
 use Rattle.record_move.specs.declared.fault.MoveFault.TheVariants.{Collision, KeyCollision, Memory}
 use Rattle.record_move.specs.Known.{key_named}
-use Rattle.record_move.specs.Second.{second}
 
 -- A line of the new book has the name of the line's moved signature and another signature; or the line's key is another one than the known
 -- one of its name. Want of memory is free.
 abbrev pub IsFaultAt : Format → Move → List (List ℕ) → Line → MoveFault → Type 0
 IsFaultAt from move keys line (Collision name held given) =
-    (before : Book) × (other : Line) × StandsIn move.book before other × (held ≡ second_bytes other.sig) × (given ≡ second_bytes (moved_sig from move.pairs line.sig))
-    × (name.bytes ≡ sha256 held) × (name.bytes ≡ sha256 given) × (held ≢ given)
+    (before : Book) × (other : Line) × StandsIn move.book before other × (held ≡ signature_bytes other.sig) × (given ≡ signature_bytes (moved_sig from move.pairs line.sig))
+    × (name ≡ text_name held) × (name ≡ text_name given) × (held ≢ given)
 IsFaultAt from move keys line (KeyCollision name held given) =
     (key_named keys name ≡ Some held) × (given ≡ key_bytes line.sig.key) × (name.bytes ≡ sha256 held) × (name.bytes ≡ sha256 given) × (held ≢ given)
 IsFaultAt from move keys line Memory = Unit {0}
@@ -31,7 +30,7 @@ pub record IsMoveFault (from : Format) (start book : Book) (keys : List (List �
   pub is : book ≡ front ++ line ∷ rest
   pub known : List (List ℕ)
   pub known_of : AllByRecursion (λ key. (l : Line) × Contains front l × (key ≡ key_bytes l.sig.key)) known
-  pub cause : IsFaultAt from (moved_from from second (begun start) front) (keys ++ known) line fault
+  pub cause : IsFaultAt from (moved_from from present (begun start) front) (keys ++ known) line fault
 
 -- a key isn't added where another one is known by its name
 abbrev pub IsKeyFault : List (List ℕ) → List ℕ → MoveFault → Type 0

@@ -1,17 +1,16 @@
 -- A move that is going on.
 use Rattle.std.specs.Prelude.{◌≡◌, ℕ, List, Option, Some, None, find, length}
 use Rattle.tree_model.specs.declared.hash.Hash.{Hash}
-use Rattle.store_model.specs.declared.candidate.Candidate.{Candidate}
+use Rattle.record_move.specs.declared.records.OldRecord.{OldRecord}
 use Rattle.store_model.specs.declared.signature.EquivRow.{EquivRow}
 use Rattle.store_model.specs.Origins.{Book}
 use Rattle.store_move.specs.Formats.{Format, rows_of}
-use Rattle.store_move.specs.Moves.{AreClear, Move, Pair, begun, is_named, moved_from}
+use Rattle.store_move.specs.Moves.{AreClear, begun, is_named, Move, moved_from, Pair, present}
 use Rattle.record_move.specs.declared.moving.Moving.{Moving as MovingNow}
 use Rattle.record_move.specs.Adding.{AreFew, AreRoundsOf}
 use Rattle.record_move.specs.Moved.{AreLinesOf, AreSpelled, IsMoveOf, StandWell}
 use Rattle.record_move.specs.Known.{KnowMore}
 use Rattle.record_move.specs.Named.{value_at}
-use Rattle.record_move.specs.Second.{second}
 
 abbrev pub new_name : Option Pair → Option Hash
 new_name None = None
@@ -24,9 +23,9 @@ pub record IsGoing (from : Format) (start : Book) (move : Move) (m : MovingNow) 
   pub rounds : AreRoundsOf m.adding.added.items m.adding.rounds.entries
 
 -- How far a move has come behind these rows and known keys: the first records were moved.
-pub record IsSoFar (rows : List EquivRow) (keys : List (List ℕ)) (olds : List Candidate) (m : MovingNow) : Type 0 where
-  pub going : (from : Format) (book start : Book) → AreLinesOf from olds book → rows ≡ rows_of second start → IsGoing from start (moved_from from second (begun start) book) m
-  pub clear : (from : Format) (book start : Book) → AreLinesOf from olds book → rows ≡ rows_of second start → AreSpelled book → StandWell keys start → AreClear from second (begun start) book
-  pub well : (from : Format) (book start : Book) → AreLinesOf from olds book → rows ≡ rows_of second start → AreSpelled book → StandWell keys start → StandWell m.keys (moved_from from second (begun start) book).book
+pub record IsSoFar (rows : List EquivRow) (keys : List (List ℕ)) (olds : List OldRecord) (m : MovingNow) : Type 0 where
+  pub going : (from : Format) (book start : Book) → AreLinesOf from olds book → rows ≡ rows_of present start → IsGoing from start (moved_from from present (begun start) book) m
+  pub clear : (from : Format) (book start : Book) → AreLinesOf from olds book → rows ≡ rows_of present start → AreSpelled book → StandWell keys start → AreClear from present (begun start) book
+  pub well : (from : Format) (book start : Book) → AreLinesOf from olds book → rows ≡ rows_of present start → AreSpelled book → StandWell keys start → StandWell m.keys (moved_from from present (begun start) book).book
   pub keys_more : KnowMore keys olds m.keys
   pub few : AreFew m.adding.rounds.entries (length m.adding.added.items)

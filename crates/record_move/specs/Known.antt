@@ -4,8 +4,8 @@ use Rattle.std.specs.List.{AllByRecursion}
 use Rattle.sha2.specs.Sha256.{sha256}
 use Rattle.tree_model.specs.declared.hash.Hash.{Hash}
 use Rattle.meta_model.specs.declared.value.Key.{Key}
-use Rattle.sig_gen.specs.Second.{key_bytes, key_name}
-use Rattle.store_model.specs.declared.candidate.Candidate.{Candidate}
+use Rattle.store_model.specs.Spelling.{key_bytes, key_name}
+use Rattle.record_move.specs.declared.records.OldRecord.{OldRecord}
 use Rattle.store_model.specs.Origins.{Book, Line}
 use Rattle.store_model.specs.Valid.{StandsIn}
 
@@ -25,10 +25,10 @@ abbrev pub AreKnown : List (List ℕ) → Book → Type 0
 AreKnown keys book = (before : Book) (line : Line) → StandsIn book before line → IsKnown keys line.sig.key
 
 -- More keys are known behind these, each that of an old record.
-pub record KnowMore (old : List (List ℕ)) (olds : List Candidate) (new : List (List ℕ)) : Type 0 where
+pub record KnowMore (old : List (List ℕ)) (olds : List OldRecord) (new : List (List ℕ)) : Type 0 where
   pub more : List (List ℕ)
   pub is : new ≡ old ++ more
-  pub each : AllByRecursion (λ key. (c : Candidate) × Contains olds c × (key ≡ key_bytes c.stored.sig.key)) more
+  pub each : AllByRecursion (λ key. (c : OldRecord) × Contains olds c × (key ≡ key_bytes c.stored.sig.key)) more
 
 -- each key stands under its SHA-256
 abbrev pub AreNamed : List (List ℕ × List ℕ) → Type 0

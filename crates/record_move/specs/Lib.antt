@@ -1,4 +1,3 @@
-pub mod Second
 pub mod Named
 pub mod Known
 pub mod Rounds

@@ -9,11 +9,11 @@ use Rattle.store_model.specs.declared.signature.StoredSig.{StoredSig}
 use Rattle.store_model.specs.Rows.{hash_eq}
 use Rattle.store_model.specs.Origins.{Book, Line, Reading}
 use Rattle.store_model.specs.Valid.{StandsIn, stored_of}
-use Rattle.sig_gen.specs.Second.{second_name}
+use Rattle.store_model.specs.Spelling.{name_of}
 use Rattle.store_move.specs.Formats.{IsValidBook}
 use Rattle.store_move.specs.Parts.{IsClosed, part}
 use Rattle.record_move.specs.declared.records.AddedRecord.{AddedRecord}
-use Rattle.record_move.specs.Second.{second}
+use Rattle.store_move.specs.Moves.{present}
 
 abbrev pub round_in : Option AddedRecord → Option ℕ
 round_in None = None
@@ -37,7 +37,7 @@ AreRounds added = (before rest : List AddedRecord) (a : AddedRecord) → added �
 
 -- the added record is that of the line
 pub record IsAddedAs (line : Line) (a : AddedRecord) : Type 0 where
-  pub name : a.name ≡ second_name line.sig
+  pub name : a.name ≡ name_of line.sig
   pub stored : a.stored ≡ stored_of line
 
 -- ---- what a crash leaves in a round
@@ -50,13 +50,13 @@ pub record IsInRound (start more : Book) (added : List AddedRecord) (round : ℕ
 
 -- Whatever of a round was put, the lines that are there are a valid book.
 abbrev pub RoundIsValid : Type 0
-RoundIsValid = (gives : Gives) (reading : Reading) (start more : Book) (added : List AddedRecord) (round : ℕ) (keep : Line → Bool) → IsValidBook second gives reading (start ++ more) → AllZip IsAddedAs more added → AreRounds added →
-    IsInRound start more added round keep → IsValidBook second gives reading (part keep (start ++ more))
+RoundIsValid = (gives : Gives) (reading : Reading) (start more : Book) (added : List AddedRecord) (round : ℕ) (keep : Line → Bool) → IsValidBook present gives reading (start ++ more) → AllZip IsAddedAs more added → AreRounds added →
+    IsInRound start more added round keep → IsValidBook present gives reading (part keep (start ++ more))
 
 -- ---- lines that go in rounds, the last round first
 
 -- Lines go whose rounds are told of the whole book: those of all later rounds are gone, any of this one, and none of an earlier one; others stay, with
 -- all that these name. What is left is a valid book.
 abbrev pub RemovalIsValid : Type 0
-RemovalIsValid = (gives : Gives) (reading : Reading) (book : Book) (added : List AddedRecord) (round : ℕ) (stay keep : Line → Bool) → IsValidBook second gives reading book → AllZip IsAddedAs book added → AreRounds added →
-    IsClosed second stay book → IsInRound [] book added round keep → IsValidBook second gives reading (part (λ line. stay line || keep line) book)
+RemovalIsValid = (gives : Gives) (reading : Reading) (book : Book) (added : List AddedRecord) (round : ℕ) (stay keep : Line → Bool) → IsValidBook present gives reading book → AllZip IsAddedAs book added → AreRounds added →
+    IsClosed present stay book → IsInRound [] book added round keep → IsValidBook present gives reading (part (λ line. stay line || keep line) book)

@@ -10,14 +10,14 @@ use crate::rounds::round_of_record;
 use hash_equiv::{Index, copy_manifest};
 use indexmap::IndexMap;
 use std::alloc::Global;
-use store_model::{EquivRow, SigRecord, StoredSig};
-use tree_model::{Bytes, Hash, Manifest, Mem};
+use store_model::{EquivRow, SigRecord, SigText, StoredSig};
+use tree_model::{Hash, Manifest, Mem};
 
 /// A signature of a name that another one has.
-fn collision(alloc: Global, name: &Hash, held: &Bytes, given: &[u8]) -> MoveFault
+fn collision(name: &Hash, held: &SigText, given: &SigText) -> MoveFault
     ensures { IsFaultOf name.now held.now given.now result }
 {
-    match (held.copy(), Bytes::from_slice(alloc, given)) {
+    match (held.copy(), given.copy()) {
         (Ok(held), Ok(given)) => MoveFault::Collision {
             name: *name,
             held,
@@ -28,19 +28,14 @@ fn collision(alloc: Global, name: &Hash, held: &Bytes, given: &[u8]) -> MoveFaul
 }
 
 /// The unihash of the record of a name, where one stands. One of another signature is a collision.
-pub(crate) fn standing(
-    alloc: Global,
-    rows: &Index,
-    name: &Hash,
-    sig: &[u8],
-) -> Result<Option<Hash>, MoveFault>
+pub(crate) fn standing(rows: &Index, name: &Hash, sig: &SigText) -> Result<Option<Hash>, MoveFault>
     ensures ok { IfOk result (IsStanding rows.now name.now sig.now) }
     ensures err { IfErr result (IsOther rows.now name.now sig.now) }
 {
     match rows.row(name) {
         None => Ok(None),
-        Some(row) if row.sig.as_slice() == sig => Ok(Some(row.unihash)),
-        Some(row) => Err(collision(alloc, name, &row.sig, sig)),
+        Some(row) if row.sig.is_same(sig) => Ok(Some(row.unihash)),
+        Some(row) => Err(collision(name, &row.sig, sig)),
     }
 }
 
@@ -59,17 +54,17 @@ fn add_row(
     alloc: Global,
     rows: &mut Index,
     name: &Hash,
-    bytes: Bytes,
+    text: SigText,
     stored: &StoredSig,
 ) -> Result<(), Mem>
     requires { row_at rows.old name.now ≡ None }
-    ensures { OnOk result (rows.new ≡ rows.old ++ made_row name.now bytes stored.now ∷ []) }
+    ensures { OnOk result (rows.new ≡ rows.old ++ made_row name.now text stored.now ∷ []) }
 {
     let row = EquivRow {
         name: *name,
         pn: stored.sig.pn.copy()?,
         task: stored.sig.task.copy()?,
-        sig: bytes,
+        sig: text,
         manifest: copy_manifest(alloc, &stored.manifest)?,
         unihash: stored.unihash,
     };
@@ -109,14 +104,14 @@ pub(crate) fn add(
     rows: &mut Index,
     adding: &mut Adding,
     name: Hash,
-    bytes: Bytes,
+    text: SigText,
     sig: SigRecord,
     manifest: Manifest,
 ) -> Result<Hash, Mem>
     requires none { row_at rows.old name ≡ None }
     requires few { AreFew adding.old.rounds.entries (length adding.old.added.items) }
     ensures unihash { IfOk result (λ unihash. unihash ≡ new_unihash rows.old name sig.pn sig.task manifest) }
-    ensures rows { IfOk result (λ unihash. rows.new ≡ rows.old ++ made_row name bytes (made_stored rows.old name sig manifest) ∷ []) }
+    ensures rows { IfOk result (λ unihash. rows.new ≡ rows.old ++ made_row name text (made_stored rows.old name sig manifest) ∷ []) }
     ensures adds { OnOk result (AreRoundsOf adding.old.added.items adding.old.rounds.entries
         → AddsRecord adding.old.added.items name (made_stored rows.old name sig manifest) adding.new.added.items
         adding.new.rounds.entries) }
@@ -128,7 +123,7 @@ pub(crate) fn add(
         manifest,
         unihash,
     };
-    add_row(alloc, rows, &name, bytes, &stored)?;
+    add_row(alloc, rows, &name, text, &stored)?;
     put_record(adding, name, stored)?;
     Ok(unihash)
 }

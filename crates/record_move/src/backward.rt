@@ -3,16 +3,17 @@ ghost use Rattle.std.specs.Prelude.{◌≡◌, ◌||◌, IfOk, OnOk, List, lengt
 ghost use Rattle.std.specs.List.{list_any};
 ghost use Rattle.std.specs.Option.{is_some};
 ghost use Rattle.tree_model.specs.declared.hash.Hash.{Hash as AHash};
-ghost use Rattle.store_model.specs.declared.candidate.Candidate.{Candidate as ACandidate};
+ghost use Rattle.record_move.specs.declared.records.OldRecord.{OldRecord as AnOldRecord};
 ghost use Rattle.store_model.specs.declared.signature.DepLine.{DepLine as Dep};
 ghost use Rattle.store_model.specs.Rows.{hash_eq};
 ghost use Rattle.record_move.specs.Named.{value_at};
 ghost use Rattle.record_move.specs.Wanted.{IsWanting, is_named, names, wanted_of};
 
+use crate::records::OldRecord;
 use crate::renaming::{put_first, value_of};
 use indexmap::IndexMap;
 use std::alloc::Global;
-use store_model::{Candidate, DepLine, StoredSig};
+use store_model::{DepLine, StoredSig};
 use tree_model::{Hash, Mem};
 
 /// Notes the names of needed tasks.
@@ -38,7 +39,7 @@ fn note_names(noted: &mut IndexMap<[u8; 32], bool>, stored: &StoredSig) -> Resul
 /// The wanted ones, from the last to the first, and the names that they have.
 #[derive(Drop)]
 struct Wanting {
-    found: Vec<Candidate>,
+    found: Vec<OldRecord>,
     noted: IndexMap<[u8; 32], bool>,
 }
 
@@ -50,8 +51,8 @@ fn is_wanted(noted: &IndexMap<[u8; 32], bool>, name: &Hash, asked: bool) -> bool
 }
 
 /// Takes a record where it is asked for, or named.
-fn take(wanting: &mut Wanting, old: Candidate, asked: bool) -> Result<(), Mem>
-    ensures { OnOk result ((records : List ACandidate) → IsWanting records wanting.old
+fn take(wanting: &mut Wanting, old: OldRecord, asked: bool) -> Result<(), Mem>
+    ensures { OnOk result ((records : List AnOldRecord) → IsWanting records wanting.old
         → IsWanting (if asked || is_named old.name records then old ∷ records else records) wanting.new) }
 {
     let is_taken = is_wanted(&wanting.noted, &old.name, asked);
@@ -66,7 +67,7 @@ fn take(wanting: &mut Wanting, old: Candidate, asked: bool) -> Result<(), Mem>
 /// The records that are wanted of another store, in their order: those that are asked for, and those that wanted ones name, as needed tasks or by
 /// their unihash. `asked` says of each record whether it is asked for. Each record stands behind those that it names, so one pass from the last to the
 /// first finds them all.
-pub fn wanted(alloc: Global, olds: Vec<Candidate>, asked: &[bool]) -> Result<Vec<Candidate>, Mem>
+pub fn wanted(alloc: Global, olds: Vec<OldRecord>, asked: &[bool]) -> Result<Vec<OldRecord>, Mem>
     requires { length asked.now ≡ length olds.items }
     ensures { IfOk result (λ made. made.items ≡ wanted_of asked.now olds.items) }
 {

@@ -1,18 +1,19 @@
 // Why a move is refused.
 
+use store_model::SigText;
 use tree_model::{Bytes, Hash, Mem};
 
 /// Why records aren't moved. Nothing was written by then.
 #[derive(Debug, Drop)]
 pub enum MoveFault {
-    /// Two different signatures have one name, which is the digest of both.
+    /// Two different signatures have one name, which is the digest of the short texts of both.
     Collision {
         /// The name.
         name: Hash,
-        /// The bytes of the signature that has it in the new format.
-        held: Bytes,
-        /// Those of the one that was to be moved.
-        given: Bytes,
+        /// The whole text of the signature that has it in the new format.
+        held: SigText,
+        /// That of the one that was to be moved.
+        given: SigText,
     },
     /// Two different keys have one name, which is the digest of both.
     KeyCollision {

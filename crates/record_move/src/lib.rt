@@ -1,8 +1,8 @@
-//! Records that come to the second format, worked out in memory: those of the first format when a store is moved, and those of another store, as a
-//! mirror is, which has the second format already. Nothing is read or written here.
+//! Records that come to the format that a store writes, worked out in memory: those of the first format when a store is moved, and those of another
+//! store, as a mirror is, which has the present format already. Nothing is read or written here.
 //!
-//! Given are records that are believed, each behind those that it names, and what stands in the store already, in the second format: its rows
-//! (`hash_equiv`; their signatures are bytes of the second format) and the keys that are known (`KnownKeys`, seen as the list of their bytes).
+//! Given are records that are believed, each behind those that it names, and what stands in the store already, in the present format: its rows
+//! (`hash_equiv`) and the keys that are known (`KnownKeys`, seen as the list of their bytes).
 //! `move_records` tells
 //!
 //! - of each record the name and the unihash of the one that stands for it: its stamp is to say that name, its object belongs under that unihash;
@@ -39,4 +39,4 @@ pub use fault::MoveFault;
 pub use keys::KnownKeys;
 pub use laws::{moves_are_valid, rounds_are_valid, wanted_is_valid};
 pub use moving::{Moved, move_records};
-pub use records::{AddedRecord, MovedRecord};
+pub use records::{AddedRecord, MovedRecord, OldRecord};

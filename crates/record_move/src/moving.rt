@@ -2,12 +2,11 @@
 ghost use Rattle.std.specs.Prelude.{◌≡◌, ◌++◌, ◌∷◌, [], All, IfErr, IfOk, List, OnOk, length, map};
 ghost use Rattle.store_model.specs.Origins.{Book, Line};
 ghost use Rattle.store_move.specs.Formats.{Format, rows_of};
-ghost use Rattle.store_move.specs.Moves.{AreClear, IsClear, Move, begun, moved_from, step};
+ghost use Rattle.store_move.specs.Moves.{AreClear, begun, IsClear, Move, moved_from, present, step};
 ghost use Rattle.store_model.specs.Sound.{IsSignature};
 ghost use Rattle.store_model.specs.Spelled.{IsSpelled};
-ghost use Rattle.sig_gen.specs.Second.{key_bytes, second_bytes, second_name};
+ghost use Rattle.store_model.specs.Spelling.{key_bytes, name_of, signature_bytes};
 ghost use Rattle.record_move.specs.Adding.{AreFew, AreRoundsOf, IsOther, Stands};
-ghost use Rattle.record_move.specs.Second.{second};
 ghost use Rattle.record_move.specs.Named.{PutsFirst};
 ghost use Rattle.record_move.specs.Known.{IsKnown, KnowMore, KnowsKey};
 ghost use Rattle.record_move.specs.Faults.{IsFaultAt, IsKeyFault, IsMoveFault};
@@ -17,13 +16,13 @@ ghost use Rattle.record_move.specs.Moved.{AreLinesOf, AreSpelled, IsLineOf, IsMo
 use crate::adding::{Adding, add, standing};
 use crate::fault::MoveFault;
 use crate::keys::KnownKeys;
-use crate::records::{AddedRecord, MovedRecord};
+use crate::records::{AddedRecord, MovedRecord, OldRecord};
 use crate::renaming::{put_first, renamed_sig};
 use hash_equiv::Index;
 use indexmap::IndexMap;
-use sig_gen::{encode_key, encode_second};
+use sig_gen::{encode, encode_key, name_by};
 use std::alloc::Global;
-use store_model::{Candidate, SigRecord, StoredSig};
+use store_model::{SigRecord, StoredSig};
 use tree_model::{Bytes, Hash, Manifest, Mem};
 
 /// What a move has made so far.
@@ -74,19 +73,19 @@ fn stand_for(
     manifest: Manifest,
 ) -> Result<Standing, MoveFault>
     requires { AreFew adding.old.rounds.entries (length adding.old.added.items) }
-    ensures name { IfOk result (λ stands. stands.name ≡ second_name sig) }
+    ensures name { IfOk result (λ stands. stands.name ≡ name_of sig) }
     ensures stands { IfOk result (λ stands. AreRoundsOf adding.old.added.items adding.old.rounds.entries
         → Stands rows.old adding.old sig manifest stands.unihash rows.new adding.new) }
     ensures few { OnOk result (AreFew adding.new.rounds.entries (length adding.new.added.items)) }
     ensures sound { OnOk result (IsSpelled sig → IsSignature sig) }
-    ensures err { IfErr result (IsOther rows.old (second_name sig) (second_bytes sig)) }
+    ensures err { IfErr result (IsOther rows.old (name_of sig) (signature_bytes sig)) }
 {
-    let bytes = encode_second(alloc, &sig)?;
-    let name = Hash::of(bytes.as_slice());
-    match standing(alloc, rows, &name, bytes.as_slice())? {
+    let text = encode(alloc, &sig)?;
+    let name = name_by(&text);
+    match standing(rows, &name, &text)? {
         Some(unihash) => Ok(Standing { name, unihash }),
         None => {
-            let unihash = add(alloc, rows, adding, name, bytes, sig, manifest)?;
+            let unihash = add(alloc, rows, adding, name, text, sig, manifest)?;
             Ok(Standing { name, unihash })
         }
     }
@@ -107,21 +106,21 @@ fn note(
 }
 
 /// Moves one record behind those that it names.
-fn move_one(alloc: Global, moving: &mut Moving, old: Candidate) -> Result<(), MoveFault>
+fn move_one(alloc: Global, moving: &mut Moving, old: OldRecord) -> Result<(), MoveFault>
     requires { AreFew moving.old.adding.rounds.entries (length moving.old.adding.added.items) }
     ensures few { OnOk result (AreFew moving.new.adding.rounds.entries (length moving.new.adding.added.items)) }
     ensures going { OnOk result ((from : Format) (start : Book) (move : Move) (line : Line) → IsGoing from start move moving.old → IsLineOf from old line
-        → IsGoing from start (step from second move line) moving.new) }
+        → IsGoing from start (step from present move line) moving.new) }
     ensures clear { OnOk result ((from : Format) (start : Book) (move : Move) (line : Line) → IsGoing from start move moving.old → IsLineOf from old line
-        → IsSpelled line.sig → StandWell moving.old.keys move.book → IsClear from second move line) }
+        → IsSpelled line.sig → StandWell moving.old.keys move.book → IsClear from present move line) }
     ensures well { OnOk result ((from : Format) (start : Book) (move : Move) (line : Line) → IsGoing from start move moving.old → IsLineOf from old line
         → IsSpelled line.sig → StandWell moving.old.keys move.book
-        → StandWell moving.new.keys (step from second move line).book) }
+        → StandWell moving.new.keys (step from present move line).book) }
     ensures keys { OnOk result (KnowsKey moving.old.keys old.stored.sig.key moving.new.keys) }
     ensures err { IfErr result (λ fault. (from : Format) (start : Book) (move : Move) (line : Line) → IsGoing from start move moving.old
         → IsLineOf from old line → IsFaultAt from move moving.old.keys line fault) }
 {
-    let Candidate {
+    let OldRecord {
         name: old_name,
         stored,
     } = old;
@@ -143,7 +142,7 @@ fn move_one(alloc: Global, moving: &mut Moving, old: Candidate) -> Result<(), Mo
     Ok(())
 }
 
-/// Moves records, each of which stands behind those that it names, behind what stands in the second format: by its rows and the known keys. Each
+/// Moves records, each of which stands behind those that it names, behind what stands in the present format: by its rows and the known keys. Each
 /// gets its needed tasks by the unihashes of the records that stand for those that it named (own rule), and the unihash of a new record; one whose new
 /// name stands already with the same signature counts as that record, and none is added for it. The records may have either format, or any: the names
 /// alone that they have in theirs are used.
@@ -151,22 +150,22 @@ fn move_one(alloc: Global, moving: &mut Moving, old: Candidate) -> Result<(), Mo
 /// `Collision` comes where two different signatures have one name, `KeyCollision` where two different keys have one. What was given is let go then.
 pub fn move_records(
     alloc: Global,
-    olds: Vec<Candidate>,
+    olds: Vec<OldRecord>,
     rows: Index,
     keys: KnownKeys,
 ) -> Result<Moved, MoveFault>
     // the rows, what became of each old record, and what is added, with its rounds: those of the move, whatever book has these records
-    ensures moved { IfOk result (λ made. (from : Format) (book start : Book) → AreLinesOf from olds.items book → rows ≡ rows_of second start
-        → IsMoveOf from start (moved_from from second (begun start) book) made.rows made.records.items made.added.items) }
+    ensures moved { IfOk result (λ made. (from : Format) (book start : Book) → AreLinesOf from olds.items book → rows ≡ rows_of present start
+        → IsMoveOf from start (moved_from from present (begun start) book) made.rows made.records.items made.added.items) }
     // the move met no collision
-    ensures clear { IfOk result (λ made. (from : Format) (book start : Book) → AreLinesOf from olds.items book → rows ≡ rows_of second start
-        → AreSpelled book → StandWell keys start → AreClear from second (begun start) book) }
+    ensures clear { IfOk result (λ made. (from : Format) (book start : Book) → AreLinesOf from olds.items book → rows ≡ rows_of present start
+        → AreSpelled book → StandWell keys start → AreClear from present (begun start) book) }
     // its whole book stands well with the keys that are known then
-    ensures well { IfOk result (λ made. (from : Format) (book start : Book) → AreLinesOf from olds.items book → rows ≡ rows_of second start
+    ensures well { IfOk result (λ made. (from : Format) (book start : Book) → AreLinesOf from olds.items book → rows ≡ rows_of present start
         → AreSpelled book → StandWell keys start
-        → StandWell made.keys (moved_from from second (begun start) book).book) }
+        → StandWell made.keys (moved_from from present (begun start) book).book) }
     ensures keys { IfOk result (λ made. KnowMore keys olds.items made.keys) }
-    ensures err { IfErr result (λ fault. (from : Format) (book start : Book) → AreLinesOf from olds.items book → rows ≡ rows_of second start
+    ensures err { IfErr result (λ fault. (from : Format) (book start : Book) → AreLinesOf from olds.items book → rows ≡ rows_of present start
         → IsMoveFault from start book keys fault) }
 {
     let mut moving = Moving {

@@ -3,6 +3,15 @@
 use store_model::StoredSig;
 use tree_model::Hash;
 
+/// A record that is to be moved, of whichever format: it is believed there.
+#[derive(Debug, Drop)]
+pub struct OldRecord {
+    /// The name that it has in its format.
+    pub name: Hash,
+    /// What is stored under it.
+    pub stored: StoredSig,
+}
+
 /// A record that is moved, and the one that stands for it.
 #[derive(Clone, Copy, Debug)]
 pub struct MovedRecord {

@@ -154,7 +154,7 @@ MayPublish gives book held plan options tale s restored t = MayTouch gives book 
 -- of the book's lines of it; the object of each line of the book, unless a task of the line's PN and name was published with the line's unihash;
 -- and, be it of a task of the plan or not, each path that opening the store leaves alone, that isn't under `tmp/`, that is neither the stamp nor
 -- at or under the work folder of a task which the run may have touched, nor above that folder, unless nothing was held there, and, where the run
--- may have published one, not at or under `rec` or `obj`, unless it is `obj` and nothing was held there. (What is under `rec` there, `IsCrash`
+-- may have published one, not at or under `rec2`, `key` or `obj`, unless it is `obj` and nothing was held there. (What is under `rec2` there, `IsCrash`
 -- says.) The lines of the book have some order.
 pub record LeavesOthers (gives : Gives) (book : Book) (held : Store) (plan : Plan) (options : Options) (tale : List Logged) (s : Status) (story : Story) : Type 0 where
   pub again : Book
@@ -212,7 +212,7 @@ DiffersOver plan rows (status.Collision name held given) = IsClashOf plan rows n
 DiffersOver plan rows (status.Unsteady pn task held given) = IsUnsteadyOf plan rows pn task held given
 DiffersOver plan rows _ = Unit {0}
 
--- *What is held differs from what was given*: the status says so over rows whose records are all held under `rec/`, each by its name, whatever
+-- *What is held differs from what was given*: the status says so over rows whose records are all held under `rec2/`, each by its name, whatever
 -- a crash now leaves. So the one of the two is that of a stored record, and the other is of a task of the plan.
 pub record TellsDifference (tells : Type 0) (plan : Plan) (story : Story) (s : Status) : Type 0 where
   pub rows : List EquivRow

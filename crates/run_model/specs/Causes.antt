@@ -1,5 +1,5 @@
 -- Two that differ, for which a run ends with a fault, and tasks that a fault broke off.
-use Rattle.std.specs.Prelude.{◌≡◌, ◌≢◌, ℕ, Bool, true, false, List, Some}
+use Rattle.std.specs.Prelude.{◌≡◌, ◌≢◌, ◌⊎◌, ℕ, Bool, true, false, List, Some}
 use Rattle.std.specs.List.{list_any, slice_get}
 use Rattle.sha2.specs.Sha256.{sha256}
 use Rattle.tree_model.specs.Manifest.{manifest_lines}
@@ -12,21 +12,19 @@ use Rattle.meta_model.specs.declared.event.Event.TheVariants as events
 use Rattle.meta_model.specs.declared.event.Logged.{Logged}
 use Rattle.meta_model.specs.declared.plan.Plan.{Plan}
 use Rattle.store_model.specs.declared.signature.EquivRow.{EquivRow}
+use Rattle.store_model.specs.Clashes.{AreToldApart}
 use Rattle.store_model.specs.Rows.{row_at}
 use Rattle.store_model.specs.Signatures.{Signed, signatures}
-use Rattle.store_model.specs.Spelling.{name_of, signature_bytes}
+use Rattle.store_model.specs.Spelling.{key_bytes, name_of, signature_bytes}
 
--- Two signatures that differ have one digest, which is the name: over the rows the row of the name has the one, and the other one is that of
--- a task of the plan, whose name it is.
+-- Two byte strings that differ have one digest, which is the name: over the rows the row of the name of a task of the plan and that task's signature
+-- are told apart by them; or the one that was given is the key of a task of the plan.
 pub record IsClashOf (plan : Plan) (rows : List EquivRow) (name : Hash) (held given : List ℕ) : Type 0 where
-  pub row : EquivRow
-  pub is_row : row_at rows name ≡ Some row
-  pub held_is : held ≡ row.sig
   pub number : ℕ
   pub signed : Signed
   pub is_signed : slice_get (signatures rows plan.tasks) number ≡ Some signed
-  pub given_is : given ≡ signature_bytes signed.sig
-  pub name_is : name ≡ name_of signed.sig
+  pub meet : ((row : EquivRow) × (row_at rows (name_of signed.sig) ≡ Some row) × AreToldApart row.sig (signature_bytes signed.sig) (name_of signed.sig) name held given)
+      ⊎ (given ≡ key_bytes signed.sig.key)
   pub differ : held ≢ given
   pub held_name : sha256 held ≡ name.bytes
   pub given_name : sha256 given ≡ name.bytes

@@ -22,12 +22,12 @@ use Rattle.run_model.specs.CleanOutputs.{Has}
 abbrev pub IsOfFolder : PlanTask → List ℕ → Type 0
 IsOfFolder task q = IsAtOrBelow (work_folder task) q ⊎ (q ≡ stamp_path task)
 
--- the path is at or under `rec` or `obj`, where records and objects are
+-- the path is at or under `rec2`, `key` or `obj`, where records, keys and objects are
 abbrev pub IsShared : List ℕ → Type 0
-IsShared q = IsAtOrBelow (codes "rec") q ⊎ IsAtOrBelow (codes "obj") q
+IsShared q = IsAtOrBelow (codes "rec2") q ⊎ (IsAtOrBelow (codes "key") q ⊎ IsAtOrBelow (codes "obj") q)
 
 -- The path isn't under `tmp/`; it isn't at or under the work folder of a task of the plan that was touched, nor its stamp, nor is it above that
--- folder, unless nothing was held there; and where one was published it isn't one at which records and objects are, unless it is `obj` and
+-- folder, unless nothing was held there; and where one was published it isn't one at which records, keys and objects are, unless it is `obj` and
 -- nothing was held there.
 pub record IsAside (held : Store) (plan : Plan) (touched published : ℕ → Type 0) (q : List ℕ) : Type 0 where
   pub temporary : IsBelow (codes "tmp") q → ⊥

@@ -1,12 +1,10 @@
 -- What a store answers now of the tasks of a plan is what was so when the run began.
 use Rattle.std.proofs.Common.{◌≡◌, ◌≢◌, ◌∙◌, sym, ap, subst, refl, ℕ, Bool, List, [], ◌∷◌, ◌++◌, get_or, Option, Some, None, slice_get, inl, inr}
 use Rattle.std.specs.Prelude.{◌⊎◌, All, IsSome, codes}
-use Rattle.std.specs.List.{AllByRecursion}
 use Rattle.std.specs.Option.{is_some}
 use Rattle.std.proofs.lemmas.Option.{none-some, same_Some, slice_get-get_or, slice_get_within}
 use Rattle.tree_model.specs.declared.entry.Entry.{Entry}
 use Rattle.tree_model.specs.declared.hash.Hash.{Hash}
-use Rattle.tree_model.specs.Hash.{hash_text}
 use Rattle.tree_model.specs.Manifest.{manifest_lines}
 use Rattle.tree_model.specs.Tree.{entry_at}
 use Rattle.tree_model.specs.Path.{IsAtOrBelow, IsBelow, inside}
@@ -33,10 +31,8 @@ use Rattle.store_model.specs.Signatures.{Signed, signatures}
 use Rattle.store_model.specs.Spelling.{name_of, signature_bytes}
 use Rattle.store_model.specs.OneSpelling.{SignatureFits}
 use Rattle.store_model.specs.Publication.{stamp_at, work_at}
-use Rattle.store_model.specs.Readable.{IsReadable}
-use Rattle.store_model.specs.Valid.{IsValidBook, StandsIn, stored_of}
-use Rattle.store_model.proofs.Ordered.{each_middle}
-use Rattle.store_opening.proofs.SameLines.{entry_there}
+use Rattle.store_model.specs.Valid.{IsValidBook, StandsIn}
+use Rattle.store_opening.proofs.Reopened.{candidate_of, line_file}
 use Rattle.build_store.proofs.Apart.{below_again}
 use Rattle.store_model.proofs.Standing.{row_found, stands_behind}
 use Rattle.store_model.specs.Lines.{HasLine}
@@ -173,13 +169,7 @@ first_there x more = let t = text_itself x.0 in rw t refl
 -- opening has made way for the folder of a line that has no output, where its task has a stamp
 way_of : (o : Opening) (plan : Plan) → MayRun o plan → (line : Line) → HasLine o.book line → line.manifest ≡ [] → IsSome (o.story.held (stamp_at (inside line.sig.pn line.sig.task))) → (o.story.held (codes "work") ≡ None) × (o.story.held (work_at line.sig.pn) ≡ None)
 way_of o plan may line has empty stamped =
-    let read = each_middle IsReadable has.0 line has.1.rest (subst (λ (b : Book). AllByRecursion IsReadable b) has.1.is may.readable) in
-    may.way.stamps (record { name = name_of line.sig; stored = stored_of line }) (record {
-      file = may.valid.records (hash_text (name_of line.sig)) ∙ entry_there o.gives o.reading o.book has.0 line may.valid.lines has.1;
-      name = refl;
-      spelled = read.spelled;
-      short = read.short;
-    }) empty stamped
+    may.way.stamps (candidate_of line) (line_file o.gives o.reading o.story.held o.book may.valid may.readable has.0 line has.1) empty stamped
 
 -- nothing is held above the work folder of a task
 above_open : (held : Store) (task : PlanTask) → HasPlace task → held (codes "work") ≡ None → held (inside (codes "work") task.id.pn) ≡ None → (q : List ℕ) → IsBelow q (work_folder task) → held q ≡ None

@@ -15,7 +15,8 @@ use Rattle.store_model.specs.Premises.{Differ}
 use Rattle.build_store.specs.Laws.{KeepsObject}
 use Rattle.store_model.specs.Lines.{KeepsWork}
 use Rattle.store_opening.specs.Paths.{HasPlace}
-use Rattle.store_model.specs.Paths.{record_path, slashes}
+use Rattle.store_model.specs.Paths.{key_path, record_path}
+use Rattle.outside_traits.specs.Store.{slashes}
 use Rattle.build_store.specs.Publication.{IsForeign, IsUntouched, Publishes, KeepsOthers}
 use Rattle.store_model.specs.Publication.{Publication, stamp_at, work_at}
 use Rattle.store_opening.proofs.Areas.{apart_by_first, differ, heads_differ}
@@ -52,13 +53,14 @@ above_top top folder q a below = by (above_under top folder q below)
 
 -- ---- paths that a publication doesn't touch
 
-foreign_record : (p : Publication) (path : List ℕ) → (p.is_new ≡ true → inside (codes "rec") path ≢ record_path p.name) → IsForeign p (inside (codes "rec") path)
+foreign_record : (p : Publication) (path : List ℕ) → (p.is_new ≡ true → inside (codes "rec2") path ≢ record_path p.name) → IsForeign p (inside (codes "rec2") path)
 foreign_record p path other = record {
   temporary = λ below. heads_differ (differ 114 116 refl) below.1;
-  work = apart_by_first (101 ∷ 99 ∷ 47 ∷ path) (111 ∷ 114 ∷ 107 ∷ 47 ∷ p.folder) (differ 114 119 refl);
-  stamp = apart_by_first (101 ∷ 99 ∷ 47 ∷ path) (116 ∷ 97 ∷ 109 ∷ 112 ∷ 47 ∷ p.folder) (differ 114 115 refl);
+  work = apart_by_first (101 ∷ 99 ∷ 50 ∷ 47 ∷ path) (111 ∷ 114 ∷ 107 ∷ 47 ∷ p.folder) (differ 114 119 refl);
+  stamp = apart_by_first (101 ∷ 99 ∷ 50 ∷ 47 ∷ path) (116 ∷ 97 ∷ 109 ∷ 112 ∷ 47 ∷ p.folder) (differ 114 115 refl);
   stored = other;
-  shared = λ unihash is. apart_by_first (101 ∷ 99 ∷ 47 ∷ path) (98 ∷ 106 ∷ 47 ∷ hash_text unihash) (differ 114 111 refl);
+  key = λ new. heads_differ (differ 114 107 refl);
+  shared = λ unihash is. apart_by_first (101 ∷ 99 ∷ 50 ∷ 47 ∷ path) (98 ∷ 106 ∷ 47 ∷ hash_text unihash) (differ 114 111 refl);
 }
 
 foreign_work : (p : Publication) (ps : List ℕ) → IsApart (work_at p.folder) (119 ∷ ps) → IsForeign p (119 ∷ ps)
@@ -67,6 +69,7 @@ foreign_work p ps apart = record {
   work = apart;
   stamp = apart_by_first ps (116 ∷ 97 ∷ 109 ∷ 112 ∷ 47 ∷ p.folder) (differ 119 115 refl);
   stored = λ new. heads_differ (differ 119 114 refl);
+  key = λ new. heads_differ (differ 119 107 refl);
   shared = λ unihash is. apart_by_first ps (98 ∷ 106 ∷ 47 ∷ hash_text unihash) (differ 119 111 refl);
 }
 
@@ -77,6 +80,7 @@ foreign_objects p ps none = record {
   work = apart_by_first ps (111 ∷ 114 ∷ 107 ∷ 47 ∷ p.folder) (differ 111 119 refl);
   stamp = apart_by_first ps (116 ∷ 97 ∷ 109 ∷ 112 ∷ 47 ∷ p.folder) (differ 111 115 refl);
   stored = λ new. heads_differ (differ 111 114 refl);
+  key = λ new. heads_differ (differ 111 107 refl);
   shared = λ unihash is. absurd (let n : None ≡ Some unihash = sym none ∙ is in cc);
 }
 
@@ -184,8 +188,8 @@ folders_on p first held earlier new task place folder keeps h e = record {
 -- What a publication leaves of a path that isn't under `tmp/`, at or under the work folder or the object, the stamp or a new record, nor above
 -- the work folder, or in the way of stamps, unless nothing was held there at first; nor was anything at `obj`.
 pub aside_stays : (p : Publication) (task : PlanTask) (first old new : Store) (q : List ℕ) → HasPlace task → p.folder ≡ task_folder task → Publishes p old new → KeepsFolders first old → KeepsFolders first new → first (codes "obj") ≡ None
-    → (IsBelow (codes "tmp") q → ⊥) → (IsOfFolder task q → ⊥) → (IsBelow q (work_folder task) → first q ≡ None) → (p.is_new ≡ true → q ≢ record_path p.name) → ((unihash : Hash) → p.object ≡ Some unihash → (slashes (hash_text unihash) ≡ 0) × (IsAtOrBelow (object_folder unihash) q → ⊥)) → IsClearOfStamps first q → new q ≡ old q
-aside_stays p task first old new q place folder publishes before after no_object temporary own above stored shared clear = by_top (path_cases q (codes "stamp"))
+    → (IsBelow (codes "tmp") q → ⊥) → (IsOfFolder task q → ⊥) → (IsBelow q (work_folder task) → first q ≡ None) → (p.is_new ≡ true → q ≢ record_path p.name) → (p.writes_key ≡ true → q ≢ key_path p.key) → ((unihash : Hash) → p.object ≡ Some unihash → (slashes (hash_text unihash) ≡ 0) × (IsAtOrBelow (object_folder unihash) q → ⊥)) → IsClearOfStamps first q → new q ≡ old q
+aside_stays p task first old new q place folder publishes before after no_object temporary own above stored keyed shared clear = by_top (path_cases q (codes "stamp"))
   where
     work : q ≢ codes "work" → q ≢ inside (codes "work") task.id.pn → IsApart (work_folder task) q
     work a b = record {
@@ -226,6 +230,7 @@ aside_stays p task first old new q place folder publishes before after no_object
       work = subst (λ (f : List ℕ). IsApart (work_at f) q) (sym folder) (work a b);
       stamp = subst (λ (f : List ℕ). IsApart (stamp_at f) q) (sym folder) apart;
       stored = stored;
+      key = keyed;
       shared = object c;
     }
 
@@ -269,6 +274,7 @@ object_stays p old new unihash q publishes apart below = by below
       work = apart_by_first rest (111 ∷ 114 ∷ 107 ∷ 47 ∷ p.folder) (differ 111 119 refl);
       stamp = apart_by_first rest (116 ∷ 97 ∷ 109 ∷ 112 ∷ 47 ∷ p.folder) (differ 111 115 refl);
       stored = λ new_one. heads_differ (differ 111 114 refl);
+      key = λ writes. heads_differ (differ 111 107 refl);
       shared = λ own some. subst (IsApart (object_folder own)) is (apart own some);
     })
 

@@ -13,7 +13,9 @@ use Rattle.meta_model.specs.declared.plan.PlanTask.{PlanTask}
 use Rattle.store_model.specs.declared.signature.EquivRow.{EquivRow}
 use Rattle.store_model.specs.declared.signature.SigRecord.{SigRecord}
 use Rattle.store_model.specs.Available.{IsAvailable}
+use Rattle.store_model.specs.Spelling.{text_name}
 use Rattle.build_store.specs.Faults.{IsClash, is_disk_fault}
+use Rattle.build_store.proofs.Texts.{text_name_is}
 use Rattle.build_store.specs.View.{SameBooks, View, signed_by}
 use Rattle.build_store.specs.declared.fault.StoreFault.{StoreFault}
 use Rattle.build_store.specs.declared.fault.StoreFault.TheVariants as fault_of
@@ -37,6 +39,7 @@ module _ {D : Type 0} (plan : Plan) (tells : Type 0) (story : D → Story) (faul
   pub asks_met : (a b : View D) (f g : Option StoreFault) (fault : StoreFault) (answer : ProbeFault) → SameBooks a b → (tells → Passes (story a.disk) (story b.disk) Same) → f ≡ None → IsUnknown plan a.rows (faults a.disk) (faults b.disk) fault → Keeps fault f g answer → Asks plan tells story faults a b f g
   asks_met a b f g fault answer books images none why keeps = record {
     rows = books.rows;
+    keys = books.keys;
     kept = books.kept;
     opened = books.opened;
     faultless = books.faultless;
@@ -76,6 +79,10 @@ rose_above : (before now : ℕ) → Rose before now → 0 < now
 rose_above before now rose = omega (arith, rose)
 
 -- why a question about a signature is refused
+-- a text that is named for a task has the name that its short part gives
+pub named_text : (plan : Plan) (rows : List EquivRow) (name : Hash) (bytes : List ℕ) → IsNamedFor (record { plan = plan; rows = rows }) name bytes → name ≡ text_name bytes
+named_text plan rows name bytes named = named.named ∙ sym (text_name_is named.signed.sig) ∙ ap text_name (sym named.spelled)
+
 pub clash_unknown : (plan : Plan) (rows : List EquivRow) (name : Hash) (bytes : List ℕ) (before now : ℕ) (fault : StoreFault) → IsNamedFor (record { plan = plan; rows = rows }) name bytes → IsClash rows name bytes fault → Counts before now (is_disk_fault fault) → IsUnknown plan rows before now fault
 clash_unknown plan rows name bytes before now fault_of.Disk named clash counts = rose_above before now counts.rose
 clash_unknown plan rows name bytes before now (fault_of.Collision at held given) named clash counts = clash_of plan rows name at bytes held given named clash

@@ -91,13 +91,14 @@ module _ (o : Opening) (plan : Plan) (tale : List Logged) (opened : OpenTasks) (
         (is.folder t s.task at is_begun)
         (is.above t s.task at is_begun)
         (λ new_one. absurd (false≢true new_one))
+        (λ writes. absurd (false≢true writes))
         (λ unihash some. absurd (let n : None ≡ Some unihash = some in cc))
         clear
 
     left_put : (old new : Store) → IsLeft o plan begun tale old → IsValidWith o plan tale opened old → KeepsFolders o.story.held new → Puts old new → IsLeft o plan begun tale new
     left_put old new was v folders r = record {
       count = length tale;
-      after = after_all o plan tale new (with_is_read o plan tale opened w new (still_valid o plan tale opened (restoration s r.row r.tree) old new refl r.publishes v));
+      after = after_all o plan tale new (with_is_read o plan tale opened w new (still_valid o plan tale opened (restoration s r.row r.tree) old new refl refl r.publishes v));
       honest = λ u other at_u. honest_stays (restoration s r.row r.tree) o.story.held old new s.task other (has_place plan t s.task w.may.sound at) (has_place plan u other w.may.sound at_u) refl (either_or u other at_u) r.publishes
           (λ new_one. absurd (false≢true new_one)) (was.honest u other at_u);
       others = λ u other at_u not_begun. as_begun old new r u other at_u (was_not u not_begun) (was.others u other at_u not_begun);
@@ -123,7 +124,18 @@ module _ (o : Opening) (plan : Plan) (tale : List Logged) (opened : OpenTasks) (
         put_or earlier is (inr r) folders = left_put earlier image (now earlier is) (with earlier is) folders r
 
         round : (kept : Store) → IsImage a kept → KeepsOthers (task_folder s.task) None held kept image → KeepsFolders o.story.held image
-        round kept is k = folders_on (record { folder = task_folder s.task; name = Rattle.store_model.specs.Spelling.name_of s.sig; file = Rattle.tree_model.specs.declared.entry.Entry.TheVariants.File false []; is_new = false; tree = []; object = None }) o.story.held held kept image s.task (has_place plan t s.task w.may.sound at) refl k held_folders (now kept is).folders
+        round kept is k =
+            folders_on (record {
+              folder = task_folder s.task;
+              name = Rattle.store_model.specs.Spelling.name_of s.sig;
+              file = Rattle.tree_model.specs.declared.entry.Entry.TheVariants.File false [];
+              is_new = false;
+              tree = [];
+              object = None;
+              key = Rattle.store_model.specs.Spelling.name_of s.sig;
+              key_file = Rattle.tree_model.specs.declared.entry.Entry.TheVariants.File false [];
+              writes_key = false;
+            }) o.story.held held kept image s.task (has_place plan t s.task w.may.sound at) refl k held_folders (now kept is).folders
 
         by : IsImageSince a from image ⊎ ((earlier : Store) × IsImage a earlier × Restores held (rows_of Now) s earlier image) → IsImageSince a from image ⊎ ((earlier : Store) × IsImage a earlier × KeepsOthers (task_folder s.task) None held earlier image) → IsImageSince o.story from image ⊎ IsLeft o plan begun tale image
         by (inl past) other = left from image le past

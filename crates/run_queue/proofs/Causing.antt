@@ -1,10 +1,9 @@
 -- A fault that is kept has its cause, and a task that breaks off by one had one kept.
-use Rattle.std.proofs.Common.{◌≡◌, ◌∙◌, sym, ap, subst, refl, ℕ, arith, false, List, [], ◌∷◌, ◌++◌, Option, Some, None}
+use Rattle.std.proofs.Common.{◌≡◌, ◌∙◌, sym, ap, subst, refl, ℕ, arith, inl, inr, false, List, [], ◌∷◌, ◌++◌, Option, Some, None}
 use Rattle.std.specs.Prelude.{IsSome, ◌||◌}
 use Rattle.std.specs.List.{slice_get}
 use Rattle.std.proofs.lemmas.Bool.{false≢true}
 use Rattle.std.proofs.lemmas.List.Folds.{list_any-append}
-use Rattle.sha2.specs.Sha256.{sha256}
 use Rattle.tree_model.specs.Manifest.{manifest_lines}
 use Rattle.tree_model.specs.declared.hash.Hash.{Hash}
 use Rattle.tree_model.specs.declared.manifest.ManifestLine.{ManifestLine}
@@ -22,6 +21,7 @@ use Rattle.run_core.specs.Fates.{CanMark}
 use Rattle.tale_model.specs.Fates.{fate_at, is_running, task_of}
 use Rattle.store_model.specs.declared.signature.EquivRow.{EquivRow}
 use Rattle.store_model.specs.declared.signature.SigRecord.{SigRecord}
+use Rattle.store_model.specs.Clashes.{AreToldApart}
 use Rattle.store_model.specs.Rows.{row_at}
 use Rattle.store_model.specs.Signatures.{Signed}
 use Rattle.store_model.specs.Spelling.{name_of, signature_bytes}
@@ -47,19 +47,18 @@ asked_name plan rows number sig asked = record { number = number; signed = asked
 
 -- what a collision is where the name is that of the signature of a task of the plan
 pub clash_of : (plan : Plan) (rows : List EquivRow) (at name : Hash) (bytes held given : List ℕ) → IsNamedFor (record { plan = plan; rows = rows }) at bytes → IsCollision rows at bytes name held given → IsClashOf plan rows name held given
-unfolding name_of
 clash_of plan rows at name bytes held given named clash = record {
-  row = clash.row;
-  is_row = ap (row_at rows) clash.name_is ∙ clash.is_row;
-  held_is = clash.held_is;
   number = named.number;
   signed = named.signed;
   is_signed = named.is_signed;
-  given_is = clash.given_is ∙ named.spelled;
-  name_is = clash.name_is ∙ named.named;
-  differ = clash.differ;
-  held_name = clash.held_name;
-  given_name = ap sha256 (clash.given_is ∙ named.spelled) ∙ ap (λ (h : Hash). h.bytes) (sym (clash.name_is ∙ named.named));
+  meet = inl (
+    clash.row,
+    ap (row_at rows) (sym named.named) ∙ clash.is_row,
+    subst (λ (h : Hash). AreToldApart clash.row.sig (signature_bytes named.signed.sig) h name held given) named.named (subst (λ (b : List ℕ). AreToldApart clash.row.sig b at name held given) named.spelled clash.told),
+  );
+  differ = clash.told.differ;
+  held_name = clash.told.held_name;
+  given_name = clash.told.given_name;
 }
 
 -- what an output that differs is where the signature is a task's own
@@ -86,11 +85,14 @@ unsteady_of plan rows number s tree pn task held given signed refused =
     }
 
 -- Why a fault of a publication is kept: before it the disk hadn't failed.
-pub store_cause : (before count : ℕ) (plan : Plan) (rows : List EquivRow) (number : ℕ) (s : Signed) (tree : Entries) (f : StoreFault) → IsSignedAt rows plan.tasks number s → before ≡ 0 → Counts before count (is_disk_fault f) → IsRefusal rows s tree f → IsStoreCause count plan rows f
-store_cause before count plan rows number s tree fault_of.Disk signed none counts refused = let rose = counts.rose in omega (arith, rose, none)
-store_cause before count plan rows number s tree (fault_of.Collision name held given) signed none counts refused = clash_of plan rows (name_of s.sig) name (signature_bytes s.sig) held given (signed_name plan rows number s signed) refused
-store_cause before count plan rows number s tree (fault_of.Unsteady pn task held given) signed none counts refused = unsteady_of plan rows number s tree pn task held given signed refused
-store_cause before count plan rows number s tree fault_of.Memory signed none counts refused = tt
+pub store_cause : (before count : ℕ) (plan : Plan) (rows : List EquivRow) (keys : List (List ℕ)) (number : ℕ) (s : Signed) (tree : Entries) (f : StoreFault) → IsSignedAt rows plan.tasks number s → before ≡ 0 → Counts before count (is_disk_fault f) → IsRefusal rows keys s tree f → IsStoreCause count plan rows f
+store_cause before count plan rows keys number s tree fault_of.Disk signed none counts refused = let rose = counts.rose in omega (arith, rose, none)
+store_cause before count plan rows keys number s tree (fault_of.Collision name held given) signed none counts refused = elim refused [
+  | inl clash ↦ clash_of plan rows (name_of s.sig) name (signature_bytes s.sig) held given (signed_name plan rows number s signed) clash
+  | inr key ↦ record { number = number; signed = s; is_signed = signed; meet = inr key.given_is; differ = key.differ; held_name = key.held_name; given_name = key.given_name }
+]
+store_cause before count plan rows keys number s tree (fault_of.Unsteady pn task held given) signed none counts refused = unsteady_of plan rows number s tree pn task held given signed refused
+store_cause before count plan rows keys number s tree fault_of.Memory signed none counts refused = tt
 
 -- Why a fault of a restoring is kept.
 pub clash_cause : (before count : ℕ) (plan : Plan) (rows : List EquivRow) (number : ℕ) (s : Signed) (f : StoreFault) → IsSignedAt rows plan.tasks number s → before ≡ 0 → Counts before count (is_disk_fault f) → IsClash rows (name_of s.sig) (signature_bytes s.sig) f → IsStoreCause count plan rows f
@@ -100,16 +102,16 @@ clash_cause before count plan rows number s (fault_of.Unsteady pn task held give
 clash_cause before count plan rows number s fault_of.Memory signed none counts refused = tt
 
 -- What a fault of a publication carries: its task's PN and name, and the manifest of what was given.
-pub refusal_given : (tasks : List PlanTask) (rows : List EquivRow) (number : ℕ) (s : Signed) (tree : Entries) (manifest : List ManifestLine) (f : StoreFault) → slice_get tasks number ≡ Some s.task → manifest ≡ manifest_lines tree → IsRefusal rows s tree f → IsStoreOfGiven tasks number (givens.Tree tree manifest) f
-refusal_given tasks rows number s tree manifest fault_of.Disk at listed refused = tt
-refusal_given tasks rows number s tree manifest (fault_of.Collision name held given) at listed refused = tt
-refusal_given tasks rows number s tree manifest (fault_of.Unsteady pn task held given) at listed refused =
+pub refusal_given : (tasks : List PlanTask) (rows : List EquivRow) (keys : List (List ℕ)) (number : ℕ) (s : Signed) (tree : Entries) (manifest : List ManifestLine) (f : StoreFault) → slice_get tasks number ≡ Some s.task → manifest ≡ manifest_lines tree → IsRefusal rows keys s tree f → IsStoreOfGiven tasks number (givens.Tree tree manifest) f
+refusal_given tasks rows keys number s tree manifest fault_of.Disk at listed refused = tt
+refusal_given tasks rows keys number s tree manifest (fault_of.Collision name held given) at listed refused = tt
+refusal_given tasks rows keys number s tree manifest (fault_of.Unsteady pn task held given) at listed refused =
     let is : fault_of.Unsteady pn task held given ≡ fault_of.Unsteady s.task.id.pn s.task.id.task refused.row.manifest (manifest_lines tree) = refused.is in
     let pn_is : pn ≡ s.task.id.pn = cc in
     let task_is : task ≡ s.task.id.task = cc in
     let same : manifest ≡ given = cc in
     (record { task = s.task; is_task = at; pn_is = pn_is; name_is = task_is }, (tree, ap (givens.Tree tree) same))
-refusal_given tasks rows number s tree manifest fault_of.Memory at listed refused = tt
+refusal_given tasks rows keys number s tree manifest fault_of.Memory at listed refused = tt
 
 -- ---- tasks that break off
 

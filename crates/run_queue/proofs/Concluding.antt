@@ -75,7 +75,7 @@ use Rattle.run_model.specs.InFlight.{RunsAfter}
 use Rattle.run_model.specs.Stands.{HasFinished}
 use Rattle.run_queue.specs.Keeps.{IsToldOf, nobody}
 use Rattle.run_queue.specs.Seen.{IsBegun, IsBegunIn}
-use Rattle.run_queue.specs.Flights.{AreFlights, AreLeft, Closes, Flies, FliesAs, IsFlight, IsUnderWay, IsValidWith, KeepOtherObjects, OpenTask, OpenTasks, OpensAt, SameOpen, StandTo, with_open, without_open}
+use Rattle.run_queue.specs.Flights.{AreFlights, AreLeft, Closes, Flies, FliesAs, IsFlight, IsUnderWay, IsValidWith, KeepOtherObjects, MayTurn, OpenTask, OpenTasks, OpensAt, SameOpen, StandTo, put_of_turn, with_open, without_open}
 use Rattle.run_queue.proofs.Breaking.{running_within}
 use Rattle.run_queue.proofs.Boarding.{one_more_or_less, opening_keeps_flights, opening_keeps_others}
 use Rattle.run_queue.proofs.Flights.{choice_valid, flight_of, folders_differ, in_hand, line_is, line_readable, runs_now}
@@ -267,29 +267,34 @@ was_on o s more rows old new may u a there was sg is = by a there was
         (stays.1 (subst (λ (r : List EquivRow). IsAvailable o.story.held r s.options.setscene x.0 avail.Object) old (w x.0 x.1)))
     by avail.Missing ne w = absurd (ne refl)
 
+-- a step writes no key
+pub steps_may_turn : (o : Opening) (plan : Plan) (tale : List Logged) (opened : OpenTasks) (one : OpenTask) (image : Store) → IsValidWith o plan tale opened image → MayTurn o plan tale opened one false image
+steps_may_turn o plan tale opened one image v = record { with_lines = v; new_key = λ written. absurd (false≢true written) }
+
 -- ---- behind a turn of an open publication
 
 module _ (o : Opening) (s : Seen) (run : IsRun o s) (faultless : s.fault ≡ None) (orderly : EachAfter (IsOrderly s.plan.tasks) s.tale) (may : MayReuse o.gives o.reading o.story.held (book_now o s) s.plan.tasks)
-    (t : ℕ) (one : OpenTask) (fl : FliesAs s.plan run.opened t one) (later : Story) (sound : story_of.IsSound s.story) (pass : Passes s.story later (IsPublishing (publication (rows_of (book_now o s)) one.signed one.tree) s.story.held)) where
+    (t : ℕ) (one : OpenTask) (fl : FliesAs s.plan run.opened t one) (writes : Bool) (new_keys : EachNow s.story (MayTurn o s.plan s.tale run.opened one writes)) (later : Story) (sound : story_of.IsSound s.story)
+    (pass : Passes s.story later (IsPublishing (put_of_turn (rows_of (book_now o s)) one writes) s.story.held)) where
   abbrev way : IsUnderWay o s.plan s.tale run.opened
   way = under_way o s run faultless orderly may
 
   valid_then : EachNow later (IsValidWith o s.plan s.tale run.opened)
   valid_then image is =
       let made = pass.now image is in
-      turn_valid o s.plan s.tale run.opened way t one fl made.0 image (run.durable faultless made.0 made.1) made.2.own
+      turn_valid o s.plan s.tale run.opened way t one fl writes made.0 image (new_keys made.0 made.1) made.2.own
 
   left_then : AreLeft o s.plan s.begun s.tale later
-  left_then = left_after o s.plan s.tale run.opened way t one fl s.begun (run.touched faultless t (one, fl)) s.story later sound run.later pass (run.durable faultless) run.images
+  left_then = left_after o s.plan s.tale run.opened way t one fl writes s.begun (run.touched faultless t (one, fl)) s.story later sound run.later pass new_keys run.images
 
   stands_then : EachNow later (AllStand o s.plan s.tale)
-  stands_then = stand_now o s.plan s.tale run.opened way t one fl s.story later sound pass run.stands
+  stands_then = stand_now o s.plan s.tale run.opened way t one fl writes s.story later sound pass run.stands
 
   since_then : StandTo o s.plan s.tale later
-  since_then = stand_since o s.plan s.tale run.opened way t one fl s.story later sound pass run.settled run.marked
+  since_then = stand_since o s.plan s.tale run.opened way t one fl writes s.story later sound pass run.settled run.marked
 
   objects_then : EachNow later (KeepOtherObjects o s.plan s.tale run.opened)
-  objects_then = objects_now o s.plan s.tale run.opened way t one fl s.story later pass (run.objects faultless)
+  objects_then = objects_now o s.plan s.tale run.opened way t one fl writes s.story later pass (run.objects faultless)
 
   -- With more that is left, or with a fault, a run goes on.
   pub turned_run : (kept : List KeptSig) (views : OpenViews) (fault : Option RunFault) → (fault ≡ None → SameOpen run.opened views) → IsRun o (record s { kept = kept; opened = views; fault = fault; story = later })
@@ -329,7 +334,7 @@ module _ (o : Opening) (s : Seen) (run : IsRun o s) (faultless : s.fault ≡ Non
   -- ---- the task has ended
 
   abbrev pub put : IsPut o.gives o.reading (book_now o s) (publication (rows_of (book_now o s)) one.signed one.tree) one.signed one.tree
-  put = line_put o s.plan s.tale run.opened way t one fl
+  put = line_put o s.plan s.tale run.opened way t one fl writes
 
   abbrev flight : IsFlight o s.plan (book_after o.gives s.plan o.book s.tale) t one
   flight = flight_of o s.plan s.tale run.opened way t one fl

@@ -28,7 +28,7 @@ use Rattle.store_model.proofs.Staying.{kept_with_row, row_stays}
 use Rattle.store_model.specs.Lines.{HasLine}
 use Rattle.build_store.specs.Laws.{IsOfTask, KeepsObject}
 use Rattle.store_opening.specs.Paths.{HasPlace, IsOnePart}
-use Rattle.store_model.specs.Paths.{slashes}
+use Rattle.outside_traits.specs.Store.{slashes}
 use Rattle.build_store.specs.Publication.{KeepsOthers, Publishes}
 use Rattle.store_model.specs.Publication.{Publication}
 use Rattle.store_opening.proofs.Clean.{hash_is_name, name_slashes}

@@ -13,7 +13,7 @@ use Rattle.store_model.specs.Origins.{Book, Line, Reading}
 use Rattle.store_model.specs.Valid.{IsValidBook, StandsIn}
 use Rattle.store_opening.specs.Named.{IsName}
 use Rattle.store_opening.specs.Paths.{HasPlace}
-use Rattle.store_model.specs.Paths.{slashes}
+use Rattle.outside_traits.specs.Store.{slashes}
 use Rattle.store_opening.proofs.Clean.{folder_slashes, name_is_name, name_slashes}
 use Rattle.store_opening.proofs.Slashes.{slashes_inside}
 use Rattle.run_queue.specs.Stands.{KeepsFolders}

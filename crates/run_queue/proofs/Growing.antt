@@ -66,7 +66,7 @@ ended_grows gives plan book t s built tree signed is_built clean =
     (λ none. ap (λ (l : List Line). book ++ l) (line.0 none), λ row some. ap (λ (l : List Line). book ++ l) (line.1 row some) ∙ append-nil book)
 
 pub ended_is_step : EndedIsStep
-ended_is_step gives reading plan start now first book is_grown t s built tree signed is_built clean needs none no_collision =
+ended_is_step gives reading plan start now first book is_grown t s built tree signed is_built clean needs none one_key no_collision =
     let is = (ended_grows gives plan book t s built tree signed is_built clean).0 none in
     subst (λ (b : Book). IsGrown gives reading plan.tasks start first (with_record now (recorded (rows_of book) s tree)) b) (sym is)
-    (grown now book t s built tree is_grown signed is_built needs clean none (subst (λ (b : Book). HasNoCollision b (rows_of b) plan.tasks) is no_collision))
+    (grown now book t s built tree is_grown signed is_built needs clean none one_key (subst (λ (b : Book). HasNoCollision b (rows_of b) plan.tasks) is no_collision))

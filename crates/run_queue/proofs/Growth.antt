@@ -18,8 +18,8 @@ use Rattle.store_model.specs.Recording.{NeedsHaveRows, recorded}
 use Rattle.store_model.specs.Reuse.{MayReuse}
 use Rattle.store_model.specs.Rows.{hash_eq, hash_or, is_row_for, row_at, unihash_or}
 use Rattle.store_model.specs.Signatures.{Signed, signatures}
-use Rattle.store_model.specs.Spelling.{name_of}
-use Rattle.store_model.specs.Valid.{stored_of}
+use Rattle.store_model.specs.Spelling.{key_name, name_of}
+use Rattle.store_model.specs.Valid.{key_file, stored_of}
 use Rattle.store_model.specs.Publication.{record_file}
 use Rattle.store_model.specs.declared.signature.EquivRow.{EquivRow}
 use Rattle.store_model.specs.declared.signature.SigRecord.{SigRecord}
@@ -97,6 +97,9 @@ module _ (book more : Book) (s : Signed) (tree : Entries) (others : AllByRecursi
     is_new = is_none (row_same i);
     tree = tree;
     object = if s.task.sstate then Some (unihash_same i) else None;
+    key = key_name s.sig.key;
+    key_file = key_file s.sig.key;
+    writes_key = false;
   }
 
 -- ---- a publication of a task of the plan

@@ -10,7 +10,7 @@ use Rattle.outside_traits.proofs.Puts.{path_cases}
 use Rattle.meta_model.specs.declared.plan.PlanTask.{PlanTask}
 use Rattle.store_model.specs.Available.{task_folder}
 use Rattle.store_model.specs.Lines.{KeepsWork}
-use Rattle.store_model.specs.Paths.{record_path}
+use Rattle.store_model.specs.Paths.{key_path, record_path}
 use Rattle.store_model.specs.Premises.{Differ}
 use Rattle.store_model.specs.Publication.{Publication, stamp_at, work_at}
 use Rattle.store_opening.specs.Paths.{HasPlace}
@@ -24,13 +24,25 @@ use Rattle.run_queue.proofs.Aside.{keeps_untouched}
 abbrev pub MayHaveRecord : Publication → Store → Type 0
 MayHaveRecord p image = p.is_new ≡ true → (image (record_path p.name) ≡ None) ⊎ (image (record_path p.name) ≡ Some p.file)
 
-pub foreign_record : (p : Publication) (path : List ℕ) → (p.is_new ≡ true → inside (codes "rec") path ≢ record_path p.name) → IsForeign p (inside (codes "rec") path)
+pub foreign_record : (p : Publication) (path : List ℕ) → (p.is_new ≡ true → inside (codes "rec2") path ≢ record_path p.name) → IsForeign p (inside (codes "rec2") path)
 foreign_record p path other = record {
   temporary = λ below. heads_differ (differ 114 116 refl) below.1;
-  work = apart_by_first (101 ∷ 99 ∷ 47 ∷ path) (111 ∷ 114 ∷ 107 ∷ 47 ∷ p.folder) (differ 114 119 refl);
-  stamp = apart_by_first (101 ∷ 99 ∷ 47 ∷ path) (116 ∷ 97 ∷ 109 ∷ 112 ∷ 47 ∷ p.folder) (differ 114 115 refl);
+  work = apart_by_first (101 ∷ 99 ∷ 50 ∷ 47 ∷ path) (111 ∷ 114 ∷ 107 ∷ 47 ∷ p.folder) (differ 114 119 refl);
+  stamp = apart_by_first (101 ∷ 99 ∷ 50 ∷ 47 ∷ path) (116 ∷ 97 ∷ 109 ∷ 112 ∷ 47 ∷ p.folder) (differ 114 115 refl);
   stored = other;
-  shared = λ unihash is. apart_by_first (101 ∷ 99 ∷ 47 ∷ path) (98 ∷ 106 ∷ 47 ∷ hash_text unihash) (differ 114 111 refl);
+  key = λ new. heads_differ (differ 114 107 refl);
+  shared = λ unihash is. apart_by_first (101 ∷ 99 ∷ 50 ∷ 47 ∷ path) (98 ∷ 106 ∷ 47 ∷ hash_text unihash) (differ 114 111 refl);
+}
+
+-- so is a key, unless it is the publication's and is written
+pub foreign_key : (p : Publication) (path : List ℕ) → (p.writes_key ≡ true → inside (codes "key") path ≢ key_path p.key) → IsForeign p (inside (codes "key") path)
+foreign_key p path other = record {
+  temporary = λ below. heads_differ (differ 107 116 refl) below.1;
+  work = apart_by_first (101 ∷ 121 ∷ 47 ∷ path) (111 ∷ 114 ∷ 107 ∷ 47 ∷ p.folder) (differ 107 119 refl);
+  stamp = apart_by_first (101 ∷ 121 ∷ 47 ∷ path) (116 ∷ 97 ∷ 109 ∷ 112 ∷ 47 ∷ p.folder) (differ 107 115 refl);
+  stored = λ new. heads_differ (differ 107 114 refl);
+  key = other;
+  shared = λ unihash is. apart_by_first (101 ∷ 121 ∷ 47 ∷ path) (98 ∷ 106 ∷ 47 ∷ hash_text unihash) (differ 107 111 refl);
 }
 
 -- a record that was held stays
@@ -41,7 +53,7 @@ record_stays p old new publishes may name file is = by (path_cases (record_path 
     put_again same put (inl none) = absurd (let n : None ≡ Some file = sym none ∙ sym (ap old same) ∙ is in cc)
     put_again same put (inr held) = ap new same ∙ put ∙ sym held ∙ sym (ap old same) ∙ is
 
-    at_own : record_path name ≡ record_path p.name → (new (record_path p.name) ≡ old (record_path p.name)) ⊎ ((p.is_new ≡ true) × (new (record_path p.name) ≡ Some p.file)) → new (record_path name) ≡ Some file
+    at_own : record_path name ≡ record_path p.name → (new (record_path p.name) ≡ old (record_path p.name)) ⊎ ((p.is_new ≡ true) × (new (record_path p.name) ≡ Some p.file) × (new (key_path p.key) ≡ Some p.key_file)) → new (record_path name) ≡ Some file
     at_own same (inl stays) = ap new same ∙ stays ∙ sym (ap old same) ∙ is
     at_own same (inr put) = put_again same put.1 (may put.0)
 

@@ -1,5 +1,5 @@
 -- The last turn of an open publication: its line comes behind the book, and its task is settled.
-use Rattle.std.proofs.Common.{◌≡◌, ◌≢◌, ◌∙◌, sym, ap, subst, refl, ℕ, zero, suc, ◌+◌, ◌<◌, ◌-◌, ◌^◌, min, arith, ◌⊎◌, inl, inr, Bool, List, [], ◌∷◌, ◌++◌, length, set, take, Some, None, append_assoc, append-nil, length-append}
+use Rattle.std.proofs.Common.{◌≡◌, ◌≢◌, ◌∙◌, sym, ap, subst, refl, ℕ, zero, suc, ◌+◌, ◌<◌, ◌-◌, ◌^◌, min, arith, ◌⊎◌, inl, inr, Bool, false, List, [], ◌∷◌, ◌++◌, length, set, take, Some, None, append_assoc, append-nil, length-append}
 use Rattle.std.specs.Prelude.{if◌then◌else◌}
 use Rattle.std.specs.List.{AllByRecursion, slice_get}
 use Rattle.std.proofs.lemmas.Bool.{cases_eq}
@@ -81,6 +81,7 @@ pub same_valid : (o : Opening) (image : Store) (book again : Book) → IsValid o
 same_valid o image book again v valid same = record {
   records = λ path. v.records path ∙ sym (same_entries o.gives o.reading book again v.lines valid same path);
   lines = valid;
+  keys = λ before line stands. let has = same.only before line stands in v.keys has.0 line has.1;
 }
 
 -- ---- a task among others
@@ -135,7 +136,7 @@ module _ (o : Opening) (plan : Plan) (tale : List Logged) (opened : OpenTasks) (
   p = publication (rows_of (book_after o.gives plan o.book tale)) one.signed one.tree
 
   abbrev pub line : IsPut o.gives o.reading (book_after o.gives plan o.book tale) (publication (rows_of (book_after o.gives plan o.book tale)) one.signed one.tree) one.signed one.tree
-  line = put o plan tale opened w t one fl
+  line = put o plan tale opened w t one fl false
 
   abbrev pub flight : IsFlight o plan (book_after o.gives plan o.book tale) t one
   flight = flight_of o plan tale opened w t one fl
@@ -267,7 +268,7 @@ module _ (o : Opening) (plan : Plan) (tale : List Logged) (opened : OpenTasks) (
       no_own ne = elim line.stands [
         | inl known ↦ sym (ap (λ (b : Book). Now ++ b) (own_is ∙ known.1) ∙ append-nil Now)
         | inr new ↦ absurd (
-            let none = no_record_yet o plan tale opened w t one fl image v.in_flight v.valid (line_stays_valid o.gives o.reading Now (Lines v.in_flight) line.line w.reuse.valid new.0 (two_besides o plan tale opened w t one fl line.line line.sig v.in_flight v.fly ne)) in
+            let none = no_record_yet o plan tale opened w t one fl false image v.in_flight v.valid (line_stays_valid o.gives o.reading Now (Lines v.in_flight) line.line w.reuse.valid new.0 (two_besides o plan tale opened w t one fl line.line line.sig v.in_flight v.fly ne)) in
             let n : None ≡ Some p.file = sym none ∙ published.stored in cc
             )
       ]

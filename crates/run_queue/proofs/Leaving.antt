@@ -1,5 +1,5 @@
 -- What a crash leaves of a run through a turn of an open publication, and what stands in it.
-use Rattle.std.proofs.Common.{◌≡◌, ◌≢◌, ◌∙◌, sym, ap, subst, refl, ℕ, ◌+◌, ◌≤◌, ◌⊎◌, inl, inr, arith, true, false, List, [], ◌∷◌, ◌++◌, length, take, Some}
+use Rattle.std.proofs.Common.{◌≡◌, ◌≢◌, ◌∙◌, sym, ap, subst, refl, ℕ, ◌+◌, ◌≤◌, ◌⊎◌, inl, inr, arith, Bool, true, false, List, [], ◌∷◌, ◌++◌, length, take, Some}
 use Rattle.std.specs.Prelude.{codes, Option}
 use Rattle.std.specs.List.{slice_get}
 use Rattle.std.proofs.lemmas.Bool.{cases_eq, false≢true}
@@ -23,7 +23,7 @@ use Rattle.store_model.specs.Lines.{HasLine}
 use Rattle.store_model.specs.Origins.{Book, Line, rows_of}
 use Rattle.store_model.specs.Premises.{Differ}
 use Rattle.store_model.specs.Publication.{Publication}
-use Rattle.store_model.specs.Spelling.{name_of}
+use Rattle.store_model.specs.Spelling.{key_name, name_of}
 use Rattle.store_model.specs.Valid.{IsValidBook, IsValidLine}
 use Rattle.store_model.specs.declared.signature.SigRecord.{SigRecord}
 use Rattle.store_model.proofs.Digests.{same_name_text}
@@ -31,6 +31,7 @@ use Rattle.store_model.proofs.Standing.{stands_further}
 use Rattle.store_opening.specs.Named.{IsName}
 use Rattle.store_opening.proofs.Areas.{differ, heads_differ}
 use Rattle.store_opening.proofs.Clean.{name_is_name, name_slashes}
+use Rattle.build_store.specs.Laws.{IsOfTask}
 use Rattle.build_store.specs.Pieces.{IsPublishing as Piece}
 use Rattle.build_store.specs.Publication.{Publishes, publication}
 use Rattle.build_store.proofs.Apart.{apart_by_count, apart_under, apart_within}
@@ -39,7 +40,7 @@ use Rattle.run_model.specs.Books.{book_after}
 use Rattle.run_model.specs.Opening.{Opening}
 use Rattle.run_model.specs.Own.{IsAside, IsObjectOfNone, IsUnihashOver}
 use Rattle.run_model.specs.Stands.{AllStand, HasStarted, IsSettledIn}
-use Rattle.run_queue.specs.Flights.{AreLeft, FliesAs, IsFlight, IsUnderWay, IsValidWith, KeepOtherObjects, OpenTask, OpenTasks, StandTo}
+use Rattle.run_queue.specs.Flights.{AreLeft, FliesAs, IsFlight, IsUnderWay, IsValidWith, KeepOtherObjects, MayTurn, OpenTask, OpenTasks, StandTo, put_of_turn}
 use Rattle.run_queue.specs.Opening.{MayRun}
 use Rattle.run_queue.specs.Seen.{IsBegunIn}
 use Rattle.run_queue.specs.Stands.{IsAsBegun, IsClearOfStamps, IsLeft, IsPublishing, KeepsFolders}
@@ -78,15 +79,18 @@ left_now o plan begun tale story may later left image is = elim (left (moment o.
 named : (o : Opening) (before : Book) (x : Line) → IsValidLine o.gives o.reading before x → (sig : SigRecord) × (x.unihash ≡ name_of sig)
 named o before x is = elim is.named [ inl own ↦ (x.sig, own) | inr like ↦ (like.first.sig, like.name) ]
 
-module _ (o : Opening) (plan : Plan) (tale : List Logged) (opened : OpenTasks) (w : IsUnderWay o plan tale opened) (t : ℕ) (one : OpenTask) (fl : FliesAs plan opened t one) where
+module _ (o : Opening) (plan : Plan) (tale : List Logged) (opened : OpenTasks) (w : IsUnderWay o plan tale opened) (t : ℕ) (one : OpenTask) (fl : FliesAs plan opened t one) (writes : Bool) where
   abbrev Now : Book
   Now = book_after o.gives plan o.book tale
 
   abbrev p : Publication
-  p = publication (rows_of (book_after o.gives plan o.book tale)) one.signed one.tree
+  p = put_of_turn (rows_of (book_after o.gives plan o.book tale)) one writes
 
   abbrev pub line : IsPut o.gives o.reading (book_after o.gives plan o.book tale) (publication (rows_of (book_after o.gives plan o.book tale)) one.signed one.tree) one.signed one.tree
-  line = put o plan tale opened w t one fl
+  line = put o plan tale opened w t one fl writes
+
+  of_turn : IsOfTask (put_of_turn (rows_of (book_after o.gives plan o.book tale)) one writes) line.line
+  of_turn = record { folder = line.of_task.folder; object = line.of_task.object }
 
   valid : IsValidBook o.gives o.reading (book_after o.gives plan o.book tale)
   valid = w.reuse.valid
@@ -138,7 +142,7 @@ module _ (o : Opening) (plan : Plan) (tale : List Logged) (opened : OpenTasks) (
           stamp = stays.stamp ∙ was.stamp;
           work = λ q below. stays.work q below ∙ was.work q below;
           objects = λ l has pn name q below.
-              (keeps_object o plan w.may.sound Now valid p line.line t one.signed.task fl.0 refl line.of_task line.pn line.task which_line u other at_u ne l
+              (keeps_object o plan w.may.sound Now valid p line.line t one.signed.task fl.0 refl of_turn line.pn line.task which_line u other at_u ne l
               (has.0, stands_further Now o.book w.lines has.0 l w.grown has.1) pn name old new publishes).object q below ∙ was.objects l has pn name q below;
         }
 
@@ -149,9 +153,10 @@ module _ (o : Opening) (plan : Plan) (tale : List Logged) (opened : OpenTasks) (
         (is.folder t one.signed.task fl.0 is_begun)
         (is.above t one.signed.task fl.0 is_begun)
         (λ new_one same. let at = is.output t (is_begun, started) (inl (inr (hash_text (name_of one.signed.sig), same))) in heads_differ (differ 111 114 refl) (sym at.0 ∙ same))
+        (λ written same. let at = is.output t (is_begun, started) (inr (inl (inr (hash_text (key_name one.signed.sig.key), same)))) in heads_differ (differ 111 107 refl) (sym at.0 ∙ same))
         (λ unihash some. (
           name_slashes unihash (subst IsName (sym (line.of_task.object unihash some)) own_name),
-          λ below. let at = is.output t (is_begun, started) (inr (in_objects unihash q below)) in not_top unihash (subst (IsAtOrBelow (object_folder unihash)) at.0 below),
+          λ below. let at = is.output t (is_begun, started) (inr (inr (in_objects unihash q below))) in not_top unihash (subst (IsAtOrBelow (object_folder unihash)) at.0 below),
         ))
         clear
 
@@ -199,12 +204,12 @@ module _ (o : Opening) (plan : Plan) (tale : List Logged) (opened : OpenTasks) (
         apart = apart_within (object_folder line.line.unihash) (object_folder l.unihash) q (apart_under (codes "obj") (hash_text line.line.unihash) (hash_text l.unihash) texts) below
 
     -- what an image is that the turn made of one that the run left
-    left_put : (old new : Store) → IsLeft o plan begun tale old → IsValidWith o plan tale opened old → KeepsFolders o.story.held new → Publishes p old new → IsLeft o plan begun tale new
+    left_put : (old new : Store) → IsLeft o plan begun tale old → MayTurn o plan tale opened one writes old → KeepsFolders o.story.held new → Publishes p old new → IsLeft o plan begun tale new
     left_put old new was v folders publishes = record {
       count = length tale;
-      after = after_all o plan tale new (with_is_read o plan tale opened w new (turn_valid o plan tale opened w t one fl old new v publishes));
+      after = after_all o plan tale new (with_is_read o plan tale opened w new (turn_valid o plan tale opened w t one fl writes old new v publishes));
       honest = λ u other at_u. honest_stays p o.story.held old new one.signed.task other (has_place plan t one.signed.task w.may.sound fl.0) (has_place plan u other w.may.sound at_u) refl (either_or u other at_u) publishes
-          (λ is_new. own_record o plan tale opened w t one fl old v) (was.honest u other at_u);
+          (λ is_new. own_record o plan tale opened w t one fl writes old v.with_lines) (was.honest u other at_u);
       others = λ u other at_u not_begun. as_begun u other at_u (was_not u not_begun) old new publishes (was.others u other at_u not_begun);
       paths = λ q aside clear. paths_stay old new q was.folders folders publishes aside clear ∙ was.paths q aside clear;
       objects = λ l has none q below. objects_stay old new l q publishes has none below ∙ was.objects l has none q below;
@@ -212,7 +217,7 @@ module _ (o : Opening) (plan : Plan) (tale : List Logged) (opened : OpenTasks) (
     }
 
     -- Whatever a crash left by now is left by the run.
-    pub left_after : (a b : Story) → story_of.IsSound a → moment o.story ≤ moment a → Passes a b (Piece (publication (rows_of (book_after o.gives plan o.book tale)) one.signed one.tree) a.held) → EachNow a (IsValidWith o plan tale opened) → AreLeft o plan begun tale a → AreLeft o plan begun tale b
+    pub left_after : (a b : Story) → story_of.IsSound a → moment o.story ≤ moment a → Passes a b (Piece (put_of_turn (rows_of (book_after o.gives plan o.book tale)) one writes) a.held) → EachNow a (MayTurn o plan tale opened one writes) → AreLeft o plan begun tale a → AreLeft o plan begun tale b
     left_after a b sound later pass with left from image le since = elim (pass.since from image (omega (arith, le, later)) since) [
       | inl past ↦ left from image le past
       | inr made ↦ inr (left_put made.0 image (now made.0 made.1) (with made.0 made.1)
@@ -231,12 +236,12 @@ module _ (o : Opening) (plan : Plan) (tale : List Logged) (opened : OpenTasks) (
   all_stay : (k : ℕ) (held old new : Store) → Piece p held old new → AllStand o plan (take k tale) held → AllStand o plan (take k tale) old → AllStand o plan (take k tale) new
   all_stay k held old new piece h st u other at_u settled =
       let f = front_book o.gives plan o.book tale k in
-      standing_on o plan w.may.sound Now valid p line.line t one.signed.task fl.0 refl line.of_task line.pn line.task which_line
+      standing_on o plan w.may.sound Now valid p line.line t one.signed.task fl.0 refl of_turn line.pn line.task which_line
       (take k tale) f.0 f.1 u other at_u (not_settled k u settled) held old old new piece.own piece.others
       (h u other at_u settled) (st u other at_u settled) (st u other at_u settled)
 
   -- Settled tasks stand in each image now.
-  pub stand_now : (a b : Story) → story_of.IsSound a → Passes a b (Piece (publication (rows_of (book_after o.gives plan o.book tale)) one.signed one.tree) a.held) → EachNow a (AllStand o plan tale) → EachNow b (AllStand o plan tale)
+  pub stand_now : (a b : Story) → story_of.IsSound a → Passes a b (Piece (put_of_turn (rows_of (book_after o.gives plan o.book tale)) one writes) a.held) → EachNow a (AllStand o plan tale) → EachNow b (AllStand o plan tale)
   stand_now a b sound pass stands image is =
       let whole : take (length tale) tale ≡ tale = take_all (length tale) tale (omega arith) in
       let on = λ (i : Store) (x : IsImage a i). subst (λ (l : List Logged). AllStand o plan l i) (sym whole) (stands i x) in
@@ -244,7 +249,7 @@ module _ (o : Opening) (plan : Plan) (tale : List Logged) (opened : OpenTasks) (
       subst (λ (l : List Logged). AllStand o plan l image) whole (all_stay (length tale) a.held made.0 image made.2 (on a.held (held-image a sound)) (on made.0 made.1))
 
   -- And those of a front in each image since the moment of its last entry.
-  pub stand_since : (a b : Story) → story_of.IsSound a → Passes a b (Piece (publication (rows_of (book_after o.gives plan o.book tale)) one.signed one.tree) a.held) → StandTo o plan tale a → ((k : ℕ) (entry : Logged) → slice_get tale k ≡ Some entry → entry.moment ≤ moment a) → StandTo o plan tale b
+  pub stand_since : (a b : Story) → story_of.IsSound a → Passes a b (Piece (put_of_turn (rows_of (book_after o.gives plan o.book tale)) one writes) a.held) → StandTo o plan tale a → ((k : ℕ) (entry : Logged) → slice_get tale k ≡ Some entry → entry.moment ≤ moment a) → StandTo o plan tale b
   stand_since a b sound pass stands marked k entry here lt image since = elim (pass.since entry.moment image (marked k entry here) since) [
     | inl past ↦ stands k entry here lt image past
     | inr made ↦ all_stay (k + 1) a.held made.0 image made.2 (now a.held (held-image a sound)) (now made.0 made.1)
@@ -255,9 +260,9 @@ module _ (o : Opening) (plan : Plan) (tale : List Logged) (opened : OpenTasks) (
 
   -- ---- objects
 
-  pub objects_now : (a b : Story) → Passes a b (Piece (publication (rows_of (book_after o.gives plan o.book tale)) one.signed one.tree) a.held) → EachNow a (KeepOtherObjects o plan tale opened) → EachNow b (KeepOtherObjects o plan tale opened)
+  pub objects_now : (a b : Story) → Passes a b (Piece (put_of_turn (rows_of (book_after o.gives plan o.book tale)) one writes) a.held) → EachNow a (KeepOtherObjects o plan tale opened) → EachNow b (KeepOtherObjects o plan tale opened)
   objects_now a b pass were image is u other at_u not_yet on_ground l has pn name q below =
       let made = pass.now image is in
-      (keeps_object o plan w.may.sound Now valid p line.line t one.signed.task fl.0 refl line.of_task line.pn line.task which_line u other at_u
+      (keeps_object o plan w.may.sound Now valid p line.line t one.signed.task fl.0 refl of_turn line.pn line.task which_line u other at_u
       (λ same. on_ground (one, (subst (λ (n : ℕ). slice_get plan.tasks n ≡ Some one.signed.task) (sym same) fl.0, fl.1))) l has pn name made.0 image made.2.own).object q below
       ∙ were made.0 made.1 u other at_u not_yet on_ground l has pn name q below

@@ -48,6 +48,7 @@ pub mod Growth
 pub mod Boarding
 pub mod Honest
 pub mod Staging
+pub mod FreshKeys
 pub mod Leaving
 pub mod Landing
 pub mod Meanwhile

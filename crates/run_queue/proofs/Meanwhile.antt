@@ -6,6 +6,8 @@ use Rattle.std.specs.List.{AllByRecursion}
 use Rattle.std.proofs.lemmas.Bool.{cases_eq, false≢true}
 use Rattle.std.proofs.lemmas.List.{map-append}
 use Rattle.std.proofs.lemmas.List.Folds.{find-append}
+use Rattle.tree_model.specs.declared.hash.Hash.{Hash}
+use Rattle.tree_model.specs.Hash.{hash_text}
 use Rattle.tree_model.specs.Path.{inside}
 use Rattle.outside_traits.specs.Store.{Store}
 use Rattle.outside_traits.proofs.Puts.{path_cases}
@@ -24,11 +26,11 @@ use Rattle.run_queue.proofs.Notes.{set_other}
 use Rattle.run_queue.proofs.Touched.{broken_on, placed_on}
 use Rattle.store_model.specs.Available.{IsAvailable, IsStored}
 use Rattle.store_model.specs.Origins.{row_of, rows_of}
-use Rattle.store_model.specs.Paths.{record_path}
+use Rattle.store_model.specs.Paths.{key_path, record_path}
 use Rattle.store_model.specs.Publication.{Publication}
 use Rattle.store_model.specs.Rows.{hash_eq, row_at}
 use Rattle.store_model.specs.Signatures.{Signed}
-use Rattle.store_model.specs.Spelling.{name_of, signature_bytes}
+use Rattle.store_model.specs.Spelling.{key_name, name_of, signature_bytes}
 use Rattle.store_model.specs.declared.signature.EquivRow.{EquivRow}
 use Rattle.store_model.specs.declared.signature.SigRecord.{SigRecord}
 use Rattle.store_model.proofs.Listing.{find_splits}
@@ -42,28 +44,32 @@ use Rattle.run_queue.specs.Flights.{IsValidWith, OpenTasks}
 use Rattle.run_queue.proofs.Clearing.{signature_fits, unihashes_are}
 use Rattle.run_queue.proofs.Enduring.{signed_task}
 use Rattle.run_queue.proofs.OwnNames.{signed_task_at}
-use Rattle.run_queue.proofs.Honest.{foreign_record}
+use Rattle.run_queue.proofs.Honest.{foreign_key, foreign_record}
 
 -- ---- a restoring
 
 -- where no record is new, all are as they were
-records_stay : (p : Publication) (old new : Store) → p.is_new ≡ false → Publishes p old new → (path : List ℕ) → new (inside (codes "rec") path) ≡ old (inside (codes "rec") path)
-records_stay p old new not_new publishes path = by (path_cases (inside (codes "rec") path) (record_path p.name))
+records_stay : (p : Publication) (old new : Store) → p.is_new ≡ false → Publishes p old new → (path : List ℕ) → new (inside (codes "rec2") path) ≡ old (inside (codes "rec2") path)
+records_stay p old new not_new publishes path = by (path_cases (inside (codes "rec2") path) (record_path p.name))
   where
-    at_own : inside (codes "rec") path ≡ record_path p.name → (new (record_path p.name) ≡ old (record_path p.name)) ⊎ ((p.is_new ≡ true) × (new (record_path p.name) ≡ Some p.file)) → new (inside (codes "rec") path) ≡ old (inside (codes "rec") path)
+    at_own : inside (codes "rec2") path ≡ record_path p.name → (new (record_path p.name) ≡ old (record_path p.name)) ⊎ ((p.is_new ≡ true) × (new (record_path p.name) ≡ Some p.file) × (new (key_path p.key) ≡ Some p.key_file)) → new (inside (codes "rec2") path) ≡ old (inside (codes "rec2") path)
     at_own same (inl stays) = ap new same ∙ stays ∙ sym (ap old same)
     at_own same (inr put) = absurd (false≢true (sym not_new ∙ put.0))
 
-    by : (inside (codes "rec") path ≡ record_path p.name) ⊎ (inside (codes "rec") path ≢ record_path p.name) → new (inside (codes "rec") path) ≡ old (inside (codes "rec") path)
+    by : (inside (codes "rec2") path ≡ record_path p.name) ⊎ (inside (codes "rec2") path ≢ record_path p.name) → new (inside (codes "rec2") path) ≡ old (inside (codes "rec2") path)
     by (inl same) = at_own same publishes.stored
-    by (inr ne) = publishes.others (inside (codes "rec") path) (foreign_record p path (λ is_new. ne))
+    by (inr ne) = publishes.others (inside (codes "rec2") path) (foreign_record p path (λ is_new. ne))
 
-pub still_valid : (o : Opening) (plan : Plan) (tale : List Logged) (opened : OpenTasks) (p : Publication) (old new : Store) → p.is_new ≡ false → Publishes p old new → IsValidWith o plan tale opened old → IsValidWith o plan tale opened new
-still_valid o plan tale opened p old new not_new publishes v = record {
+-- and where no key is written, so are all keys
+keys_stay : (p : Publication) (old new : Store) → p.writes_key ≡ false → Publishes p old new → (name : Hash) → new (key_path name) ≡ old (key_path name)
+keys_stay p old new not_written publishes name = publishes.others (key_path name) (foreign_key p (hash_text name) (λ writes. absurd (false≢true (sym not_written ∙ writes))))
+
+pub still_valid : (o : Opening) (plan : Plan) (tale : List Logged) (opened : OpenTasks) (p : Publication) (old new : Store) → p.is_new ≡ false → p.writes_key ≡ false → Publishes p old new → IsValidWith o plan tale opened old → IsValidWith o plan tale opened new
+still_valid o plan tale opened p old new not_new not_written publishes v = record {
   in_flight = v.in_flight;
   fly = v.fly;
   once = v.once;
-  valid = record { records = λ path. records_stay p old new not_new publishes path ∙ v.valid.records path; lines = v.valid.lines };
+  valid = record { records = λ path. records_stay p old new not_new publishes path ∙ v.valid.records path; lines = v.valid.lines; keys = λ before line stands. keys_stay p old new not_written publishes (key_name line.sig.key) ∙ v.valid.keys before line stands };
 }
 
 pub restoring_keeps_valid : RestoringKeepsValid
@@ -74,7 +80,7 @@ restoring_keeps_valid o plan tale opened held rows s a b pass with image is = by
 
     by : Restores held rows s made.0 image → IsValidWith o plan tale opened made.0 → IsValidWith o plan tale opened image
     by (inl same) v = subst (IsValidWith o plan tale opened) (sym same) v
-    by (inr r) v = still_valid o plan tale opened (Rattle.build_store.specs.Publication.restoration s r.row r.tree) made.0 image refl r.publishes v
+    by (inr r) v = still_valid o plan tale opened (Rattle.build_store.specs.Publication.restoration s r.row r.tree) made.0 image refl refl r.publishes v
 
 -- ---- rows that come
 

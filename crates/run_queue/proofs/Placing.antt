@@ -9,7 +9,7 @@ use Rattle.task_worker.specs.Work.{IsName}
 use Rattle.task_worker.proofs.Building.{sound_is_runnable}
 use Rattle.task_worker.proofs.Names.{has_names}
 use Rattle.store_opening.specs.Paths.{HasPlace, IsOnePart}
-use Rattle.store_model.specs.Paths.{slashes}
+use Rattle.outside_traits.specs.Store.{slashes}
 
 no_slashes : (text : List ℕ) → All (λ b. (b == 47) ≡ false) text → slashes text ≡ 0
 no_slashes [] none = refl

@@ -21,8 +21,8 @@ use Rattle.store_model.specs.Recording.{NeedsHaveRows, recorded}
 use Rattle.store_model.specs.Reuse.{MayReuse}
 use Rattle.store_model.specs.Rows.{row_at, unihash_or}
 use Rattle.store_model.specs.Signatures.{Signed, signatures}
-use Rattle.store_model.specs.Spelling.{name_of}
-use Rattle.store_model.specs.Valid.{IsValid, IsValidBook, IsValidLine, record_entry, stored_of}
+use Rattle.store_model.specs.Spelling.{key_name, name_of}
+use Rattle.store_model.specs.Valid.{IsValid, IsValidBook, IsValidLine, key_file, record_entry, stored_of}
 use Rattle.store_model.proofs.Digests.{same_name_text}
 use Rattle.store_model.proofs.Listing.{find_behind, hash_itself, hash_other}
 use Rattle.store_model.proofs.Ordered.{map_each}
@@ -104,7 +104,7 @@ module _ (gives : Gives) (reading : Reading) (held : Store) (book : Book) (tasks
       record {
         line = line;
         more = line ∷ [];
-        of = record { name = refl; file = ap (λ (l : Line). record_file (stored_of l)) same };
+        of = record { name = refl; file = ap (λ (l : Line). record_file (stored_of l)) same; key = refl; key_file = refl };
         of_task = record { folder = λ i. inside (sym sig_pn i) (sym sig_task i); object = λ u is. object_is s.task.sstate (unihash_for (rows_of book) s tree) u is ∙ unihash };
         sig = refl;
         pn = sig_pn;
@@ -130,7 +130,7 @@ module _ (gives : Gives) (reading : Reading) (held : Store) (book : Book) (tasks
       record {
         line = line;
         more = [];
-        of = record { name = sym f.4; file = λ i. record_file (record { sig = sym sig i; manifest = sym manifest i; unihash = unihash i }) };
+        of = record { name = sym f.4; file = λ i. record_file (record { sig = sym sig i; manifest = sym manifest i; unihash = unihash i }); key = λ i. key_name (sym sig i).key; key_file = λ i. key_file (sym sig i).key };
         of_task = record { folder = λ i. inside (sym (ap (λ g. g.pn) sig ∙ sig_pn) i) (sym (ap (λ g. g.task) sig ∙ sig_task) i); object = λ u is. object_is s.task.sstate (unihash_for (rows_of book) s tree) u is ∙ unihash };
         sig = sig;
         pn = ap (λ g. g.pn) sig ∙ sig_pn;

@@ -1,5 +1,5 @@
 -- What a turn of an open publication leaves of a run in which others are open too.
-use Rattle.std.proofs.Common.{◌≡◌, ◌≢◌, ◌∙◌, sym, ap, subst, refl, ℕ, ◌⊎◌, inl, inr, List, [], ◌∷◌, ◌++◌, map, Some, None, append_assoc, append-nil}
+use Rattle.std.proofs.Common.{◌≡◌, ◌≢◌, ◌∙◌, sym, ap, subst, refl, ℕ, ◌⊎◌, inl, inr, Bool, List, [], ◌∷◌, ◌++◌, map, Some, None, append_assoc, append-nil}
 use Rattle.std.specs.Prelude.{codes, Option}
 use Rattle.std.specs.List.{AllByRecursion}
 use Rattle.std.proofs.lemmas.Bool.{cases_eq}
@@ -20,12 +20,13 @@ use Rattle.store_model.proofs.Digests.{same_name_text}
 use Rattle.store_model.proofs.Ordered.{each_append}
 use Rattle.store_model.proofs.Standing.{stands_further}
 use Rattle.store_opening.proofs.SameLines.{entry_found, entry_there}
+use Rattle.build_store.specs.Laws.{IsOfLine}
 use Rattle.build_store.specs.Publication.{Publishes, publication}
 use Rattle.build_store.proofs.Validity.{published_is_valid}
 use Rattle.run_model.specs.Books.{book_after, line_of_ended}
 use Rattle.run_model.specs.InFlight.{lines_in_flight}
 use Rattle.run_model.specs.Opening.{Opening}
-use Rattle.run_queue.specs.Flights.{AreOnce, Flies, FliesAs, IsUnderWay, IsValidWith, OpenTask, OpenTasks}
+use Rattle.run_queue.specs.Flights.{AreOnce, Flies, FliesAs, IsUnderWay, IsValidWith, MayTurn, OpenTask, OpenTasks, put_of_turn}
 use Rattle.run_queue.proofs.Flights.{flight_of, line_is, put_of, two_besides}
 use Rattle.run_queue.proofs.Joining.{line_stays_valid}
 use Rattle.run_queue.proofs.Recorded.{IsPut, not_twice}
@@ -63,7 +64,7 @@ either_place o plan book t line is (u ∷ ts) = by (cases_eq t u) (either_place 
 
 -- ---- a turn
 
-module _ (o : Opening) (plan : Plan) (tale : List Logged) (opened : OpenTasks) (w : IsUnderWay o plan tale opened) (t : ℕ) (one : OpenTask) (fl : FliesAs plan opened t one) where
+module _ (o : Opening) (plan : Plan) (tale : List Logged) (opened : OpenTasks) (w : IsUnderWay o plan tale opened) (t : ℕ) (one : OpenTask) (fl : FliesAs plan opened t one) (writes : Bool) where
   abbrev Now : Book
   Now = book_after o.gives plan o.book tale
 
@@ -71,7 +72,7 @@ module _ (o : Opening) (plan : Plan) (tale : List Logged) (opened : OpenTasks) (
   Lines ts = lines_in_flight o.gives plan (book_after o.gives plan o.book tale) ts
 
   abbrev p : Publication
-  p = publication (rows_of (book_after o.gives plan o.book tale)) one.signed one.tree
+  p = put_of_turn (rows_of (book_after o.gives plan o.book tale)) one writes
 
   abbrev pub put : IsPut o.gives o.reading (book_after o.gives plan o.book tale) (publication (rows_of (book_after o.gives plan o.book tale)) one.signed one.tree) one.signed one.tree
   put = put_of o plan Now w.reuse t one (flight_of o plan tale opened w t one fl)
@@ -93,14 +94,18 @@ module _ (o : Opening) (plan : Plan) (tale : List Logged) (opened : OpenTasks) (
     ]
   ]
 
+  -- the line is that of the publication, whether its key is written or not
+  of_line : IsOfLine (put_of_turn (rows_of (book_after o.gives plan o.book tale)) one writes) put.line
+  of_line = record { name = put.of.name; file = put.of.file; key = put.of.key; key_file = put.of.key_file }
+
   -- What is valid with some lines in flight stays so through a turn of a publication that is open.
-  pub turn_valid : (old new : Store) → IsValidWith o plan tale opened old → Publishes (publication (rows_of (book_after o.gives plan o.book tale)) one.signed one.tree) old new → IsValidWith o plan tale opened new
-  turn_valid old new was publishes = elim (place was.in_flight was.fly) [
-    | inl has ↦ elim (published_is_valid p put.line old new put.of publishes o.gives o.reading (Now ++ Lines was.in_flight) was.valid (inl has)) [
+  pub turn_valid : (old new : Store) → MayTurn o plan tale opened one writes old → Publishes (put_of_turn (rows_of (book_after o.gives plan o.book tale)) one writes) old new → IsValidWith o plan tale opened new
+  turn_valid old new may publishes = elim (place was.in_flight was.fly) [
+    | inl has ↦ elim (published_is_valid p put.line old new of_line publishes o.gives o.reading (Now ++ Lines was.in_flight) was.valid may.new_key (inl has)) [
       | inl v ↦ record { in_flight = was.in_flight; fly = was.fly; once = was.once; valid = v }
       | inr v ↦ absurd (not_twice o.gives o.reading (Now ++ Lines was.in_flight) put.line has v.lines)
     ]
-    | inr comes ↦ elim (published_is_valid p put.line old new put.of publishes o.gives o.reading (Now ++ Lines was.in_flight) was.valid (inr comes.0)) [
+    | inr comes ↦ elim (published_is_valid p put.line old new of_line publishes o.gives o.reading (Now ++ Lines was.in_flight) was.valid may.new_key (inr comes.0)) [
       | inl v ↦ record { in_flight = was.in_flight; fly = was.fly; once = was.once; valid = v }
       | inr v ↦ record {
         in_flight = was.in_flight ++ t ∷ [];
@@ -111,6 +116,9 @@ module _ (o : Opening) (plan : Plan) (tale : List Logged) (opened : OpenTasks) (
     ]
   ]
     where
+      was : IsValidWith o plan tale opened old
+      was = may.with_lines
+
       longer : (ts : List ℕ) → line_of_ended o.gives plan Now t ≡ put.line ∷ [] → (Now ++ Lines ts) ++ put.line ∷ [] ≡ Now ++ Lines (ts ++ t ∷ [])
       longer ts is =
           append_assoc Now (Lines ts) (put.line ∷ [])
@@ -121,7 +129,7 @@ module _ (o : Opening) (plan : Plan) (tale : List Logged) (opened : OpenTasks) (
   file_is : p.file ≡ (record_entry put.line).1
   file_is = put.of.file
 
-  place_of : record_path (name_of one.signed.sig) ≡ inside (codes "rec") (hash_text (name_of put.line.sig))
+  place_of : record_path (name_of one.signed.sig) ≡ inside (codes "rec2") (hash_text (name_of put.line.sig))
   place_of = ap record_path (put.of.name)
 
   -- where its line stands its record is held

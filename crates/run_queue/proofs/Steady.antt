@@ -34,11 +34,11 @@ steady_none None e = tt
 steady_none (Some f) e = absurd (let n : Some f ≡ None = e in cc)
 
 -- a publication of what agrees with the task's record
-pub refusal_steady : (rows : List EquivRow) (s : Signed) (tree : Entries) (f : StoreFault) → IsAgreed rows s tree → IsRefusal rows s tree f → IsSteadyAnswer f
-refusal_steady rows s tree fault_of.Disk agreed is = tt
-refusal_steady rows s tree (fault_of.Collision name held given) agreed is = tt
-refusal_steady rows s tree (fault_of.Unsteady pn task held given) agreed is = is.differ (agreed is.row is.is_row).1
-refusal_steady rows s tree fault_of.Memory agreed is = tt
+pub refusal_steady : (rows : List EquivRow) (keys : List (List ℕ)) (s : Signed) (tree : Entries) (f : StoreFault) → IsAgreed rows s tree → IsRefusal rows keys s tree f → IsSteadyAnswer f
+refusal_steady rows keys s tree fault_of.Disk agreed is = tt
+refusal_steady rows keys s tree (fault_of.Collision name held given) agreed is = tt
+refusal_steady rows keys s tree (fault_of.Unsteady pn task held given) agreed is = is.differ (agreed is.row is.is_row).1
+refusal_steady rows keys s tree fault_of.Memory agreed is = tt
 
 -- ---- a clean output agrees with the task's record
 

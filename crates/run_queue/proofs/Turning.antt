@@ -1,5 +1,5 @@
 -- What the turns of a job that is done leave of a run, as views of its state.
-use Rattle.std.proofs.Common.{◌≡◌, ◌≢◌, ◌∙◌, sym, ap, subst, refl, ℕ, ◌<◌, ◌-◌, ◌^◌, ◌⊎◌, inl, inr, zero, suc, arith, min, true, List, [], ◌∷◌, ◌++◌, length, set, All, Some, None, Ok, Err, get_or}
+use Rattle.std.proofs.Common.{◌≡◌, ◌≢◌, ◌∙◌, sym, ap, subst, refl, ℕ, ◌<◌, ◌-◌, ◌^◌, ◌⊎◌, inl, inr, zero, suc, arith, min, Bool, true, false, List, [], ◌∷◌, ◌++◌, length, set, All, Some, None, Ok, Err, get_or}
 use Rattle.tree_model.specs.declared.manifest.ManifestLine.{ManifestLine}
 use Rattle.std.specs.Prelude.{IfSome, IsSome, Option}
 use Rattle.std.specs.Option.{option_map}
@@ -39,7 +39,8 @@ use Rattle.store_model.specs.Recording.{NeedsHaveRows}
 use Rattle.store_model.specs.Reuse.{MayReuse}
 use Rattle.store_model.specs.Signatures.{Signed, signatures}
 use Rattle.store_model.specs.Spelling.{name_of}
-use Rattle.build_store.specs.Publication.{IsPublished, line_for, publication}
+use Rattle.build_store.specs.Keys.{HasNewKey, is_new_key}
+use Rattle.build_store.specs.Publication.{IsPublished, first_publication, line_for, publication}
 use Rattle.store_model.specs.Readable.{IsReadable}
 use Rattle.build_store.specs.View.{SameBooks, View}
 use Rattle.run_model.specs.Opening.{Opening}
@@ -76,13 +77,14 @@ use Rattle.build_store.specs.Pieces.{IsPublishing}
 use Rattle.build_store.specs.Publication.{rows_with}
 use Rattle.build_store.specs.View.{OpenViews, opened_at}
 use Rattle.run_model.specs.Books.{book_after}
-use Rattle.run_queue.specs.Flights.{Closes, FliesAs, IsFlight, OpenTask, OpenTasks, SameOpen, view_of, with_open, without_open}
+use Rattle.run_queue.specs.Flights.{Closes, Flies, FliesAs, IsFlight, MayTurn, OpenTask, OpenTasks, SameOpen, put_of_turn, view_of, with_open, without_open}
 use Rattle.run_queue.specs.Puts.{MayOpen}
 use Rattle.run_queue.specs.Seen.{IsBegun, IsBegunIn}
 use Rattle.run_queue.specs.AskingLaws.{same_story}
 use Rattle.run_queue.proofs.Boarding.{one_more_or_less}
-use Rattle.run_queue.proofs.Concluding.{ended_run, ended_there, fault_run, flies_now, opened_with, put, turned_run}
+use Rattle.run_queue.proofs.Concluding.{ended_run, ended_there, fault_run, flies_now, opened_with, put, steps_may_turn, turned_run}
 use Rattle.run_queue.proofs.Flights.{flight_of}
+use Rattle.run_queue.proofs.FreshKeys.{opening_may_turn}
 use Rattle.run_queue.proofs.Opened.{flies_as, needs_now, none_of, open_besides, unbegun_now, under_way}
 use Rattle.run_queue.proofs.OwnNames.{signed_task_at}
 use Rattle.run_queue.proofs.Passed.{passed_run}
@@ -194,17 +196,37 @@ module _ {D W : Type 0} (story : D → Story) (written : W → List ℕ) (o : Op
         opened_with o (seen story written old) run faultless t seat runs begun begins here (record { signed = x; tree = tree }) none flight apart kept (open_view x tree ∷ old.store.opened)
         (open_besides run.opened old.store.opened (record { signed = x; tree = tree }) (run.open_are faultless))
 
+    -- what flew flies still
+    still : (u : ℕ) → Flies old.plan run.opened u → Flies old.plan (with_open (task_folder x.task) (record { signed = x; tree = tree }) run.opened) u
+    still u flies = (
+      flies.0,
+      (
+        flies.1.0,
+        ((one_more_or_less (task_folder x.task) (record { signed = x; tree = tree }) run.opened).0 none).others (task_folder flies.0.signed.task)
+            (λ same. let n : None ≡ Some flies.0 = sym none ∙ sym (ap run.opened same) ∙ flies.1.1 in cc) ∙ flies.1.1,
+      ),
+    )
+
+    -- its key may be written, where that is new
+    may_turn : (writes : Bool) → (writes ≡ true → HasNewKey old.store.rows old.store.opened x.sig) → EachNow (story old.store.disk) (MayTurn o old.plan old.tale (with_open (task_folder x.task) (record { signed = x; tree = tree }) run.opened) (record { signed = x; tree = tree }) writes)
+    may_turn writes fresh image is =
+        opening_may_turn o old.plan old.tale run.opened (with_open (task_folder x.task) (record { signed = x; tree = tree }) run.opened) old.store.opened
+        (under_way o (seen story written old) run faultless orderly (may_now o (seen story written old) run faultless now.clear)) (run.open_are faultless) (record { signed = x; tree = tree }) writes
+        (λ written. subst (λ (r : List EquivRow). HasNewKey r old.store.opened x.sig) run.rows (fresh written)) still image (run.durable faultless image is)
+
     -- and behind the turn
-    turned_at : (kept : List KeptSig) (views : OpenViews) (fault : Option RunFault) → (fault ≡ None → SameOpen (with_open (task_folder x.task) (record { signed = x; tree = tree }) run.opened) views)
-        → Passes (story old.store.disk) (story store.disk) (IsPublishing (publication old.store.rows x tree) (story old.store.disk).held)
+    turned_at : (writes : Bool) → (writes ≡ true → HasNewKey old.store.rows old.store.opened x.sig) → (kept : List KeptSig) (views : OpenViews) (fault : Option RunFault) → (fault ≡ None → SameOpen (with_open (task_folder x.task) (record { signed = x; tree = tree }) run.opened) views)
+        → Passes (story old.store.disk) (story store.disk) (IsPublishing (put_of_turn old.store.rows (record { signed = x; tree = tree }) writes) (story old.store.disk).held)
         → IsRun o (record (seen story written old) { kept = kept; opened = views; fault = fault; begun = begun; story = story store.disk })
-    turned_at kept views fault are pass =
+    turned_at writes fresh kept views fault are pass =
         let r = before kept in
         turned_run o (record (seen story written old) { kept = kept; opened = open_view x tree ∷ old.store.opened; begun = begun }) r.0
         faultless orderly (may_now o (seen story written old) run faultless now.clear) t (record { signed = x; tree = tree })
         (subst (λ (w : OpenTasks). FliesAs old.plan w t (record { signed = x; tree = tree })) (sym r.1)
         (flies_now o (seen story written old) run faultless t seat runs begun begins here (record { signed = x; tree = tree }) none flight apart))
-        (story store.disk) sound (subst (λ (r : List EquivRow). Passes (story old.store.disk) (story store.disk) (IsPublishing (publication r x tree) (story old.store.disk).held)) run.rows pass) kept views fault
+        writes (subst (λ (w : OpenTasks). EachNow (story old.store.disk) (MayTurn o old.plan old.tale w (record { signed = x; tree = tree }) writes)) (sym r.1) (may_turn writes fresh))
+        (story store.disk) sound
+        (subst (λ (r : List EquivRow). Passes (story old.store.disk) (story store.disk) (IsPublishing (put_of_turn r (record { signed = x; tree = tree }) writes) (story old.store.disk).held)) run.rows pass) kept views fault
         (λ no. subst (λ (w : OpenTasks). SameOpen w views) (sym r.1) (are no))
 
   path : (fault : Option RunFault) → record (seen story written old) { kept = store.kept; opened = store.opened; fault = fault; begun = begun; story = story store.disk } ≡ seen story written (record old { store = store; begun = begun; fault = fault })
@@ -226,14 +248,24 @@ module _ {D W : Type 0} (story : D → Story) (written : W → List ℕ) (o : Op
   -- A turn that opened the publication leaves what a run keeps.
   pub opened_seen : (k : Known) → IsUpToDate old.plan old.store.rows k
       → ((x : Signed) → IsSignedAt old.store.rows old.plan.tasks t x → OpensTask old.store store x tree × MayOpen old.store.rows old.store.opened x tree)
-      → ((x : Signed) → IsSignedAt old.store.rows old.plan.tasks t x → Passes (story old.store.disk) (story store.disk) (IsPublishing (publication old.store.rows x tree) (story old.store.disk).held))
+      → ((store ≡ old.store) ⊎ ((x : Signed) → IsSignedAt old.store.rows old.plan.tasks t x → is_new_key old.store.keys x.sig ≡ true → HasNewKey old.store.rows old.store.opened x.sig))
+      → ((x : Signed) → IsSignedAt old.store.rows old.plan.tasks t x → Passes (story old.store.disk) (story store.disk) (IsPublishing (first_publication old.store.keys old.store.rows x tree) (story old.store.disk).held))
       → IsRun o (seen story written (record old { store = store; begun = begun }))
-  opened_seen k now opens pass =
+  opened_seen k now opens fresh pass =
       let x = signed_at old.store.rows old.plan.tasks t lt in
       let both = opens x.0 x.1 in
       subst (λ (v : Seen). IsRun o v) (path old.fault)
-      (turned_at k now x.0 x.1 both.1 store.kept store.opened old.fault (λ no beside. same x.0 x.1 both.1 both.0 k now beside (path_cases beside (task_folder x.0.task))) (pass x.0 x.1))
+      (turned_at k now x.0 x.1 both.1 (is_new_key old.store.keys x.0.sig) (new_key x.0 both.0 (fresh_of x.0 x.1)) store.kept store.opened old.fault (λ no beside. same x.0 x.1 both.1 both.0 k now beside (path_cases beside (task_folder x.0.task))) (pass x.0 x.1))
     where
+      fresh_of : (x : Signed) → IsSignedAt old.store.rows old.plan.tasks t x → (store ≡ old.store) ⊎ (is_new_key old.store.keys x.sig ≡ true → HasNewKey old.store.rows old.store.opened x.sig)
+      fresh_of x signed = elim fresh [ inl untouched ↦ inl untouched | inr each ↦ inr (each x signed) ]
+
+      -- the store isn't as it was, since the publication is open
+      new_key : (x : Signed) → OpensTask old.store store x tree → (store ≡ old.store) ⊎ (is_new_key old.store.keys x.sig ≡ true → HasNewKey old.store.rows old.store.opened x.sig) → is_new_key old.store.keys x.sig ≡ true → HasNewKey old.store.rows old.store.opened x.sig
+      new_key x opens (inr is) = is
+      new_key x opens (inl untouched) =
+          absurd (let e : None ≡ Some (open_view x tree) = sym opens.opened.none ∙ sym (ap (λ (v : View D). opened_at v.opened (task_folder x.task)) untouched) ∙ opens.opened.is_open in cc)
+
       same : (x : Signed) (signed : IsSignedAt old.store.rows old.plan.tasks t x) (may : MayOpen old.store.rows old.store.opened x tree) → OpensTask old.store store x tree → (k : Known) → IsUpToDate old.plan old.store.rows k → (beside : List ℕ) → (beside ≡ task_folder x.task) ⊎ (beside ≢ task_folder x.task) → option_map view_of (with_open (task_folder
           x.task) (record { signed = x; tree = tree }) run.opened beside) ≡ opened_at store.opened beside
       same x signed may opens k now beside (inl e) =
@@ -246,9 +278,10 @@ module _ {D W : Type 0} (story : D → Story) (written : W → List ℕ) (o : Op
   -- So does a turn in which a fault was met, with that fault.
   pub open_fault_seen : (f : RunFault) → IfSome old.known (IsUpToDate old.plan old.store.rows) → (old.known ≡ None → store ≡ old.store)
       → ((store.disk ≡ old.store.disk) ⊎ ((x : Signed) → IsSignedAt old.store.rows old.plan.tasks t x → MayOpen old.store.rows old.store.opened x tree))
-      → ((x : Signed) → IsSignedAt old.store.rows old.plan.tasks t x → Passes (story old.store.disk) (story store.disk) (IsPublishing (publication old.store.rows x tree) (story old.store.disk).held))
+      → ((store ≡ old.store) ⊎ ((x : Signed) → IsSignedAt old.store.rows old.plan.tasks t x → is_new_key old.store.keys x.sig ≡ true → HasNewKey old.store.rows old.store.opened x.sig))
+      → ((x : Signed) → IsSignedAt old.store.rows old.plan.tasks t x → Passes (story old.store.disk) (story store.disk) (IsPublishing (first_publication old.store.keys old.store.rows x tree) (story old.store.disk).held))
       → IsRun o (seen story written (record old { store = store; begun = begun; fault = Some f }))
-  open_fault_seen f current unlooked may pass = subst (λ (v : Seen). IsRun o v) (path (Some f)) (by old.known refl current)
+  open_fault_seen f current unlooked may fresh pass = subst (λ (v : Seen). IsRun o v) (path (Some f)) (by old.known refl current)
     where
       untouched : store.disk ≡ old.store.disk → IsRun o (record (seen story written old) { kept = store.kept; opened = store.opened; fault = Some f; begun = begun; story = story store.disk })
       untouched disk =
@@ -259,9 +292,12 @@ module _ {D W : Type 0} (story : D → Story) (written : W → List ℕ) (o : Op
       by None is now = untouched (ap (λ (v : View D). v.disk) (unlooked is))
       by (Some k) is now = elim may [
         | inl disk ↦ untouched disk
-        | inr may_open ↦
-            let x = signed_at old.store.rows old.plan.tasks t lt in
-            turned_at k now x.0 x.1 (may_open x.0 x.1) store.kept store.opened (Some f) (λ no. absurd (let n : Some f ≡ None = no in cc)) (pass x.0 x.1)
+        | inr may_open ↦ elim fresh [
+          | inl same ↦ untouched (ap (λ (v : View D). v.disk) same)
+          | inr each ↦
+              let x = signed_at old.store.rows old.plan.tasks t lt in
+              turned_at k now x.0 x.1 (may_open x.0 x.1) (is_new_key old.store.keys x.0.sig) (each x.0 x.1) store.kept store.opened (Some f) (λ no. absurd (let n : Some f ≡ None = no in cc)) (pass x.0 x.1)
+        ]
       ]
 
 -- ---- a publication goes on
@@ -279,7 +315,8 @@ module _ {D W : Type 0} (story : D → Story) (written : W → List ℕ) (o : Op
   behind_it : (k : Known) → IsUpToDate old.plan old.store.rows k → (x : Signed) → IsSignedAt old.store.rows old.plan.tasks t x → (tree : Entries) → IsOpen old.store.opened x tree → (kept : List KeptSig) (views : OpenViews) (fault : Option RunFault) → (fault ≡ None → SameOpen run.opened views)
       → IsRun o (record (seen story written old) { kept = kept; opened = views; fault = fault; story = story store.disk })
   behind_it k now x signed tree open_now kept views fault are =
-      turned_run o (seen story written old) run faultless orderly (may_now o (seen story written old) run faultless now.clear) t (record { signed = x; tree = tree }) (flies x signed tree open_now) (story store.disk) sound (by_book x signed tree open_now) kept views fault are
+      turned_run o (seen story written old) run faultless orderly (may_now o (seen story written old) run faultless now.clear) t (record { signed = x; tree = tree }) (flies x signed tree open_now)
+      false (λ image is. steps_may_turn o old.plan old.tale run.opened (record { signed = x; tree = tree }) image (run.durable faultless image is)) (story store.disk) sound (by_book x signed tree open_now) kept views fault are
 
   step_path : (fault : Option RunFault) → store.rows ≡ old.store.rows → record (seen story written old) { kept = store.kept; opened = store.opened; fault = fault; story = story store.disk } ≡ seen story written (record old { store = store; fault = fault })
   step_path fault rows = λ i. record {
@@ -348,6 +385,9 @@ module _ {D W : Type 0} (story : D → Story) (written : W → List ℕ) (o : Op
     abbrev may : MayReuse o.gives o.reading o.story.held (book_now o (seen story written old)) old.plan.tasks
     may = may_now o (seen story written old) run faultless now.clear
 
+    steps : EachNow (story old.store.disk) (MayTurn o old.plan old.tale run.opened one false)
+    steps image is = steps_may_turn o old.plan old.tale run.opened one image (run.durable faultless image is)
+
     turn : Passes (story old.store.disk) (story after.disk) (IsPublishing (publication (rows_of (book_now o (seen story written old))) x.0 land.tree) (story old.store.disk).held)
     turn = then_same (by_book x.0 x.1 land.tree land.was_open) passed
 
@@ -355,7 +395,7 @@ module _ {D W : Type 0} (story : D → Story) (written : W → List ℕ) (o : Op
     all_there image is = subst (λ (r : List EquivRow). IsPublished (publication r x.0 land.tree) image) run.rows (published x.0 x.1 land.tree land.was_open image (same_now (story store.disk) (story after.disk) image passed is))
 
     abbrev line : IsPut o.gives o.reading (book_now o (seen story written old)) (publication (rows_of (book_now o (seen story written old))) x.0 land.tree) x.0 land.tree
-    line = put o (seen story written old) run faultless orderly may t one fl (story after.disk) sound turn
+    line = put o (seen story written old) run faultless orderly may t one fl false steps (story after.disk) sound turn
 
     rows_are : after.rows ≡ rows_of (book_now o (seen story written old) ++ line.more)
     rows_are = books.rows ∙ land.rows ∙ ap (λ (r : List EquivRow). rows_with r x.0 land.tree) run.rows ∙ line.rows
@@ -382,10 +422,10 @@ module _ {D W : Type 0} (story : D → Story) (written : W → List ℕ) (o : Op
     pub ended_seen : IsRun o (seen story written new)
     ended_seen =
         let course = may_come (min (moment (story after.disk)) (2 ^ 64 - 1)) in
-        let there = made_on made current (λ m is. ended_there o (seen story written old) run faultless orderly may t one fl (story after.disk) sound turn seat all_there later_sound
+        let there = made_on made current (λ m is. ended_there o (seen story written old) run faultless orderly may t one fl false steps (story after.disk) sound turn seat all_there later_sound
         after.rows after.kept after.opened rows_are open_are course tells tell before m was_known was (current_on m is)) in
         subst (IsRun o) same
-        (ended_run o (seen story written old) run faultless orderly may t one fl (story after.disk) sound turn seat all_there later_sound
+        (ended_run o (seen story written old) run faultless orderly may t one fl false steps (story after.disk) sound turn seat all_there later_sound
         after.rows after.kept after.opened (option_map known_in made) new.sink_failed new.fault (written new.sink) rows_are open_are there course)
       where
         Longer : List Logged

@@ -104,6 +104,7 @@ Keeps fault_of.Memory old new answer = (new ≡ old) × (answer ≡ probe.Memory
 -- kept.
 pub record Asks {D : Type 0} (plan : Plan) (tells : Type 0) (story : D → Story) (faults : D → ℕ) (old new : View D) (before now : Option StoreFault) : Type 0 where
   pub rows : new.rows ≡ old.rows
+  pub keys : new.keys ≡ old.keys
   pub kept : new.kept ≡ old.kept
   pub opened : new.opened ≡ old.opened
   pub faultless : new.faultless ≡ old.faultless

@@ -50,6 +50,7 @@ module _ {D : Type 0} (plan : Plan) (tells : Type 0) (story : D → Story) (faul
   pub asks_itself : (v : View D) (f : Option StoreFault) → Asks plan tells story faults v v f f
   asks_itself v f = record {
     rows = refl;
+    keys = refl;
     kept = refl;
     opened = refl;
     faultless = refl;
@@ -62,6 +63,7 @@ module _ {D : Type 0} (plan : Plan) (tells : Type 0) (story : D → Story) (faul
   asks_more : (a b c : View D) (f g h : Option StoreFault) → Asks plan tells story faults a b f g → Asks plan tells story faults b c g h → Asks plan tells story faults a c f h
   asks_more a b c f g h first second = record {
     rows = second.rows ∙ first.rows;
+    keys = second.keys ∙ first.keys;
     kept = second.kept ∙ first.kept;
     opened = second.opened ∙ first.opened;
     faultless = second.faultless ∙ first.faultless;

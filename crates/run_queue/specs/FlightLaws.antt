@@ -31,7 +31,7 @@ use Rattle.run_model.specs.Build.{IsLeftByRun}
 use Rattle.run_model.specs.InFlight.{RunsAfter, book_with, lines_in_flight}
 use Rattle.run_model.specs.Opening.{Opening}
 use Rattle.run_model.specs.Stands.{AllStand, HasBroken, IsPlaced}
-use Rattle.run_queue.specs.Flights.{AreFlights, AreLeft, AreOnce, Closes, Flies, FliesAs, IsFlight, IsInHand, IsUnderWay, IsValidWith, KeepOtherObjects, OpenTask, OpenTasks, OpensAt, SameOpen, StandTo, nothing_open, with_open, without_open}
+use Rattle.run_queue.specs.Flights.{AreFlights, AreLeft, AreOnce, Closes, Flies, FliesAs, IsFlight, IsInHand, IsUnderWay, IsValidWith, KeepOtherObjects, MayTurn, OpenTask, OpenTasks, OpensAt, SameOpen, StandTo, nothing_open, put_of_turn, with_open, without_open}
 use Rattle.run_queue.specs.Joined.{IsOther}
 use Rattle.run_queue.specs.Keeps.{IsToldOf, WasThere, nobody}
 use Rattle.run_queue.specs.Opening.{MayRun}
@@ -98,19 +98,19 @@ MarksKeepFlights = (o : Opening) (plan : Plan) (tale : List Logged) (opened : Op
 
 -- What is valid with some lines in flight stays so through a turn of a publication that is open.
 abbrev pub TurnKeepsValid : Type 0
-TurnKeepsValid = (o : Opening) (plan : Plan) (tale : List Logged) (opened : OpenTasks) → IsUnderWay o plan tale opened → (t : ℕ) (one : OpenTask) → FliesAs plan opened t one →
-    (old new : Store) → IsValidWith o plan tale opened old → Publishes (publication (rows_after o plan tale) one.signed one.tree) old new → IsValidWith o plan tale opened new
+TurnKeepsValid = (o : Opening) (plan : Plan) (tale : List Logged) (opened : OpenTasks) → IsUnderWay o plan tale opened → (t : ℕ) (one : OpenTask) → FliesAs plan opened t one → (writes : Bool) →
+    (old new : Store) → MayTurn o plan tale opened one writes old → Publishes (put_of_turn (rows_after o plan tale) one writes) old new → IsValidWith o plan tale opened new
 
 -- So whatever a crash leaves by then is left by the run, in which the task is begun.
 abbrev pub TurnLeaves : Type 0
-TurnLeaves = (o : Opening) (plan : Plan) (tale : List Logged) (opened : OpenTasks) → IsUnderWay o plan tale opened → (t : ℕ) (one : OpenTask) → FliesAs plan opened t one →
-    (begun : List (Option Avail)) → IsBegunIn begun t → (a b : Story) → IsSound a → moment o.story ≤ moment a → Passes a b (IsPublishing (publication (rows_after o plan tale) one.signed one.tree) a.held) →
-    EachNow a (IsValidWith o plan tale opened) → AreLeft o plan begun tale a → AreLeft o plan begun tale b
+TurnLeaves = (o : Opening) (plan : Plan) (tale : List Logged) (opened : OpenTasks) → IsUnderWay o plan tale opened → (t : ℕ) (one : OpenTask) → FliesAs plan opened t one → (writes : Bool) →
+    (begun : List (Option Avail)) → IsBegunIn begun t → (a b : Story) → IsSound a → moment o.story ≤ moment a → Passes a b (IsPublishing (put_of_turn (rows_after o plan tale) one writes) a.held) →
+    EachNow a (MayTurn o plan tale opened one writes) → AreLeft o plan begun tale a → AreLeft o plan begun tale b
 
 -- Settled tasks stand through it, now and since each event; so do the objects of tasks of which nothing is open.
 abbrev pub TurnKeepsStanding : Type 0
-TurnKeepsStanding = (o : Opening) (plan : Plan) (tale : List Logged) (opened : OpenTasks) → IsUnderWay o plan tale opened → (t : ℕ) (one : OpenTask) → FliesAs plan opened t one →
-    (a b : Story) → IsSound a → ((k : ℕ) (entry : Logged) → slice_get tale k ≡ Some entry → entry.moment ≤ moment a) → Passes a b (IsPublishing (publication (rows_after o plan tale) one.signed one.tree) a.held) →
+TurnKeepsStanding = (o : Opening) (plan : Plan) (tale : List Logged) (opened : OpenTasks) → IsUnderWay o plan tale opened → (t : ℕ) (one : OpenTask) → FliesAs plan opened t one → (writes : Bool) →
+    (a b : Story) → IsSound a → ((k : ℕ) (entry : Logged) → slice_get tale k ≡ Some entry → entry.moment ≤ moment a) → Passes a b (IsPublishing (put_of_turn (rows_after o plan tale) one writes) a.held) →
     (EachNow a (AllStand o plan tale) → EachNow b (AllStand o plan tale))
     × (StandTo o plan tale a → StandTo o plan tale b)
     × (EachNow a (KeepOtherObjects o plan tale opened) → EachNow b (KeepOtherObjects o plan tale opened))

@@ -1,5 +1,5 @@
 -- Publications that are open in a run, and their lines, which are in flight. (Own rules.)
-use Rattle.std.specs.Prelude.{◌≡◌, ◌≢◌, ◌⊎◌, ◌≤◌, ◌<◌, ◌+◌, ◌-◌, ◌^◌, ℕ, List, [], ◌∷◌, ◌++◌, take, Option, Some, None, Ok, if◌then◌else◌}
+use Rattle.std.specs.Prelude.{◌≡◌, ◌≢◌, ◌⊎◌, ◌≤◌, ◌<◌, ◌+◌, ◌-◌, ◌^◌, ℕ, Bool, List, [], ◌∷◌, ◌++◌, take, Option, Some, None, Ok, if◌then◌else◌}
 use Rattle.std.specs.List.{AllByRecursion, slice_get}
 use Rattle.std.specs.Option.{option_map}
 use Rattle.std.specs.Str.{bytes_eq}
@@ -13,6 +13,8 @@ use Rattle.meta_model.specs.declared.plan.Plan.{Plan}
 use Rattle.tale_model.specs.History.{EachAfter}
 use Rattle.run_core.specs.History.{IsOrderly}
 use Rattle.store_model.specs.Available.{task_folder}
+use Rattle.store_model.specs.declared.signature.EquivRow.{EquivRow}
+use Rattle.store_model.specs.Publication.{Publication}
 use Rattle.store_model.specs.Origins.{Book, rows_of}
 use Rattle.store_model.specs.Readable.{IsReadable}
 use Rattle.store_model.specs.Recording.{NeedsHaveRows}
@@ -20,10 +22,11 @@ use Rattle.store_model.specs.Reuse.{MayReuse}
 use Rattle.store_model.specs.Signatures.{Signed, signatures}
 use Rattle.store_model.specs.Spelling.{name_of}
 use Rattle.store_model.specs.Valid.{IsValid}
+use Rattle.build_store.specs.Laws.{WritesNewKey}
 use Rattle.build_store.specs.Openings.{open_view}
-use Rattle.build_store.specs.Publication.{line_for}
+use Rattle.build_store.specs.Publication.{line_for, publication}
 use Rattle.build_store.specs.View.{OpenView, OpenViews, opened_at}
-use Rattle.run_model.specs.Books.{book_after}
+use Rattle.run_model.specs.Books.{book_after, rows_after}
 use Rattle.run_model.specs.CleanOutputs.{Has}
 use Rattle.run_model.specs.Courses.{clean_says, said}
 use Rattle.run_model.specs.InFlight.{RunsAfter, book_with}
@@ -109,6 +112,10 @@ pub record Closes (folder : List ℕ) (opened later : OpenTasks) : Type 0 where
 
 -- ---- what is held
 
+-- what a turn of an open publication puts: its key too, where that is written
+abbrev pub put_of_turn : List EquivRow → OpenTask → Bool → Publication
+put_of_turn rows one writes = record (publication rows one.signed one.tree) { writes_key = writes }
+
 -- no number stands there twice
 abbrev pub AreOnce : List ℕ → Type 0
 AreOnce [] = Unit {0}
@@ -120,6 +127,11 @@ pub record IsValidWith (o : Opening) (plan : Plan) (tale : List Logged) (opened 
   pub fly : AllByRecursion (Flies plan opened) in_flight
   pub once : AreOnce in_flight
   pub valid : IsValid o.gives o.reading image (book_with o plan tale in_flight)
+
+-- ... and where the key of a publication is written in a turn, none of those lines, and none of the book, has a key of its name.
+pub record MayTurn (o : Opening) (plan : Plan) (tale : List Logged) (opened : OpenTasks) (one : OpenTask) (writes : Bool) (image : Store) : Type 0 where
+  pub with_lines : IsValidWith o plan tale opened image
+  pub new_key : WritesNewKey (put_of_turn (rows_after o plan tale) one writes) (book_with o plan tale with_lines.in_flight)
 
 -- the objects of tasks that haven't ended, and of which nothing is open, are as they were when the run began
 abbrev pub KeepOtherObjects : Opening → Plan → List Logged → OpenTasks → Store → Type 0

@@ -27,7 +27,7 @@ use Rattle.meta_model.specs.declared.event.Event.TheVariants as events
 use Rattle.store_model.specs.declared.signature.EquivRow.{EquivRow}
 use Rattle.store_model.specs.Lasting.{IsGrown}
 use Rattle.store_model.specs.Origins.{Book, Reading, rows_of}
-use Rattle.store_model.specs.Premises.{HasNoCollision}
+use Rattle.store_model.specs.Premises.{HasNoCollision, HasOneKey}
 use Rattle.store_model.specs.Recording.{NeedsHaveRows, recorded, with_record}
 use Rattle.store_model.specs.Rows.{row_at}
 use Rattle.store_model.specs.Signatures.{Signed, signatures}
@@ -87,12 +87,12 @@ EndedGrows = (gives : Gives) (plan : Plan) (book : Book) (t : ℕ) (s : Signed) 
     (row_at (rows_of book) (name_of s.sig) ≡ None → book_by gives plan book (events.Ended t) ≡ book ++ recorded (rows_of book) s tree ∷ [])
     × ((row : EquivRow) → row_at (rows_of book) (name_of s.sig) ≡ Some row → book_by gives plan book (events.Ended t) ≡ book)
 
--- So the book after such an entry is one step further of what a run makes of a store by recording, where no line then has the name of a
--- task of the plan and another signature.
+-- So the book after such an entry is one step further of what a run makes of a store by recording, where no line has another key of the digest of the
+-- task's, and none then the name of a task of the plan and another signature.
 abbrev pub EndedIsStep : Type 0
 EndedIsStep = (gives : Gives) (reading : Reading) (plan : Plan) (start now : Store) (first book : Book) → IsGrown gives reading plan.tasks start first now book →
     (t : ℕ) (s : Signed) (built : Built) (tree : Entries) → slice_get (signatures (rows_of book) plan.tasks) t ≡ Some s → slice_get (clean_build gives plan.tasks) t ≡ Some built → built.outcome ≡ Ok tree →
-    NeedsHaveRows (rows_of book) (signatures (rows_of book) plan.tasks) s.task → row_at (rows_of book) (name_of s.sig) ≡ None →
+    NeedsHaveRows (rows_of book) (signatures (rows_of book) plan.tasks) s.task → row_at (rows_of book) (name_of s.sig) ≡ None → HasOneKey book s.sig →
     HasNoCollision (book_by gives plan book (events.Ended t)) (rows_of (book_by gives plan book (events.Ended t))) plan.tasks →
     IsGrown gives reading plan.tasks start first (with_record now (recorded (rows_of book) s tree)) (book_by gives plan book (events.Ended t))
 

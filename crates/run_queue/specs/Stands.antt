@@ -12,7 +12,7 @@ use Rattle.store_model.specs.Available.{object_folder, stamp_path, work_folder}
 use Rattle.store_model.specs.Origins.{Book, Line}
 use Rattle.store_model.specs.Lines.{HasLine}
 use Rattle.store_model.specs.Readable.{IsReadable}
-use Rattle.store_model.specs.Paths.{slashes}
+use Rattle.outside_traits.specs.Store.{slashes}
 use Rattle.store_model.specs.Publication.{stamp_at}
 use Rattle.run_model.specs.Opening.{Opening}
 use Rattle.run_model.specs.InFlight.{IsValidAfter, book_with}

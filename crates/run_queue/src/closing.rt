@@ -1,5 +1,5 @@
 // A job that is done comes to an end, in several turns: its output is published, or it is marked how it failed.
-ghost use Rattle.std.specs.Prelude.{◌≡◌, ◌<◌, ◌≤◌, ◌⊎◌, Bool, IfErr, IfOk, IfSome, IsSome, None, OnErr, OnOk, Some, is_some, length};
+ghost use Rattle.std.specs.Prelude.{◌≡◌, ◌<◌, ◌≤◌, ◌⊎◌, Bool, true, IfErr, IfOk, IfSome, IsSome, None, OnErr, OnOk, Some, is_some, length};
 ghost use Rattle.std.specs.List.{slice_get};
 ghost use Rattle.outside_traits.specs.Passes.{Passes, Same};
 ghost use Rattle.meta_model.specs.CleanBuild.{Entries};
@@ -15,7 +15,8 @@ ghost use Rattle.sig_gen.specs.Signing.{signature_by};
 ghost use Rattle.setscene_plan.specs.Replans.{IsCurrent, IsSettled, unihashes_in};
 ghost use Rattle.build_store.specs.Openings.{IsOpen, LandsOn, OpensTask, StepsTo};
 ghost use Rattle.build_store.specs.Pieces.{IsPublishing};
-ghost use Rattle.build_store.specs.Publication.{AreShort, IsAgreed, publication};
+ghost use Rattle.build_store.specs.Keys.{HasNewKey, is_new_key};
+ghost use Rattle.build_store.specs.Publication.{AreShort, IsAgreed, first_publication, publication};
 ghost use Rattle.build_store.specs.View.{SameBooks, opened_at};
 ghost use Rattle.task_worker.specs.Jobs.{IsGiven};
 ghost use Rattle.run_model.specs.Opening.{Opening};
@@ -105,9 +106,11 @@ fn open_in<D: Disk>(
     ensures rows { store.new.rows ≡ store.old.rows }
     ensures may { (store.new.disk ≡ store.old.disk) ⊎ ((s : Signed) → IsSignedAt store.old.rows plan.now.tasks task s
         → MayOpen store.old.rows store.old.opened s tree) }
+    ensures new_key { (store.new ≡ store.old) ⊎ ((s : Signed) → IsSignedAt store.old.rows plan.now.tasks task s
+        → is_new_key store.old.keys s.sig ≡ true → HasNewKey store.old.rows store.old.opened s.sig) }
     ensures publishing { D.tells → (s : Signed) → IsSignedAt store.old.rows plan.now.tasks task s
         → Passes (D.story store.old.disk) (D.story store.new.disk)
-        (IsPublishing (publication store.old.rows s tree) (D.story store.old.disk).held) }
+        (IsPublishing (first_publication store.old.keys store.old.rows s tree) (D.story store.old.disk).held) }
 {
     let sig = signature(alloc, plan, replan, task)?;
     let task = &plan.tasks.as_slice()[task as usize];

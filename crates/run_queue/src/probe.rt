@@ -15,7 +15,7 @@ use setscene_plan::{Probe, ProbeFault, Replan};
 use sig_gen::{encode, name_by};
 use std::alloc::Global;
 use std::marker::{Brand, PhantomData};
-use store_model::SigRecord;
+use store_model::{SigRecord, SigText};
 use tree_model::{Hash, Mem};
 
 /// What was kept of a plan's tasks before a store is asked.
@@ -88,8 +88,8 @@ fn as_begun<D: Disk>(
 ) -> Result<Avail, Mem>
     ensures { IfOk result (λ there. there ≡ begun_as store.now.rows sig.now before) }
 {
-    let bytes = encode(alloc, sig)?;
-    let name = name_by(bytes.as_slice());
+    let text = encode(alloc, sig)?;
+    let name = name_by(&text);
     match store.unihash(&name) {
         Some(_) => Ok(before),
         None => Ok(Avail::Missing),
@@ -120,11 +120,11 @@ impl<D: Disk, E: Before> Probe for Asking<'_, D, E> {
         self.store.unihash(name)
     }
 
-    fn known_name(&self, pn: &str, sig: &[u8]) -> Option<Hash> {
+    fn known_name(&self, pn: &str, sig: &SigText) -> Option<Hash> {
         self.store.known_name(pn, sig)
     }
 
-    fn compare(&mut self, name: &Hash, sig: &[u8]) -> Result<(), ProbeFault> {
+    fn compare(&mut self, name: &Hash, sig: &SigText) -> Result<(), ProbeFault> {
         match self.fault {
             Some(_) => return Err(ProbeFault::Memory),
             None => {}

@@ -1,22 +1,50 @@
 // What the store's records tell of tasks: of what they gave, and of earlier runs of them.
 use crate::stamped::stamp_of;
-use host_files::is_memory;
+use host_files::{is_memory, no_memory};
 use meta_model::{PlanTask, TaskId};
-use sig_gen::decode_stored;
+use sig_gen::{decode_short_stored, decode_stored};
 use std::time::SystemTime;
 use std::{fs, io};
-use store_model::StoredSig;
+use store_model::{ShortStored, StoredSig};
 use tree_model::Hash;
 
-/// The most bytes of a record that is looked at, and how many are looked at where no stamp names one.
+/// The most bytes of a record or of a key that is looked at, and how many are looked at where no stamp names one.
 const MOST: u64 = 268_435_456;
 
 const MOST_RECORDS: usize = 4096;
 
-/// A record, if there is one at this path.
-fn record_at(rt: &HostRuntime, path: &str) -> io::Result<Option<StoredSig>> {
+/// What a record's file says, if there is one at this path.
+fn short_at(rt: &HostRuntime, path: &str) -> io::Result<Option<ShortStored>> {
     let bytes = fs::read(rt, path)?;
-    match decode_stored(rt.alloc(), bytes.as_slice()) {
+    match decode_short_stored(rt.alloc(), bytes.as_slice()) {
+        Ok(stored) => Ok(Some(stored)),
+        Err(_) => Ok(None),
+    }
+}
+
+/// The bytes of the key of a record, where a store has it.
+fn key_of(rt: &HostRuntime, store: &str, stored: &ShortStored) -> io::Result<Option<Vec<u8>>> {
+    let name = match stored.sig.key.text(rt.alloc()) {
+        Ok(name) => name,
+        Err(wanting) => return Err(no_memory(wanting)),
+    };
+    let path = format!(in rt.alloc(); "{store}/key/{}", name.as_str())?;
+    match written_at(rt, path.as_str())? {
+        Some(_) => Ok(Some(fs::read(rt, path.as_str())?)),
+        None => Ok(None),
+    }
+}
+
+/// A record with its key, if both are there.
+fn record_at(rt: &HostRuntime, store: &str, path: &str) -> io::Result<Option<StoredSig>> {
+    let Some(short) = short_at(rt, path)? else {
+        return Ok(None);
+    };
+    let Some(key) = key_of(rt, store, &short)? else {
+        return Ok(None);
+    };
+    let bytes = fs::read(rt, path)?;
+    match decode_stored(rt.alloc(), bytes.as_slice(), key.as_slice()) {
         Ok(stored) => Ok(Some(stored)),
         Err(_) => Ok(None),
     }
@@ -31,16 +59,24 @@ fn written_at(rt: &HostRuntime, path: &str) -> io::Result<Option<SystemTime>> {
     Ok(Some(there.modified()?))
 }
 
+/// The path of the record of a name in a store, where one may stand there.
+fn record_path(rt: &HostRuntime, store: &str, name: &str) -> io::Result<Option<String>> {
+    let path = format!(in rt.alloc(); "{store}/rec2/{name}")?;
+    match written_at(rt, path.as_str()) {
+        Ok(Some(_)) => Ok(Some(path)),
+        _ => Ok(None),
+    }
+}
+
 /// The record of a name in a store, where it can be read.
 pub(crate) fn record_of(
     rt: &HostRuntime,
     store: &str,
     name: &str,
 ) -> io::Result<Option<StoredSig>> {
-    let path = format!(in rt.alloc(); "{store}/rec/{name}")?;
-    match written_at(rt, path.as_str()) {
-        Ok(Some(_)) => Ok(record_at(rt, path.as_str()).unwrap_or_default()),
-        _ => Ok(None),
+    match record_path(rt, store, name)? {
+        Some(path) => Ok(record_at(rt, store, path.as_str()).unwrap_or_default()),
+        None => Ok(None),
     }
 }
 
@@ -51,7 +87,10 @@ pub(crate) fn unihash_of(rt: &HostRuntime, store: &str, id: &TaskId) -> io::Resu
         Err(error) if is_memory(&error) => return Err(error),
         _ => return Ok(None),
     };
-    match record_of(rt, store, name.as_str())? {
+    let Some(path) = record_path(rt, store, name.as_str())? else {
+        return Ok(None);
+    };
+    match short_at(rt, path.as_str()).unwrap_or_default() {
         Some(stored) => Ok(Some(stored.unihash)),
         None => Ok(None),
     }
@@ -73,34 +112,47 @@ pub(crate) struct Started<'p> {
     pub(crate) sought: Option<SystemTime>,
 }
 
-/// Takes a record for the task that it is of, where one is sought and it is newer than the one that was found.
-fn take_newer(started: &mut [Started<'_>], stored: StoredSig, written: SystemTime) {
+/// The task that a record is of, where one is sought and the record is newer than the one that was found.
+fn newer_of<'a, 'p>(
+    started: &'a mut [Started<'p>],
+    stored: &ShortStored,
+    written: SystemTime,
+) -> Option<&'a mut Started<'p>> {
     for one in started {
         let id = &one.task.id;
         if id.task.as_str() == stored.sig.task.as_str()
             && id.pn.as_str() == stored.sig.pn.as_str()
         {
-            if one.sought.is_some_and(|before| before < written) {
-                one.sought = Some(written);
-                one.was = Some(stored);
-            }
-            return;
+            return one
+                .sought
+                .is_some_and(|before| before < written)
+                .then_some(one);
         }
     }
+    None
 }
 
-/// Takes what a record at this path tells, where it was written before this time.
+/// Takes what a record at this path tells, where it was written before this time. Its key is read only where it is taken.
 fn seek_in(
     rt: &HostRuntime,
+    store: &str,
     started: &mut [Started<'_>],
     path: &str,
     begun: SystemTime,
 ) -> io::Result<()> {
-    if let Some(written) = written_at(rt, path)? {
-        if written < begun {
-            if let Some(stored) = record_at(rt, path)? {
-                take_newer(started, stored, written);
-            }
+    let Some(written) = written_at(rt, path)? else {
+        return Ok(());
+    };
+    if written >= begun {
+        return Ok(());
+    }
+    let Some(short) = short_at(rt, path)? else {
+        return Ok(());
+    };
+    if let Some(one) = newer_of(started, &short, written) {
+        if let Some(stored) = record_at(rt, store, path)? {
+            one.sought = Some(written);
+            one.was = Some(stored);
         }
     }
     Ok(())
@@ -116,11 +168,11 @@ pub(crate) fn seek(
     if started.iter().all(|one| one.sought.is_none()) {
         return Ok(());
     }
-    let folder = format!(in rt.alloc(); "{store}/rec")?;
+    let folder = format!(in rt.alloc(); "{store}/rec2")?;
     for entry in fs::read_dir(rt, folder.as_str())?.take(MOST_RECORDS) {
         let entry = entry?;
         let path = entry.path();
-        let _ = seek_in(rt, started, path.as_str(), begun);
+        let _ = seek_in(rt, store, started, path.as_str(), begun);
     }
     Ok(())
 }

@@ -8,14 +8,14 @@ use setscene_plan::{Probe, ProbeFault};
 use sig_gen::{encode, name_by};
 use std::alloc::Global;
 use std::collections::HashMap;
-use store_model::SigRecord;
-use tree_model::{Bytes, Hash, Mem};
+use store_model::{SigRecord, SigText};
+use tree_model::{Hash, Mem};
 
 /// What the index keeps of a record, by the bytes of its name.
 #[derive(Drop)]
 pub struct Row {
-    /// The encoded signature.
-    pub sig: Bytes,
+    /// The whole text of the signature.
+    pub sig: SigText,
     /// The name under which tasks above name it.
     pub unihash: Hash,
 }
@@ -71,7 +71,7 @@ impl<'a> Index<'a> {
     }
 
     /// Puts a record in the place of the one of its name.
-    pub(crate) fn put(&mut self, name: Hash, sig: Bytes, unihash: Hash) -> Result<(), Mem>
+    pub(crate) fn put(&mut self, name: Hash, sig: SigText, unihash: Hash) -> Result<(), Mem>
         ensures plan { self.new.plan.now ≡ self.old.plan.now }
         ensures puts { OnOk result (Puts name sig self.old.rows self.new.rows) }
     {
@@ -83,17 +83,17 @@ impl<'a> Index<'a> {
     fn has(&self, sig: &SigRecord) -> Result<bool, Mem>
         ensures { IfOk result (λ found. found ≡ true → row_at (rows_of self.now.rows) (name_of sig.now) ≢ None) }
     {
-        let bytes = encode(self.alloc, sig)?;
-        let name = name_by(bytes.as_slice());
+        let text = encode(self.alloc, sig)?;
+        let name = name_by(&text);
         Ok(self.unihash(&name).is_some())
     }
 }
 
-/// Whether these bytes are the row's signature.
-fn is_signed(row: &Row, sig: &[u8]) -> bool
+/// Whether this text is that of the row's signature.
+fn is_signed(row: &Row, sig: &SigText) -> bool
     ensures { MatchBool result (row.now.sig ≡ sig.now) (row.now.sig ≡ sig.now → ⊥) }
 {
-    row.sig.as_slice() == sig
+    row.sig.is_same(sig)
 }
 
 impl Probe for Index<'_> {
@@ -118,11 +118,11 @@ impl Probe for Index<'_> {
         }
     }
 
-    fn known_name(&self, _pn: &str, _sig: &[u8]) -> Option<Hash> {
+    fn known_name(&self, _pn: &str, _sig: &SigText) -> Option<Hash> {
         None
     }
 
-    fn compare(&mut self, name: &Hash, sig: &[u8]) -> Result<(), ProbeFault> {
+    fn compare(&mut self, name: &Hash, sig: &SigText) -> Result<(), ProbeFault> {
         match self.rows.get(&name.bytes) {
             None => return Ok(()),
             Some(row) => {

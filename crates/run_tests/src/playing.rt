@@ -11,9 +11,10 @@ use crate::index::Index;
 use meta_model::{Event, Options, Plan, Why};
 use run_core::{Board, Front, Next};
 use setscene_plan::{ProbeFault, Replan};
-use sig_gen::{encode, sig_of};
+use sig_gen::{encode, name_by, sig_of};
 use std::alloc::Global;
-use tree_model::{Bytes, Hash, Mem};
+use store_model::SigText;
+use tree_model::{Hash, Mem};
 
 /// What becomes of a task that starts.
 #[derive(Clone, Copy, Debug, PartialEq, Eq)]
@@ -95,9 +96,9 @@ fn fail(index: &Index, play: &mut Play, task: u32)
     play.front.after(&failed, &[]);
 }
 
-/// The name of a task's signature, by these unihashes, and its bytes.
+/// The name of a task's signature, by these unihashes, and its whole text.
 #[tactic(auto, unfolding(store_model::specs::Spelling::name_of))]
-fn sign(alloc: Global, plan: &Plan, task: u32, unihashes: &[Hash]) -> Result<(Hash, Bytes), Mem>
+fn sign(alloc: Global, plan: &Plan, task: u32, unihashes: &[Hash]) -> Result<(Hash, SigText), Mem>
     requires task { task < length plan.now.tasks }
     requires unihashes { length unihashes.now ≡ length plan.now.tasks }
     ensures name { IfOk result (λ made. IfSome (slice_get plan.now.tasks task)
@@ -106,8 +107,8 @@ fn sign(alloc: Global, plan: &Plan, task: u32, unihashes: &[Hash]) -> Result<(Ha
         (λ own. made.1 ≡ signature_bytes (signature_by plan.now.tasks unihashes.now own))) }
 {
     let sig = sig_of(alloc, plan, task, unihashes)?;
-    let bytes = encode(alloc, &sig)?;
-    Ok((Hash::of(bytes.as_slice()), bytes))
+    let text = encode(alloc, &sig)?;
+    Ok((name_by(&text), text))
 }
 
 /// Puts the record of a task, which has ended, into the index. Its unihash is this one, or its own name.
@@ -123,8 +124,8 @@ fn record(
     ensures plan { index.new.plan.now ≡ index.old.plan.now }
     ensures settled { OnOk result (IsSettled no_objects (view_of index.new) task replan.now) }
 {
-    let (name, bytes) = sign(alloc, index.plan, task, replan.unihashes())?;
-    index.put(name, bytes, unihash.unwrap_or(name))?;
+    let (name, text) = sign(alloc, index.plan, task, replan.unihashes())?;
+    index.put(name, text, unihash.unwrap_or(name))?;
     Ok(())
 }
 

@@ -75,12 +75,12 @@ named_all rows tasks names us place past long wide before = record {
 
 -- ---- what a probe is asked
 
--- The name and the bytes that were worked out are those of the task's own signature, where the tasks before it have theirs.
-pub named_for : (view : View) (plan : Plan) (names us unihashes : List Hash) (place : ℕ) (name : Hash) (given bytes : List ℕ) → view.plan ≡ plan → AreOrdered plan.tasks → place < length plan.tasks → unihashes ≡ us → given ≡ bytes
+-- The name and the text that were worked out are those of the task's own signature, where the tasks before it have theirs.
+pub named_for : (view : View) (plan : Plan) (names us unihashes : List Hash) (place : ℕ) (name : Hash) (text : List ℕ) → view.plan ≡ plan → AreOrdered plan.tasks → place < length plan.tasks → unihashes ≡ us
     → ((t : ℕ) → t < place → IsNamed plan.tasks names us t × IsHashed view.rows names us t)
     → IfSome (slice_get plan.tasks place) (λ own. name ≡ name_of (signature_by plan.tasks unihashes own))
-    → IfSome (slice_get plan.tasks place) (λ own. bytes ≡ signature_bytes (signature_by plan.tasks unihashes own)) → IsNamedFor view name given
-named_for view plan names us unihashes place name given bytes is ordered lt kept same before named spelled =
+    → IfSome (slice_get plan.tasks place) (λ own. text ≡ signature_bytes (signature_by plan.tasks unihashes own)) → IsNamedFor view name text
+named_for view plan names us unihashes place name text is ordered lt kept before named spelled =
     let tasks = plan.tasks in
     let found = signed_at view.rows tasks place lt in
     let at : slice_get tasks place ≡ Some found.0.task = signed_task view.rows tasks place found.0 found.1 in
@@ -89,7 +89,7 @@ named_for view plan names us unihashes place name given bytes is ordered lt kept
       number = place;
       signed = found.0;
       is_signed = ap (λ (p : Plan). slice_get (signatures view.rows p.tasks) place) is ∙ found.1;
-      spelled = same ∙ subst (λ o. IfSome o (λ x. bytes ≡ signature_bytes (signature_by tasks unihashes x))) at spelled ∙ ap signature_bytes own;
+      spelled = subst (λ o. IfSome o (λ x. text ≡ signature_bytes (signature_by tasks unihashes x))) at spelled ∙ ap signature_bytes own;
       named = subst (λ o. IfSome o (λ x. name ≡ name_of (signature_by tasks unihashes x))) at named ∙ ap name_of own;
     }
 

@@ -1,5 +1,5 @@
 -- Names that are worked out anew, one after the other.
-use Rattle.std.proofs.Common.{◌≡◌, ◌≢◌, ◌∙◌, sym, ap, subst, refl, ℕ, zero, suc, ◌+◌, ◌<◌, ◌≤◌, arith, Bool, true, false, nat_eq, List, [], ◌∷◌, length, get_or, set, length-set, get_or-set_same, All, Contains, Option, Some, slice_get, inl, inr, eqb-true}
+use Rattle.std.proofs.Common.{◌≡◌, ◌≢◌, ◌∙◌, sym, ap, subst, refl, ℕ, zero, suc, ◌+◌, ◌<◌, ◌≤◌, arith, Bool, true, false, nat_eq, List, [], ◌∷◌, length, get_or, set, length-set, get_or-set_same, All, Contains, IfSome, Option, Some, slice_get, inl, inr, eqb-true}
 use Rattle.std.specs.HashMap.{get}
 use Rattle.std.specs.Cmp.Lexicographic.{pointwise}
 use Rattle.std.proofs.lemmas.Bool.{cases_lt}
@@ -11,15 +11,53 @@ use Rattle.meta_model.proofs.Bools.{either_way}
 use Rattle.run_core.specs.Need.{AreOrdered}
 use Rattle.tale_model.specs.Need.{deps_of}
 use Rattle.store_model.specs.declared.signature.EquivRow.{EquivRow}
-use Rattle.store_model.specs.Spelling.{name_of}
+use Rattle.store_model.specs.Rows.{uni, IsClear}
+use Rattle.store_model.specs.Spelling.{name_of, signature_bytes}
 use Rattle.sig_gen.specs.Signing.{signature_by}
 use Rattle.setscene_plan.specs.declared.work.Names.{Names}
 use Rattle.setscene_plan.specs.Names.{IsClearAt}
 use Rattle.setscene_plan.specs.Owners.{IsOwned, Owners}
 use Rattle.setscene_plan.specs.Reworks.{HaveOneName, IsFound, IsRightAt, PutsAll, Renames}
+use Rattle.setscene_plan.proofs.Learning.{else_where}
 use Rattle.setscene_plan.proofs.Renaming.{clear_kept, hashed_kept, named_kept, needs_before, signature_kept}
 
 -- ---- one place
+
+-- a task is named, found by its name, and has its unihash
+pub named_one : (rows : List EquivRow) (tasks : List PlanTask) (place : ℕ) (old put new : Names) (name unihash : Hash) (text : List ℕ) (us : List Hash) → place < length tasks → length old.names.items ≡ length tasks
+    → length old.unihashes.items ≡ length tasks → us ≡ old.unihashes.items
+    → IfSome (slice_get tasks place) (λ own. name ≡ name_of (signature_by tasks us own)) → IfSome (slice_get tasks place) (λ own. text ≡ signature_bytes (signature_by tasks us own)) → IsClear rows name text
+    → put.names.items ≡ set old.names.items place name → put.unihashes.items ≡ old.unihashes.items → new ≡ record put { unihashes = new.unihashes } → new.unihashes.items ≡ set put.unihashes.items place unihash
+    → unihash ≡ uni rows name → IsFound put place → ((t : ℕ) → t ≢ place → IsFound old t → IsFound put t) → Renames rows tasks place old new
+named_one rows tasks place old put new name unihash text us lt long wide kept named spelled clear names same only hashes known found others = record {
+  long = ap length new_names ∙ length-set old.names.items place name;
+  wide = ap length new_us ∙ length-set old.unihashes.items place unihash;
+  names = λ t ne. ap (λ (l : List Hash). slice_get l t) new_names ∙ else_where old.names.items name place t ne;
+  unihashes = λ t ne. ap (λ (l : List Hash). slice_get l t) new_us ∙ else_where old.unihashes.items unihash place t ne;
+  named = λ task at. named_here ∙ ap Some (own task at);
+  clear = λ task at. subst (λ (n : Hash). IsClear rows n (signature_bytes (signature_by tasks old.unihashes.items task))) (own task at) (subst (IsClear rows name) (own_text task at) clear);
+  hashed = λ n at. ap (λ (l : List Hash). slice_get l place) new_us ∙ there old.unihashes.items unihash (omega (arith, lt, wide)) ∙ ap Some (known ∙ ap (uni rows) (same_Some name n (sym named_here ∙ at)));
+  found = subst (λ (n : Names). IsFound n place) (sym only) found;
+  others = λ t ne is. subst (λ (n : Names). IsFound n t) (sym only) (others t ne is);
+}
+  where
+    new_names : new.names.items ≡ set old.names.items place name
+    new_names = ap (λ (n : Names). n.names.items) only ∙ names
+
+    new_us : new.unihashes.items ≡ set old.unihashes.items place unihash
+    new_us = hashes ∙ ap (λ (l : List Hash). set l place unihash) same
+
+    there : (xs : List Hash) (v : Hash) → place < length xs → slice_get (set xs place v) place ≡ Some v
+    there xs v inside = slice_get-get_or (set xs place v) place v (omega (arith, inside, length-set xs place v)) ∙ ap Some (get_or-set_same xs place v v inside)
+
+    named_here : slice_get new.names.items place ≡ Some name
+    named_here = ap (λ (l : List Hash). slice_get l place) new_names ∙ there old.names.items name (omega (arith, lt, long))
+
+    own : (task : PlanTask) → slice_get tasks place ≡ Some task → name ≡ name_of (signature_by tasks old.unihashes.items task)
+    own task at = subst (λ (o : Option PlanTask). IfSome o (λ x. name ≡ name_of (signature_by tasks us x))) at named ∙ ap (λ (l : List Hash). name_of (signature_by tasks l task)) kept
+
+    own_text : (task : PlanTask) → slice_get tasks place ≡ Some task → text ≡ signature_bytes (signature_by tasks old.unihashes.items task)
+    own_text task at = subst (λ (o : Option PlanTask). IfSome o (λ x. text ≡ signature_bytes (signature_by tasks us x))) at spelled ∙ ap (λ (l : List Hash). signature_bytes (signature_by tasks l task)) kept
 
 pub put_same : (us : List Hash) (place : ℕ) (v u : Hash) → v ≡ get_or us place v → v ≡ u → us ≡ set us place u
 put_same us place v u e f = sym (ap (set us place) (sym f ∙ e) ∙ set-get_or us place v)

@@ -35,7 +35,7 @@ pub record IsAskedOf (view : View) (number : ℕ) (sig : SigRecord) : Type 0 whe
   pub is_signed : slice_get (signatures view.rows view.plan.tasks) number ≡ Some signed
   pub is : sig ≡ signed.sig
 
--- the bytes are those of the signature of a task of the plan, over the rows, and the name is that of it
+-- the whole text is that of the signature of a task of the plan, over the rows, and the name is that of it
 pub record IsNamedFor (view : View) (name : Hash) (bytes : List ℕ) : Type 0 where
   pub number : ℕ
   pub signed : Signed
@@ -43,7 +43,7 @@ pub record IsNamedFor (view : View) (name : Hash) (bytes : List ℕ) : Type 0 wh
   pub spelled : bytes ≡ signature_bytes signed.sig
   pub named : name ≡ name_of signed.sig
 
--- the row of this name has other bytes as its signature
+-- the row of this name has another text as its signature
 pub record HasOther (rows : List EquivRow) (name : Hash) (bytes : List ℕ) : Type 0 where
   pub row : EquivRow
   pub is_row : row_at rows name ≡ Some row

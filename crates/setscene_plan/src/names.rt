@@ -11,13 +11,14 @@ use crate::probe::Probe;
 use meta_model::Plan;
 use sig_gen::{encode_sig_of, name_by};
 use std::alloc::Global;
-use tree_model::{Bytes, Hash, Mem};
+use store_model::SigText;
+use tree_model::{Hash, Mem};
 
-/// The name of a signature, and its bytes.
+/// The name of a signature, and its whole text.
 #[derive(Drop)]
 pub(crate) struct Signed {
     pub(crate) name: Hash,
-    pub(crate) bytes: Bytes,
+    pub(crate) text: SigText,
 }
 
 /// The unihash of a name: that of its row, and the name itself where there is none.
@@ -30,17 +31,17 @@ pub(crate) fn unihash_of<P: Probe>(probe: &P, name: &Hash) -> Hash
     }
 }
 
-/// The name of a signature, which has this PN, by its bytes: as the probe knows it, else their digest.
-fn known_name<P: Probe>(probe: &P, pn: &str, bytes: &[u8]) -> Hash
-    ensures { IsNameBy bytes.now result }
+/// The name of a signature, which has this PN, by its whole text: as the probe knows it, else a digest.
+fn known_name<P: Probe>(probe: &P, pn: &str, text: &SigText) -> Hash
+    ensures { IsNameBy text.now result }
 {
-    match probe.known_name(pn, bytes) {
+    match probe.known_name(pn, text) {
         Some(name) => name,
-        None => name_by(bytes),
+        None => name_by(text),
     }
 }
 
-/// The name of a task's signature, by these unihashes, and its bytes.
+/// The name of a task's signature, by these unihashes, and its whole text.
 pub(crate) fn sign<P: Probe>(
     alloc: Global,
     plan: &Plan,
@@ -52,13 +53,13 @@ pub(crate) fn sign<P: Probe>(
     requires unihashes { length unihashes.now ≡ length plan.now.tasks }
     ensures name { IfOk result (λ made. IfSome (slice_get plan.now.tasks task)
         (λ own. made.name ≡ name_of (signature_by plan.now.tasks unihashes.now own))) }
-    ensures bytes { IfOk result (λ made. IfSome (slice_get plan.now.tasks task)
-        (λ own. made.bytes ≡ signature_bytes (signature_by plan.now.tasks unihashes.now own))) }
+    ensures text { IfOk result (λ made. IfSome (slice_get plan.now.tasks task)
+        (λ own. made.text ≡ signature_bytes (signature_by plan.now.tasks unihashes.now own))) }
 {
-    let bytes = encode_sig_of(alloc, plan, task, unihashes)?;
+    let text = encode_sig_of(alloc, plan, task, unihashes)?;
     let pn = plan.tasks.as_slice()[task as usize].id.pn.as_str();
-    let name = known_name(probe, pn, bytes.as_slice());
-    Ok(Signed { name, bytes })
+    let name = known_name(probe, pn, &text);
+    Ok(Signed { name, text })
 }
 
 /// So many digests of zeros.

@@ -4,7 +4,7 @@ ghost use Rattle.std.specs.Prelude.{◌≡◌};
 
 use meta_model::{Avail, Plan};
 use std::alloc::{AllocError, AllocFailed};
-use store_model::SigRecord;
+use store_model::{SigRecord, SigText};
 use tree_model::{Hash, Mem};
 
 /// Why a question isn't answered.
@@ -70,15 +70,15 @@ pub trait Probe {
     fn unihash(&self, name: &Hash) -> Option<Hash>
         ensures { result ≡ option_map (λ row. row.unihash) (row_at (view self.now).rows name.now) };
 
-    /// The name of a signature, which has this PN, by its bytes, where that is known without a digest of them.
-    fn known_name(&self, pn: &str, sig: &[u8]) -> Option<Hash>
+    /// The name of a signature, which has this PN, by its whole text, where that is known without a digest.
+    fn known_name(&self, pn: &str, sig: &SigText) -> Option<Hash>
         ensures { IfSome result (IsNameBy sig.now) };
 
-    /// Compares the bytes of the signature of a task of the plan with those of the row of its name, if there is one. It looks at
+    /// Compares the whole text of the signature of a task of the plan with that of the row of its name, if there is one. It looks at
     /// the rows alone.
     ///
     /// `Store` comes only where that row has another signature.
-    fn compare(&mut self, name: &Hash, sig: &[u8]) -> Result<(), ProbeFault>
+    fn compare(&mut self, name: &Hash, sig: &SigText) -> Result<(), ProbeFault>
         requires { IsNamedFor (view self.old) name.now sig.now }
         ensures clear { OnOk result (IsClear (view self.old).rows name.now sig.now) }
         ensures other { IsErrOf result ProbeFault.Store → HasOther (view self.old).rows name.now sig.now }

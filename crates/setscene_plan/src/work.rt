@@ -145,7 +145,7 @@ impl Names {
         ensures cause { Counts (P.faults probe.old) (P.faults probe.new) (probe_failed result) }
     {
         let made = sign(alloc, plan, probe, place, self.unihashes.as_slice())?;
-        probe.compare(&made.name, made.bytes.as_slice())?;
+        probe.compare(&made.name, &made.text)?;
         self.put(place, made.name)?;
         Ok(self.put_unihash(place, unihash_of(probe, &made.name)))
     }

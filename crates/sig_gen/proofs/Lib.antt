@@ -13,3 +13,4 @@ pub mod Gathering
 pub mod LaidOrder
 pub mod Needing
 pub mod ShortLaws
+pub mod FirstReading

@@ -1,13 +1,9 @@
--- The second format: what is read is spelled so, and what is spelled so is read.
-use Rattle.std.proofs.Common.{◌≡◌, ◌∙◌, sym, ap, refl, subst, ℕ, zero, suc, lit<, ◌<◌, mod-lt, Bool, true, false, cond, List, [], ◌∷◌, ◌++◌, Option, Some, None, Result, Ok, Err}
-use Rattle.std.specs.Prelude.{codes, slice_index, IfOk}
-use Rattle.std.specs.Int.{to_be_bytes, w32}
-use Rattle.std.specs.List.{AllByRecursion}
+-- Keys, signatures and stored records: what is read is spelled so, and what is spelled so is read.
+use Rattle.std.proofs.Common.{◌≡◌, ◌∙◌, sym, ap, refl, subst, ℕ, lit<, Bool, true, false, cond, List, [], ◌++◌, Option, Some, None, Result, Ok, Err}
+use Rattle.std.specs.Prelude.{codes, IfOk, OnOk}
 use Rattle.std.specs.Str.{bytes_eq}
 use Rattle.std.proofs.lemmas.List.{append-nil}
-use Rattle.sha2.specs.Sha256.{sha256, digest_bytes}
-use Rattle.sha2.proofs.Facts256.{length-sha256}
-use Rattle.hex.specs.Hex.{IsBytes}
+use Rattle.sha2.specs.Sha256.{sha256}
 use Rattle.tree_model.specs.declared.hash.Hash.{Hash}
 use Rattle.tree_model.specs.Bytes.{framed, manifest_bytes}
 use Rattle.tree_model.specs.Hash.{IsHash, hash_text}
@@ -16,47 +12,31 @@ use Rattle.meta_model.specs.Text.{is_empty}
 use Rattle.meta_model.specs.declared.value.Key.{Key}
 use Rattle.meta_model.specs.declared.value.KeyLine.{KeyLine}
 use Rattle.store_model.specs.declared.signature.DepLine.{DepLine}
+use Rattle.store_model.specs.declared.signature.ShortSig.{ShortSig}
+use Rattle.store_model.specs.declared.signature.ShortStored.{ShortStored}
 use Rattle.store_model.specs.declared.signature.SigRecord.{SigRecord}
 use Rattle.store_model.specs.declared.signature.StoredSig.{StoredSig}
 use Rattle.store_model.specs.OneSpelling.{AllFit, Fits}
 use Rattle.store_model.specs.Signatures.{dep_cmp, line_cmp}
-use Rattle.store_model.specs.Spelled.{Ascends, file_cmp}
-use Rattle.store_model.specs.Spelling.{dep_bytes, file_bytes, key_line_bytes, listed}
-use Rattle.store_model.proofs.Ordered.{each_append}
+use Rattle.store_model.specs.Spelled.{Ascends, IsSpelled, file_cmp}
+use Rattle.store_model.specs.Spelling.{dep_bytes, file_bytes, key_bytes, key_line_bytes, key_name, key_part, listed, name_of, record_bytes, short_bytes, short_of, short_part, short_record, short_stored_of, signature_bytes, whole_text}
+use Rattle.store_model.proofs.Digests.{key_name_is_hash}
+use Rattle.store_model.proofs.Reading.{key_of_whole, short_of_whole}
 use Rattle.sig_gen.specs.declared.fault.SigFault.{SigFault}
 use Rattle.sig_gen.specs.declared.fault.SigFault.TheVariants.{BadRecord, Memory}
-use Rattle.sig_gen.specs.declared.second.ShortSig.{ShortSig}
-use Rattle.sig_gen.specs.declared.second.ShortStored.{ShortStored}
 use Rattle.sig_gen.specs.Reading.{◌>>=◌, Fails, Gives, ascending_at, framed_at, hash_at, text_at, word_at}
 use Rattle.sig_gen.specs.Parts.{dep_at, file_at, is_dep_before, is_file_before, is_line_before, key_line_at}
 use Rattle.store_model.specs.Sound.{IsDep, IsFile, IsKeyLine, IsSignature, IsText}
-use Rattle.store_model.specs.Stored.{ArePaths, IsManifestLine, IsStored, path_cmp}
-use Rattle.sig_gen.specs.Stored.{behind_signature, is_path_before, manifest_line_at}
-use Rattle.sig_gen.specs.Second.{ShortIsWhole, SpellsKey, SpellsShort, SpellsSecond, SpellsSecondStored, key_at, key_bytes, key_name, key_of_at, keyed, second_at, second_bytes, second_inner_at, second_record, second_stored_at, short_at, short_bytes, short_lists_at, short_of, short_record, short_stored_at, short_stored_of, behind_short, stored_key_at, with_key}
+use Rattle.store_model.specs.Stored.{ArePaths, IsManifestLine, IsStored, SpellsKey, SpellsShort, SpellsStored, path_cmp}
+use Rattle.sig_gen.specs.Sound.{Spells}
+use Rattle.sig_gen.specs.Stored.{IsInOrder, behind_signature, is_path_before, manifest_line_at}
+use Rattle.sig_gen.specs.Writing.{record_with}
+use Rattle.sig_gen.specs.Record.{ShortIsWhole, behind_short, inner_at, key_at, keyed, short_at, short_lists_at, short_stored_at, sig_at, signature_at, stored_at, with_key}
 use Rattle.sig_gen.proofs.Steps.{IsRead, bind_some, guard_some, guard_then, some_is}
 use Rattle.sig_gen.proofs.Texts.{framed_again, framed_takes, hash_read, text_read, word_again, word_takes}
 use Rattle.sig_gen.proofs.Lists.{Ascending}
 use Rattle.sig_gen.proofs.Records.{deps_read, files_read, lines_read, nothing}
-use Rattle.sig_gen.proofs.Storing.{Behind, behind_again, behind_takes, manifest_read}
-
--- ---- digests have 32 bytes
-
-word_bytes : (n : ℕ) → AllByRecursion (λ b. b < 256) (to_be_bytes w32 n)
-word_bytes n = (mod-lt _ (lit< tt), (mod-lt _ (lit< tt), (mod-lt _ (lit< tt), (mod-lt _ (lit< tt), tt))))
-
-each_byte : (h : List ℕ) (n : ℕ) → AllByRecursion (λ b. b < 256) (digest_bytes h n)
-unfolding digest_bytes
-each_byte h zero = tt
-each_byte h (suc n) = each_append (λ b. b < 256) (digest_bytes h n) (to_be_bytes w32 (slice_index h n)) (each_byte h n) (word_bytes (slice_index h n))
-
-are_bytes : (xs : List ℕ) → AllByRecursion (λ b. b < 256) xs → IsBytes xs
-are_bytes [] all i = lit< tt
-are_bytes (x ∷ xs) all zero = all.0
-are_bytes (x ∷ xs) all (suc i) = are_bytes xs all.1 i
-
-name_is_hash : (key : Key) → IsHash (key_name key)
-unfolding key_name sha256
-name_is_hash key = record { size = length-sha256 (key_bytes key); bytes = are_bytes (sha256 (key_bytes key)) (each_byte _ 8) }
+use Rattle.sig_gen.proofs.Storing.{behind_again, behind_takes, manifest_read}
 
 -- ---- keys
 
@@ -154,10 +134,16 @@ short_again bytes s h =
     )
     (lists_again lists s h.files h.deps refl)
 
-short_of_sound : (bytes : List ℕ) (sig : SigRecord) → IsSignature sig → bytes ≡ second_bytes sig → Short bytes (short_of sig)
-short_of_sound bytes sig h e = record { pn = h.pn; task = h.task; key = name_is_hash sig.key; files = (h.files, h.spelled.files); deps = (h.deps, h.spelled.deps); is = e }
+short_of_sound : (bytes : List ℕ) (sig : SigRecord) → IsSignature sig → bytes ≡ short_bytes (short_of sig) → Short bytes (short_of sig)
+short_of_sound bytes sig h e = record { pn = h.pn; task = h.task; key = key_name_is_hash sig.key; files = (h.files, h.spelled.files); deps = (h.deps, h.spelled.deps); is = e }
 
 -- ---- whole signatures
+
+-- the short text and the key are those of this signature
+pub record SpellsParts (bytes key : List ℕ) (sig : SigRecord) : Type 0 where
+  pub sound : IsSignature sig
+  pub is : bytes ≡ short_bytes (short_of sig)
+  pub key_is : key ≡ key_bytes sig.key
 
 keyed_takes : (s : ShortSig) (key : List ℕ) (sig : SigRecord) → keyed s key ≡ Some sig → (short_of sig ≡ s) × (key ≡ key_bytes sig.key) × Ascending line_cmp IsKeyLine sig.key.lines × (sig.key.excluded ≡ false)
 unfolding keyed key_bytes key_name
@@ -180,9 +166,9 @@ keyed_again sig key h e =
     ∙ ap (λ (r : Option (List KeyLine)). r >>= λ lines. Some (with_key (short_of sig) lines)) read
     ∙ (λ i. Some (record { pn = sig.pn; task = sig.task; key = record { lines = sig.key.lines; excluded = sym excluded i }; files = sig.files; deps = sig.deps }))
 
-pub second_takes : (bytes key : List ℕ) (sig : SigRecord) → second_at bytes key ≡ Some sig → SpellsSecond bytes key sig
-unfolding second_at
-second_takes bytes key sig e =
+pub sig_takes : (bytes key : List ℕ) (sig : SigRecord) → sig_at bytes key ≡ Some sig → SpellsParts bytes key sig
+unfolding sig_at
+sig_takes bytes key sig e =
     let a = bind_some (short_at bytes) (λ s. keyed s key) sig e in
     let s = short_takes bytes a.0 a.1 in
     let k = keyed_takes a.0 key sig a.2 in
@@ -200,84 +186,100 @@ second_takes bytes key sig e =
       key_is = k.1;
     }
 
-pub second_again : (bytes key : List ℕ) (sig : SigRecord) → SpellsSecond bytes key sig → second_at bytes key ≡ Some sig
-unfolding second_at
-second_again bytes key sig h =
+pub sig_again : (bytes key : List ℕ) (sig : SigRecord) → SpellsParts bytes key sig → sig_at bytes key ≡ Some sig
+unfolding sig_at
+sig_again bytes key sig h =
     ap (λ (r : Option ShortSig). r >>= λ s. keyed s key) (short_again bytes (short_of sig) (short_of_sound bytes sig h.sound h.is))
     ∙ keyed_again sig key h.sound h.key_is
 
+-- ---- by their whole texts
+
+parts_of_text : (text : List ℕ) (sig : SigRecord) → Spells text sig → SpellsParts (short_part text) (key_part text) sig
+unfolding signature_bytes
+parts_of_text text sig h = record {
+  sound = h.sound;
+  is = ap short_part h.is ∙ short_of_whole (short_bytes (short_of sig)) (key_bytes sig.key);
+  key_is = ap key_part h.is ∙ key_of_whole (short_bytes (short_of sig)) (key_bytes sig.key);
+}
+
+-- a text that a program holds has as many bytes as its short one, at least
+abbrev IsWhole : List ℕ → Type 0
+IsWhole text = text ≡ whole_text (short_part text) (key_part text)
+
+pub signature_again : (text : List ℕ) (sig : SigRecord) → Spells text sig → signature_at text ≡ Some sig
+signature_again text sig h = sig_again (short_part text) (key_part text) sig (parts_of_text text sig h)
+
 -- ---- stored records
 
-abbrev stored_of : List ℕ → List ℕ → StoredSig → Type 0
-stored_of bytes key stored =
-    IsSignature stored.sig × Fits (second_bytes stored.sig) × AllFit IsManifestLine stored.manifest × Ascends path_cmp stored.manifest × IsHash stored.unihash × (bytes ≡ second_record stored) × (key ≡ key_bytes stored.sig.key)
+abbrev Read : List ℕ → List ℕ → StoredSig → Type 0
+Read bytes key stored = IsStored stored × (bytes ≡ record_bytes stored) × (key ≡ key_bytes stored.sig.key)
 
-pub stored_takes : (bytes key : List ℕ) (stored : StoredSig) → second_stored_at bytes key ≡ Some stored → stored_of bytes key stored
-unfolding second_stored_at second_record
+pub stored_takes : (bytes key : List ℕ) (stored : StoredSig) → stored_at bytes key ≡ Some stored → Read bytes key stored
+unfolding stored_at record_bytes short_record
 stored_takes bytes key stored e =
-    let a = bind_some (word_at (codes "bbrec2") bytes) (λ start. framed_at start >>= λ inner. second_at inner.0 key >>= λ sig. behind_signature sig inner.1) stored e in
-    let b = bind_some (framed_at a.0) (λ inner. second_at inner.0 key >>= λ sig. behind_signature sig inner.1) stored a.2 in
-    let c = bind_some (second_at b.0.0 key) (λ sig. behind_signature sig b.0.1) stored b.2 in
+    let a = bind_some (word_at (codes "bbrec2") bytes) (λ start. framed_at start >>= λ inner. sig_at inner.0 key >>= λ sig. behind_signature sig inner.1) stored e in
+    let b = bind_some (framed_at a.0) (λ inner. sig_at inner.0 key >>= λ sig. behind_signature sig inner.1) stored a.2 in
+    let c = bind_some (sig_at b.0.0 key) (λ sig. behind_signature sig b.0.1) stored b.2 in
     let w = word_takes (codes "bbrec2") bytes a.0 a.1 in
     let s = framed_takes a.0 b.0.0 b.0.1 b.1 in
-    let t = second_takes b.0.0 key c.0 c.1 in
+    let t = sig_takes b.0.0 key c.0 c.1 in
     let u = behind_takes c.0 b.0.1 stored c.2 in
-    let inner : b.0.0 ≡ second_bytes stored.sig = t.is ∙ ap second_bytes (sym u.sig-is) in
-    let whole = w ∙ ap (λ (x : List ℕ). framed (codes "bbrec2") ++ x) (s.0 ∙ ap (λ (x : List ℕ). framed x ++ b.0.1) inner ∙ ap (λ (x : List ℕ). framed (second_bytes stored.sig) ++ x) u.is) in
-    (subst IsSignature (sym u.sig-is) t.sound, subst Fits inner s.1, u.lines.0, u.lines.1, u.unihash, whole, t.key_is ∙ ap (λ (g : SigRecord). key_bytes g.key) (sym u.sig-is))
+    let inner : b.0.0 ≡ short_bytes (short_of stored.sig) = t.is ∙ ap (λ (g : SigRecord). short_bytes (short_of g)) (sym u.sig-is) in
+    let whole = w ∙ ap (λ (x : List ℕ). framed (codes "bbrec2") ++ x) (s.0 ∙ ap (λ (x : List ℕ). framed x ++ b.0.1) inner ∙ ap (λ (x : List ℕ). framed (short_bytes (short_of stored.sig)) ++ x) u.is) in
+    (record { sig = subst IsSignature (sym u.sig-is) t.sound; few = subst Fits inner s.1; lines = u.lines.0; ascends = u.lines.1; unihash = u.unihash }, whole, t.key_is ∙ ap (λ (g : SigRecord). key_bytes g.key) (sym u.sig-is))
 
-pub stored_again : (bytes key : List ℕ) (stored : StoredSig) → SpellsSecondStored bytes key stored → second_stored_at bytes key ≡ Some stored
-unfolding second_stored_at second_record
-stored_again bytes key stored h =
+pub stored_again : (bytes key : List ℕ) (stored : StoredSig) → SpellsStored bytes stored → key ≡ key_bytes stored.sig.key → stored_at bytes key ≡ Some stored
+unfolding stored_at record_bytes short_record
+stored_again bytes key stored h same =
     let tail = manifest_bytes stored.manifest ++ framed (hash_text stored.unihash) in
-    let inner = second_bytes stored.sig in
+    let inner = short_bytes (short_of stored.sig) in
     let m1 = framed inner ++ tail in
     rw (
       word_again (codes "bbrec2") bytes m1 (lit< tt) h.is,
-      framed_again m1 inner tail h.few refl,
-      second_again inner key stored.sig (record { sound = h.sig; is = refl; key_is = h.key_is }),
+      framed_again m1 inner tail h.sound.few refl,
+      sig_again inner key stored.sig (record { sound = h.sound.sig; is = refl; key_is = same }),
     )
-    (behind_again tail stored h.lines h.ascends h.unihash refl)
+    (behind_again tail stored h.sound.lines h.sound.ascends h.sound.unihash refl)
 
-pub inner_again : (bytes key : List ℕ) (stored : StoredSig) → SpellsSecondStored bytes key stored → second_inner_at bytes ≡ Some (second_bytes stored.sig)
-unfolding second_inner_at second_record
-inner_again bytes key stored h =
-    let tail = manifest_bytes stored.manifest ++ framed (hash_text stored.unihash) in
-    let inner = second_bytes stored.sig in
-    let m1 = framed inner ++ tail in
-    rw (
-      word_again (codes "bbrec2") bytes m1 (lit< tt) h.is,
-      framed_again m1 inner tail h.few refl,
-    ) refl
+-- the name of a text's signature
+pub text_names : (h : Hash) (short text : List ℕ) → h.bytes ≡ sha256 short → short ≡ short_part text → (sig : SigRecord) → text ≡ signature_bytes sig → h ≡ name_of sig
+unfolding name_of signature_bytes
+text_names h short text digest is sig same = λ i. record { bytes = (digest ∙ ap sha256 (is ∙ ap short_part same ∙ short_of_whole (short_bytes (short_of sig)) (key_bytes sig.key))) i }
 
-name_again : (bytes : List ℕ) (s : ShortSig) → Short bytes s → key_of_at bytes ≡ Some s.key
-unfolding key_of_at short_bytes
-name_again bytes s h =
-    let lists = listed file_bytes s.files ++ listed dep_bytes s.deps in
-    let m3 = framed (hash_text s.key) ++ lists in
-    let m2 = framed s.task ++ m3 in
-    let m1 = framed s.pn ++ m2 in
-    rw (
-      word_again (codes "bbsig2") bytes m1 (lit< tt) h.is,
-      text_read.again m1 s.pn m2 h.pn refl,
-      text_read.again m2 s.task m3 h.task refl,
-      hash_read.again m3 s.key lists h.key refl,
-    ) refl
+-- ---- what is written
 
-pub key_name_again : (bytes key : List ℕ) (stored : StoredSig) → SpellsSecondStored bytes key stored → stored_key_at bytes ≡ Some (key_name stored.sig.key)
-unfolding stored_key_at
-key_name_again bytes key stored h =
-    ap (λ (r : Option (List ℕ)). r >>= key_of_at) (inner_again bytes key stored h)
-    ∙ name_again (second_bytes stored.sig) (short_of stored.sig) (short_of_sound (second_bytes stored.sig) stored.sig h.sig refl)
+short_is : (sig : SigRecord) (short text : List ℕ) → short ≡ short_part text → text ≡ signature_bytes sig → short ≡ short_bytes (short_of sig)
+unfolding signature_bytes
+short_is sig short text is same = is ∙ ap short_part same ∙ short_of_whole (short_bytes (short_of sig)) (key_bytes sig.key)
+
+record_is : (stored : StoredSig) → record_with (short_bytes (short_of stored.sig)) stored.manifest stored.unihash ≡ record_bytes stored
+unfolding record_bytes short_record
+record_is stored = refl
+
+pub record_written : {E : Type 0} (stored : StoredSig) (short text : List ℕ) (r : Result (List ℕ) E) → short ≡ short_part text → text ≡ signature_bytes stored.sig → IfOk r (λ bytes. bytes ≡ record_with short stored.manifest stored.unihash) → IfOk r (λ bytes. bytes ≡ record_bytes stored)
+record_written stored short text (Ok bytes) is same e = e ∙ ap (λ (s : List ℕ). record_with s stored.manifest stored.unihash) (short_is stored.sig short text is same) ∙ record_is stored
+record_written stored short text (Err f) is same e = tt
+
+pub record_spelled : {E : Type 0} (stored : StoredSig) (short text : List ℕ) (r : Result (List ℕ) E) → short ≡ short_part text → text ≡ signature_bytes stored.sig → IfOk r (λ bytes. bytes ≡ record_with short stored.manifest stored.unihash) → OnOk r (Fits short)
+    → OnOk r (AllFit IsManifestLine stored.manifest) → OnOk r (IsHash stored.unihash) → (IsSpelled stored.sig → Spells text stored.sig) → IfOk r (λ bytes. IsInOrder stored → SpellsStored bytes stored)
+record_spelled {E} stored short text (Ok bytes) is same e few lines unihash spells = λ order. record {
+  sound = record { sig = (spells order.sig).sound; few = subst Fits (short_is stored.sig short text is same) few; lines = lines; ascends = order.ascends; unihash = unihash };
+  paths = order.paths;
+  is = record_written {E = E} stored short text (Ok bytes) is same e;
+}
+record_spelled stored short text (Err f) is same e few lines unihash spells = tt
 
 -- ---- as the code answers
 
-pub is_found : (bytes key : List ℕ) (r : Result SigRecord SigFault) → Gives (λ x. x) r (second_at bytes key) → IfOk r (λ sig. SpellsSecond bytes key sig)
-is_found bytes key (Ok sig) e = second_takes bytes key sig e
-is_found bytes key (Err f) e = tt
+pub is_found : (text : List ℕ) (r : Result SigRecord SigFault) → IsWhole text → Gives (λ x. x) r (signature_at text) → IfOk r (λ sig. Spells text sig)
+unfolding signature_bytes
+is_found text (Ok sig) whole e =
+    let t = sig_takes (short_part text) (key_part text) sig e in
+    record { sound = t.sound; is = whole ∙ ap (λ (l : List ℕ). whole_text l (key_part text)) t.is ∙ ap (whole_text (short_bytes (short_of sig))) t.key_is }
+is_found text (Err f) whole e = tt
 
-pub is_only : (bytes key : List ℕ) (r : Result SigRecord SigFault) → Gives (λ x. x) r (second_at bytes key) → (sig : SigRecord) → SpellsSecond bytes key sig → Gives (λ x. x) r (Some sig)
-is_only bytes key r e sig h = subst (λ (f : Option SigRecord). Gives (λ x. x) r f) (second_again bytes key sig h) e
+pub is_only : (text : List ℕ) (r : Result SigRecord SigFault) → Gives (λ x. x) r (signature_at text) → (sig : SigRecord) → Spells text sig → Gives (λ x. x) r (Some sig)
+is_only text r e sig h = subst (λ (f : Option SigRecord). Gives (λ x. x) r f) (signature_again text sig h) e
 
 pub key_found : (bytes : List ℕ) (r : Result Key SigFault) → Gives (λ x. x.lines) r (key_at bytes) → IfOk r (λ key. key.excluded ≡ false) → IfOk r (λ key. SpellsKey bytes key)
 unfolding key_bytes
@@ -297,12 +299,12 @@ key_only bytes (Err f) e x key h = by f (subst (Fails f) (key_again bytes key.li
     by Memory e = tt
     by BadRecord e = absurd (cc)
 
-pub fails_at : (e : SigFault) (bytes key : List ℕ) → Fails e (second_stored_at bytes key) → (stored : StoredSig) → SpellsSecondStored bytes key stored → Fails e (Some stored)
-fails_at e bytes key fails stored h = subst (Fails e) (stored_again bytes key stored h) fails
+pub fails_at : (e : SigFault) (bytes key : List ℕ) → Fails e (stored_at bytes key) → (stored : StoredSig) → SpellsStored bytes stored → key ≡ key_bytes stored.sig.key → Fails e (Some stored)
+fails_at e bytes key fails stored h same = subst (Fails e) (stored_again bytes key stored h same) fails
 
-pub no_paths : (bytes key : List ℕ) (read : StoredSig) → second_stored_at bytes key ≡ Some read → (ArePaths read.manifest → ⊥) → (stored : StoredSig) → SpellsSecondStored bytes key stored → ◌≡◌ {A = Option StoredSig} (Some stored) None
-no_paths bytes key read e none stored h =
-    let same = some_is stored read (sym (stored_again bytes key stored h) ∙ e) in
+pub no_paths : (bytes key : List ℕ) (read : StoredSig) → stored_at bytes key ≡ Some read → (ArePaths read.manifest → ⊥) → (stored : StoredSig) → SpellsStored bytes stored → key ≡ key_bytes stored.sig.key → ◌≡◌ {A = Option StoredSig} (Some stored) None
+no_paths bytes key read e none stored h is =
+    let same = some_is stored read (sym (stored_again bytes key stored h is) ∙ e) in
     absurd (none (subst (λ (s : StoredSig). ArePaths s.manifest) same h.paths))
 
 -- ---- records whose key isn't read
@@ -400,40 +402,53 @@ short_no_paths bytes read e none s h =
     absurd (none (subst (λ (x : ShortStored). ArePaths x.manifest) same h.paths))
 
 pub short_is_whole : ShortIsWhole
-unfolding second_record short_record
+unfolding record_bytes short_record
 short_is_whole = (
-  λ bytes key stored h. record {
-    pn = h.sig.pn;
-    task = h.sig.task;
-    key = name_is_hash stored.sig.key;
-    files = h.sig.files;
-    files_ascend = h.sig.spelled.files;
-    deps = h.sig.deps;
-    deps_ascend = h.sig.spelled.deps;
-    few = h.few;
-    lines = h.lines;
-    ascends = h.ascends;
-    unihash = h.unihash;
+  λ bytes stored h. record {
+    pn = h.sound.sig.pn;
+    task = h.sound.sig.task;
+    key = key_name_is_hash stored.sig.key;
+    files = h.sound.sig.files;
+    files_ascend = h.sound.sig.spelled.files;
+    deps = h.sound.sig.deps;
+    deps_ascend = h.sound.sig.spelled.deps;
+    few = h.sound.few;
+    lines = h.sound.lines;
+    ascends = h.sound.ascends;
+    unihash = h.sound.unihash;
     paths = h.paths;
     is = h.is;
   },
   λ bytes key s k h spells name.
       (let same : ◌≡◌ {A = ShortSig} s.sig (record { pn = s.sig.pn; task = s.sig.task; key = key_name k; files = s.sig.files; deps = s.sig.deps }) = λ i. record { pn = s.sig.pn; task = s.sig.task; key = name i; files = s.sig.files; deps = s.sig.deps } in
       record {
-        sig = record {
-          pn = h.pn;
-          task = h.task;
-          lines = spells.lines;
-          files = h.files;
-          deps = h.deps;
-          spelled = record { lines = spells.ascends; files = h.files_ascend; deps = h.deps_ascend; excluded = spells.excluded };
+        sound = record {
+          sig = record {
+            pn = h.pn;
+            task = h.task;
+            lines = spells.lines;
+            files = h.files;
+            deps = h.deps;
+            spelled = record { lines = spells.ascends; files = h.files_ascend; deps = h.deps_ascend; excluded = spells.excluded };
+          };
+          few = subst (λ (x : ShortSig). Fits (short_bytes x)) same h.few;
+          lines = h.lines;
+          ascends = h.ascends;
+          unihash = h.unihash;
         };
-        few = subst (λ (x : ShortSig). Fits (short_bytes x)) same h.few;
-        lines = h.lines;
-        ascends = h.ascends;
-        unihash = h.unihash;
         paths = h.paths;
         is = h.is ∙ ap (λ (x : ShortSig). framed (codes "bbrec2") ++ (framed (short_bytes x) ++ (manifest_bytes s.manifest ++ framed (hash_text s.unihash)))) same;
-        key_is = spells.is;
       }),
 )
+
+-- the short text among a record's bytes
+pub inner_again : (bytes : List ℕ) (s : ShortStored) → SpellsShort bytes s → inner_at bytes ≡ Some (short_bytes s.sig)
+unfolding inner_at short_record
+inner_again bytes s h =
+    let tail = manifest_bytes s.manifest ++ framed (hash_text s.unihash) in
+    let inner = short_bytes s.sig in
+    let m1 = framed inner ++ tail in
+    rw (
+      word_again (codes "bbrec2") bytes m1 (lit< tt) h.is,
+      framed_again m1 inner tail h.few refl,
+    ) refl

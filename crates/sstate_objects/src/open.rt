@@ -1,7 +1,7 @@
 // Folders at whose own path, and above it, nothing is held.
 ghost use Rattle.std.specs.Prelude.{◌≡◌, IfOk, MatchBool, is_some};
 ghost use Rattle.outside_traits.specs.Store.{IsOpen};
-ghost use Rattle.outside_traits.specs.Passes.{Passes, Same};
+ghost use Rattle.outside_traits.specs.Passes.{IsBrief, Passes, Same};
 ghost use Rattle.outside_traits.specs.Fault.{Counts, disk_failed};
 
 use outside_traits::{Disk, DiskFault};
@@ -11,6 +11,7 @@ use std::alloc::Global;
 pub fn is_held<D: Disk>(alloc: Global, disk: &mut D, path: &str) -> Result<bool, DiskFault>
     ensures found { D.tells → IfOk result (λ held. held ≡ is_some ((D.story disk.old).held path.now)) }
     ensures others { D.tells → Passes (D.story disk.old) (D.story disk.new) Same }
+    ensures brief { D.tells → IsBrief 1 (D.story disk.old) (D.story disk.new) }
     ensures cause { Counts (D.faults disk.old) (D.faults disk.new) (disk_failed result) }
 {
     Ok(disk.read(alloc, path)?.is_some())

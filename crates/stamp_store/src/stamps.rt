@@ -4,7 +4,7 @@ ghost use Rattle.tree_model.specs.declared.hash.Hash.{Hash as AHash};
 ghost use Rattle.tree_model.specs.Hash.{IsHash, hash_text};
 ghost use Rattle.outside_traits.specs.Answers.{IsSettled};
 ghost use Rattle.outside_traits.specs.Fault.{Counts, disk_failed};
-ghost use Rattle.outside_traits.specs.Passes.{EachNow, Passes, Same};
+ghost use Rattle.outside_traits.specs.Passes.{EachNow, IsBrief, Passes, Same};
 ghost use Rattle.outside_traits.specs.Store.{ChangesAt, IsFree, Moves, put};
 ghost use Rattle.stamp_store.specs.Stamp.{IsCurrent, IsFolder, TakesAway, old_path, stamp_bytes, stamp_of, stamp_path, staged_path};
 
@@ -59,6 +59,7 @@ pub fn stage<D: Disk>(
 
     // Whatever it answers.
     ensures images { D.tells → Passes (D.story disk.old) (D.story disk.new) (ChangesAt (staged_path folder.now)) }
+    ensures brief { D.tells → IsBrief 1 (D.story disk.old) (D.story disk.new) }
     ensures cause { Counts (D.faults disk.old) (D.faults disk.new) (disk_failed result) }
 {
     let path = join_texts(alloc, "tmp/stamp/", folder)?;

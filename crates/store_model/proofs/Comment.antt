@@ -1,6 +1,6 @@
 -- A comment in a task's function: the premises of the laws hold before both runs, and the stores that these leave are valid.
-use Rattle.std.proofs.Common.{◌≡◌, ◌⊎◌, ◌∙◌, sym, ap, refl, subst, ℕ, zero, suc, arith, Bool, true, false, List, [], ◌∷◌, ◌++◌, Option, Some, None, Result, Ok, inl, inr, if◌then◌else◌}
-use Rattle.std.specs.Prelude.{All, Any, Contains, codes, ◌==◌, unwrap_or}
+use Rattle.std.proofs.Common.{◌≡◌, ◌≢◌, ◌⊎◌, ◌∙◌, sym, ap, refl, subst, ℕ, zero, suc, arith, Bool, true, false, List, [], ◌∷◌, ◌++◌, Option, Some, None, Result, Ok, inl, inr, if◌then◌else◌}
+use Rattle.std.specs.Prelude.{All, Any, Contains, codes, ◌==◌, slice_index, unwrap_or}
 use Rattle.std.specs.Fmt.{digits}
 use Rattle.std.specs.List.{AllByRecursion, slice_get}
 use Rattle.std.specs.Str.{bytes_eq}
@@ -27,10 +27,13 @@ use Rattle.meta_model.specs.Layout.{layout_in_order}
 use Rattle.store_model.specs.declared.signature.EquivRow.{EquivRow}
 use Rattle.store_model.specs.Rows.{hash_eq, row_at}
 use Rattle.store_model.specs.Signatures.{Signed, is_order, signatures}
-use Rattle.store_model.specs.Spelling.{name_of, record_bytes, signature_bytes}
+use Rattle.store_model.specs.Spelling.{key_bytes, key_name, name_of, record_bytes, short_bytes, short_record, signature_bytes}
+use Rattle.meta_model.specs.declared.value.Key.{Key}
+use Rattle.store_model.specs.declared.signature.SigRecord.{SigRecord}
+use Rattle.store_model.specs.Paths.{key_path, record_path}
 use Rattle.store_model.specs.Origins.{Book, Line, origin, row_of, rows_of}
-use Rattle.store_model.specs.Valid.{IsPlain, IsValid, StandsIn, record_entry, stored_of}
-use Rattle.store_model.specs.Premises.{HasNoCollision, HasOneSignature, IsBlind, IsContent, IsSoundTask, IsTreeOf, IsWord}
+use Rattle.store_model.specs.Valid.{IsPlain, IsValid, StandsIn, key_file, record_entry, stored_of}
+use Rattle.store_model.specs.Premises.{HasNoCollision, HasOneKey, HasOneSignature, IsBlind, IsContent, IsSoundTask, IsTreeOf, IsWord}
 use Rattle.store_model.specs.Premises as of
 use Rattle.store_model.specs.Reuse.{MayReuse}
 use Rattle.store_model.specs.Recording.{HasRow, with_record}
@@ -77,22 +80,22 @@ none_over_nothing : HasNoCollision [] [] plan
 none_over_nothing = all_of (HasOneSignature []) (signatures [] plan) (one_signature [] gen_signed tt, (λ before line stands same. nothing_stands before line stands, tt))
 
 none_over_one : HasNoCollision (gen_line ∷ []) (rows_of (gen_line ∷ [])) plan
-unfolding name_of signature_bytes digits encode_with first_words schedule rounds compress hash_after digest_bytes sha256
+unfolding name_of signature_bytes short_bytes key_name key_bytes digits encode_with first_words schedule rounds compress hash_after digest_bytes sha256
 none_over_one = all_of (HasOneSignature (gen_line ∷ [])) (signatures (rows_of (gen_line ∷ [])) plan)
     (one_signature (gen_line ∷ []) gen_signed (inr refl, tt), (one_signature (gen_line ∷ []) build_signed (inl refl, tt), tt))
 
 none_over_two : HasNoCollision first_book (rows_of first_book) plan
-unfolding name_of signature_bytes digits encode_with first_words schedule rounds compress hash_after digest_bytes sha256
+unfolding name_of signature_bytes short_bytes key_name key_bytes digits encode_with first_words schedule rounds compress hash_after digest_bytes sha256
 none_over_two = all_of (HasOneSignature first_book) (signatures (rows_of first_book) plan)
     (one_signature first_book gen_signed (inr refl, (inl refl, tt)), (one_signature first_book build_signed (inl refl, (inr refl, tt)), tt))
 
 edited_over_two : HasNoCollision first_book (rows_of first_book) edited_plan
-unfolding name_of signature_bytes digits encode_with first_words schedule rounds compress hash_after digest_bytes sha256
+unfolding name_of signature_bytes short_bytes key_name key_bytes digits encode_with first_words schedule rounds compress hash_after digest_bytes sha256
 edited_over_two = all_of (HasOneSignature first_book) (signatures (rows_of first_book) edited_plan)
     (one_signature first_book noted_signed (inl refl, (inl refl, tt)), (one_signature first_book waiting (inl refl, (inl refl, tt)), tt))
 
 edited_over_three : HasNoCollision second_book (rows_of second_book) edited_plan
-unfolding name_of signature_bytes digits encode_with first_words schedule rounds compress hash_after digest_bytes sha256
+unfolding name_of signature_bytes short_bytes key_name key_bytes digits encode_with first_words schedule rounds compress hash_after digest_bytes sha256
 edited_over_three = all_of (HasOneSignature second_book) (signatures (rows_of second_book) edited_plan)
     (one_signature second_book noted_signed (inl refl, (inl refl, (inr refl, tt))), (one_signature second_book again (inl refl, (inr refl, (inl refl, tt))), tt))
 
@@ -140,11 +143,11 @@ of_plan tree (of.clean b t among o) = each GivesOne (built_gen ∷ (built_build 
 of_plan tree (of.inputs task among) = each (λ task. IsOnly task.files) plan (tt, (tt, tt)) task among
 
 gen_origin : origin gives reading [] gen_line ≡ Ok gen_tree
-unfolding name_of signature_bytes digits encode_with first_words schedule rounds compress hash_after digest_bytes sha256 layout_in_order is_beyond is_beyond_layout overlaid picked
+unfolding name_of signature_bytes short_bytes key_name key_bytes digits encode_with first_words schedule rounds compress hash_after digest_bytes sha256 layout_in_order is_beyond is_beyond_layout overlaid picked
 gen_origin = refl
 
 build_origin : origin gives reading (gen_line ∷ []) build_line ≡ Ok build_tree
-unfolding name_of signature_bytes digits encode_with first_words schedule rounds compress hash_after digest_bytes sha256 layout_in_order is_beyond is_beyond_layout overlaid picked
+unfolding name_of signature_bytes short_bytes key_name key_bytes digits encode_with first_words schedule rounds compress hash_after digest_bytes sha256 layout_in_order is_beyond is_beyond_layout overlaid picked
 build_origin = refl
 
 of_output : (before : Book) (line : Line) (t : Entries) → StandsIn first_book before line → origin gives reading before line ≡ Ok t → IsOnly t
@@ -169,64 +172,95 @@ content_before : (bytes : List ℕ) → IsContent gives reading nothing_held [] 
 content_before bytes (inr (path, entry, held, is)) = absurd (cc)
 content_before bytes (inl (tree, is, any)) = any_one tree (of_plan tree is) bytes any
 
--- the two records that are held between the runs
+-- what is put into a store that holds nothing, the last first
+puts : List (List ℕ × Entry) → Store
+puts [] q = None
+puts (e ∷ es) q = if bytes_eq e.0 q then Some e.1 else puts es q
+
+each_put : (P : Entry → Type 0) (es : List (List ℕ × Entry)) (q : List ℕ) (x : Entry) → AllByRecursion (λ e. P e.1) es → puts es q ≡ Some x → P x
+unfolding puts
+each_put P [] q x all e = absurd (cc)
+each_put P (y ∷ ys) q x all e = by (bytes_eq y.0 q) e (each_put P ys q x all.1)
+  where
+    by : (b : Bool) → (if b then Some y.1 else puts ys q) ≡ Some x → (puts ys q ≡ Some x → P x) → P x
+    by true is more = let same : y.1 ≡ x = cc in subst P same all.0
+    by false is more = more is
+
+none_put : (es : List (List ℕ × Entry)) (q : List ℕ) → AllByRecursion (λ e. bytes_eq e.0 q ≡ false) es → puts es q ≡ None
+unfolding puts
+none_put [] q all = refl
+none_put (y ∷ ys) q all = rw all.0 (none_put ys q all.1)
+
+-- a line's record and its key
+line_puts : Line → List (List ℕ × Entry) → List (List ℕ × Entry)
+line_puts line es = (record_path (name_of line.sig), (record_entry line).1) ∷ ((key_path (key_name line.sig.key), key_file line.sig.key) ∷ es)
+
+-- the two records that are held between the runs, and their keys
 gen_bytes : List ℕ
 gen_bytes = record_bytes (stored_of gen_line)
 
 build_bytes : List ℕ
 build_bytes = record_bytes (stored_of build_line)
 
-abbrev IsOfThree : List ℕ → Type 0
-IsOfThree bytes = (bytes ≡ one) ⊎ ((bytes ≡ gen_bytes) ⊎ (bytes ≡ build_bytes))
+gen_key : List ℕ
+gen_key = key_bytes gen_line.sig.key
 
-held_of_two : (a b : Bool) (x y entry : Entry) → (if a then Some x else if b then Some y else None) ≡ Some entry → (x ≡ entry) ⊎ (y ≡ entry)
-held_of_two true b x y entry e = inl cc
-held_of_two false true x y entry e = inr cc
-held_of_two false false x y entry e = absurd (cc)
+build_key : List ℕ
+build_key = key_bytes build_line.sig.key
 
-content_between : (bytes : List ℕ) → IsContent gives reading first_store first_book edited_plan bytes → IsOfThree bytes
-unfolding gen_bytes build_bytes
-content_between bytes (inl (tree, is, any)) = inl (any_one tree (of_edited tree is) bytes any)
-content_between bytes (inr (path, entry, held, is)) =
-    let two = held_of_two (bytes_eq (inside (codes "rec") (hash_text (name_of build_line.sig))) path) (bytes_eq (inside (codes "rec") (hash_text (name_of gen_line.sig))) path)
-    (record_entry build_line).1 (record_entry gen_line).1 entry held in
-    elim two [
-      | inl e ↦ inr (inr (sym is ∙ sym (ap content_of e)))
-      | inr e ↦ inr (inl (sym is ∙ sym (ap content_of e)))
-    ]
+contents : List (List ℕ)
+contents = one ∷ (gen_bytes ∷ (build_bytes ∷ (gen_key ∷ (build_key ∷ []))))
 
-abbrev digest : List ℕ → Hash
-digest bytes = record { bytes = sha256 bytes }
+abbrev IsOfThese : List ℕ → Type 0
+IsOfThese bytes = (k : ℕ) × (slice_get contents k ≡ Some bytes)
 
-apart : (a b : List ℕ) → hash_eq (digest a) (digest b) ≡ false → sha256 a ≡ sha256 b → a ≡ b
-apart a b other e = let yes : hash_eq (digest a) (digest b) ≡ true = hash_itself (digest a) (digest b) (ap (λ x. record { bytes = x }) e) in absurd (cc)
+held_between : (path : List ℕ) → first_store path ≡ puts (line_puts build_line (line_puts gen_line [])) path
+unfolding puts line_puts
+held_between path = refl
 
-one_and_gen : hash_eq (digest one) (digest gen_bytes) ≡ false
-unfolding name_of signature_bytes digits encode_with first_words schedule rounds compress hash_after digest_bytes sha256 record_bytes gen_bytes
-one_and_gen = refl
+all_between : AllByRecursion (λ (e : List ℕ × Entry). IsOfThese (content_of e.1)) (line_puts build_line (line_puts gen_line []))
+unfolding contents line_puts gen_bytes build_bytes gen_key build_key
+all_between = ((2, refl), ((4, refl), ((1, refl), ((3, refl), tt))))
 
-one_and_build : hash_eq (digest one) (digest build_bytes) ≡ false
-unfolding name_of signature_bytes digits encode_with first_words schedule rounds compress hash_after digest_bytes sha256 record_bytes build_bytes
-one_and_build = refl
+content_between : (bytes : List ℕ) → IsContent gives reading first_store first_book edited_plan bytes → IsOfThese bytes
+unfolding contents
+content_between bytes (inl (tree, is, any)) = (0, ap (λ (b : List ℕ). Some b) (sym (any_one tree (of_edited tree is) bytes any)))
+content_between bytes (inr (path, entry, held, is)) = subst IsOfThese is (each_put (λ x. IsOfThese (content_of x)) (line_puts build_line (line_puts gen_line [])) path entry all_between (sym (held_between path) ∙ held))
 
-gen_and_build : hash_eq (digest gen_bytes) (digest build_bytes) ≡ false
-unfolding name_of signature_bytes digits encode_with first_words schedule rounds compress hash_after digest_bytes sha256 record_bytes gen_bytes build_bytes
-gen_and_build = refl
+-- the first byte of a digest
+abbrev mark : List ℕ → ℕ
+mark bytes = slice_index (sha256 bytes) 0
 
--- contents are one where they are the same as some that are
-moved : (a b x y : List ℕ) → a ≡ x → b ≡ y → (sha256 x ≡ sha256 y → x ≡ y) → sha256 a ≡ sha256 b → a ≡ b
-moved a b x y p q same e = p ∙ same (sym (ap sha256 p) ∙ e ∙ ap sha256 q) ∙ sym q
+-- each text has its mark, and no two marks are one
+abbrev HaveMarks : List (List ℕ) → List ℕ → Type 0
+HaveMarks [] marks = Unit {0}
+HaveMarks (x ∷ xs) [] = ⊥
+HaveMarks (x ∷ xs) (m ∷ marks) = (mark x ≡ m) × (AllByRecursion (λ n. m ≢ n) marks × HaveMarks xs marks)
 
-no_clash : (a b : List ℕ) → IsOfThree a → IsOfThree b → sha256 a ≡ sha256 b → a ≡ b
-no_clash a b (inl p) (inl q) e = p ∙ sym q
-no_clash a b (inl p) (inr (inl q)) e = moved a b one gen_bytes p q (apart one gen_bytes one_and_gen) e
-no_clash a b (inl p) (inr (inr q)) e = moved a b one build_bytes p q (apart one build_bytes one_and_build) e
-no_clash a b (inr (inl p)) (inl q) e = sym (moved b a one gen_bytes q p (apart one gen_bytes one_and_gen) (sym e))
-no_clash a b (inr (inl p)) (inr (inl q)) e = p ∙ sym q
-no_clash a b (inr (inl p)) (inr (inr q)) e = moved a b gen_bytes build_bytes p q (apart gen_bytes build_bytes gen_and_build) e
-no_clash a b (inr (inr p)) (inl q) e = sym (moved b a one build_bytes q p (apart one build_bytes one_and_build) (sym e))
-no_clash a b (inr (inr p)) (inr (inl q)) e = sym (moved b a gen_bytes build_bytes q p (apart gen_bytes build_bytes gen_and_build) (sym e))
-no_clash a b (inr (inr p)) (inr (inr q)) e = p ∙ sym q
+-- the mark of one of them
+mark_of : (xs : List (List ℕ)) (marks : List ℕ) (m : ℕ) → HaveMarks xs marks → AllByRecursion (λ n. m ≢ n) marks → (k : ℕ) (x : List ℕ) → slice_get xs k ≡ Some x → m ≢ mark x
+mark_of [] marks m have other k x at same = absurd (cc)
+mark_of (y ∷ ys) [] m have other k x at same = have
+mark_of (y ∷ ys) (n ∷ marks) m have other zero x at same =
+    let is : y ≡ x = cc in
+    let one : m ≡ n = same ∙ sym (ap mark is) ∙ have.0 in
+    other.0 one
+mark_of (y ∷ ys) (n ∷ marks) m have other (suc k) x at same = mark_of ys marks m have.1.1 other.1 k x at same
+
+by_marks : (xs : List (List ℕ)) (marks : List ℕ) → HaveMarks xs marks → (i j : ℕ) (a b : List ℕ) → slice_get xs i ≡ Some a → slice_get xs j ≡ Some b → sha256 a ≡ sha256 b → a ≡ b
+by_marks [] marks have i j a b p q e = absurd (cc)
+by_marks (x ∷ xs) [] have i j a b p q e = absurd have
+by_marks (x ∷ xs) (m ∷ marks) have zero zero a b p q e = let f : x ≡ a = cc in let s : x ≡ b = cc in sym f ∙ s
+by_marks (x ∷ xs) (m ∷ marks) have zero (suc j) a b p q e = let f : x ≡ a = cc in absurd (mark_of xs marks m have.1.1 have.1.0 j b q (sym have.0 ∙ ap mark f ∙ ap (λ (d : List ℕ). slice_index d 0) e))
+by_marks (x ∷ xs) (m ∷ marks) have (suc i) zero a b p q e = let f : x ≡ b = cc in absurd (mark_of xs marks m have.1.1 have.1.0 i a p (sym have.0 ∙ ap mark f ∙ ap (λ (d : List ℕ). slice_index d 0) (sym e)))
+by_marks (x ∷ xs) (m ∷ marks) have (suc i) (suc j) a b p q e = by_marks xs marks have.1.1 i j a b p q e
+
+have_marks : HaveMarks contents (67 ∷ (71 ∷ (124 ∷ (169 ∷ (29 ∷ [])))))
+unfolding name_of short_bytes key_name key_bytes digits encode_with first_words schedule rounds compress hash_after digest_bytes sha256 record_bytes short_record contents gen_bytes build_bytes gen_key build_key
+have_marks = (refl, ((λ e. omega (arith, e), (λ e. omega (arith, e), (λ e. omega (arith, e), (λ e. omega (arith, e), tt)))), (refl, ((λ e. omega (arith, e), (λ e. omega (arith, e), (λ e. omega (arith, e), tt))), (refl, ((λ e. omega (arith, e), (λ e. omega (arith, e), tt)), (refl, ((λ e. omega (arith, e), tt), (refl, (tt, tt))))))))))
+
+no_clash : (a b : List ℕ) → IsOfThese a → IsOfThese b → sha256 a ≡ sha256 b → a ≡ b
+no_clash a b x y e = by_marks contents (67 ∷ (71 ∷ (124 ∷ (169 ∷ (29 ∷ []))))) have_marks x.0 y.0 a b x.1 y.1 e
 
 -- ---- plans
 
@@ -271,15 +305,15 @@ before = record {
 }
 
 has_gen : row_at (rows_of (gen_line ∷ [])) (name_of gen_signed.sig) ≡ Some (row_of gen_line)
-unfolding name_of signature_bytes digits encode_with first_words schedule rounds compress hash_after digest_bytes sha256
+unfolding name_of signature_bytes short_bytes key_name key_bytes digits encode_with first_words schedule rounds compress hash_after digest_bytes sha256
 has_gen = refl
 
 no_build : row_at (rows_of (gen_line ∷ [])) (name_of build_signed.sig) ≡ None
-unfolding name_of signature_bytes digits encode_with first_words schedule rounds compress hash_after digest_bytes sha256
+unfolding name_of signature_bytes short_bytes key_name key_bytes digits encode_with first_words schedule rounds compress hash_after digest_bytes sha256
 no_build = refl
 
 no_noted : row_at (rows_of first_book) (name_of noted_signed.sig) ≡ None
-unfolding name_of signature_bytes digits encode_with first_words schedule rounds compress hash_after digest_bytes sha256
+unfolding name_of signature_bytes short_bytes key_name key_bytes digits encode_with first_words schedule rounds compress hash_after digest_bytes sha256
 no_noted = refl
 
 gen_has_row : (s : Signed) → ◌≡◌ {A = Option Signed} (Some gen_signed) (Some s) → HasRow (rows_of (gen_line ∷ [])) (name_of s.sig)
@@ -289,12 +323,35 @@ gen_has_row s e none =
     let clash : ◌≡◌ {A = Option EquivRow} (Some (row_of gen_line)) None = sym has_gen ∙ lacks in
     absurd (cc)
 
+-- no line of the book has another key with the digest of the task's
+one_key : (book : Book) (sig : SigRecord) → AllByRecursion (λ l. (hash_eq (key_name l.sig.key) (key_name sig.key) ≡ false) ⊎ (l.sig.key ≡ sig.key)) book → HasOneKey book sig
+one_key [] sig all before line stands same = nothing_stands before line stands
+one_key (x ∷ xs) sig all [] line stands same =
+    let e = stands.is in
+    let is : x ≡ line = cc in
+    elim all.0 [
+      | inl differ ↦ let same_names : hash_eq (key_name x.sig.key) (key_name sig.key) ≡ true = hash_itself (key_name x.sig.key) (key_name sig.key) (ap (λ l. key_name l.sig.key) is ∙ same) in absurd (cc)
+      | inr alike ↦ ap key_bytes (sym (ap (λ l. l.sig.key) is) ∙ alike)
+    ]
+one_key (x ∷ xs) sig all (y ∷ before) line stands same =
+    let e = stands.is in
+    let rest : xs ≡ before ++ (line ∷ stands.rest) = cc in
+    one_key xs sig all.1 before line (record { rest = stands.rest; is = rest }) same
+
+build_key_is_one : HasOneKey (gen_line ∷ []) build_signed.sig
+unfolding key_name key_bytes digits encode_with first_words schedule rounds compress hash_after digest_bytes sha256
+build_key_is_one = one_key (gen_line ∷ []) build_signed.sig (inl refl, tt)
+
+noted_key_is_one : HasOneKey first_book noted_signed.sig
+unfolding key_name key_bytes digits encode_with first_words schedule rounds compress hash_after digest_bytes sha256
+noted_key_is_one = one_key first_book noted_signed.sig (inl refl, (inl refl, tt))
+
 first_run : IsGrown gives reading plan nothing_held [] first_store first_book
 first_run = run.grown (with_record nothing_held gen_line) (gen_line ∷ []) 1 build_signed built_build build_tree
-    (run.grown nothing_held [] 0 gen_signed built_gen gen_tree run.begun refl (ap (λ l. slice_get l 0) plan_is_built) (All-nil (λ d. (s : Signed) → slice_get (signatures [] plan) d ≡ Some s → HasRow [] (name_of s.sig))) refl refl none_over_one)
+    (run.grown nothing_held [] 0 gen_signed built_gen gen_tree run.begun refl (ap (λ l. slice_get l 0) plan_is_built) (All-nil (λ d. (s : Signed) → slice_get (signatures [] plan) d ≡ Some s → HasRow [] (name_of s.sig))) refl refl (one_key [] gen_signed.sig tt) none_over_one)
     refl (ap (λ l. slice_get l 1) plan_is_built)
     (all_of (λ d. (s : Signed) → slice_get (signatures (rows_of (gen_line ∷ [])) plan) d ≡ Some s → HasRow (rows_of (gen_line ∷ [])) (name_of s.sig)) (0 ∷ []) (gen_has_row, tt))
-    refl no_build none_over_two
+    refl no_build build_key_is_one none_over_two
 
 first : IsValid gives reading first_store first_book
 first = (grown_stays_reusable gives reading nothing_held nothing_held [] plan (empty_is_valid gives reading) before first_store first_book first_run).valid
@@ -310,7 +367,7 @@ between = record {
 
 second_run : IsGrown gives reading edited_plan first_store first_book second_store second_book
 second_run = run.grown first_store first_book 0 noted_signed built_noted gen_tree run.begun refl (ap (λ l. slice_get l 0) edited_is_built)
-    (All-nil (λ d. (s : Signed) → slice_get (signatures (rows_of first_book) edited_plan) d ≡ Some s → HasRow (rows_of first_book) (name_of s.sig))) refl no_noted edited_over_three
+    (All-nil (λ d. (s : Signed) → slice_get (signatures (rows_of first_book) edited_plan) d ≡ Some s → HasRow (rows_of first_book) (name_of s.sig))) refl no_noted noted_key_is_one edited_over_three
 
 pub comment_is_recorded : CommentIsRecorded
 comment_is_recorded = record {
@@ -330,19 +387,19 @@ missing held s none plain = (
 )
 
 no_waiting : row_at (rows_of first_book) (name_of waiting.sig) ≡ None
-unfolding name_of signature_bytes digits encode_with first_words schedule rounds compress hash_after digest_bytes sha256
+unfolding name_of signature_bytes short_bytes key_name key_bytes digits encode_with first_words schedule rounds compress hash_after digest_bytes sha256
 no_waiting = refl
 
 row_again : row_at (rows_of second_book) (name_of again.sig) ≡ Some (row_of build_line)
-unfolding name_of signature_bytes digits encode_with first_words schedule rounds compress hash_after digest_bytes sha256
+unfolding name_of signature_bytes short_bytes key_name key_bytes digits encode_with first_words schedule rounds compress hash_after digest_bytes sha256
 row_again = refl
 
 sig_again : (row_of build_line).sig ≡ signature_bytes again.sig
-unfolding name_of signature_bytes digits encode_with first_words schedule rounds compress hash_after digest_bytes sha256
+unfolding name_of signature_bytes short_bytes key_name key_bytes digits encode_with first_words schedule rounds compress hash_after digest_bytes sha256
 sig_again = refl
 
 stamp_again : found_store (stamp_path build_task) ≡ Some (File false (hash_text (name_of again.sig) ++ 10 ∷ []))
-unfolding name_of signature_bytes digits encode_with first_words schedule rounds compress hash_after digest_bytes sha256
+unfolding name_of signature_bytes short_bytes key_name key_bytes digits encode_with first_words schedule rounds compress hash_after digest_bytes sha256
 stamp_again = refl
 
 m_clean : IsClean (codes "m.txt")
@@ -383,30 +440,37 @@ by_two false false x y u v = refl
 entries : (path : List ℕ) → found_store (inside (work_folder build_task) path) ≡ entry_at build_tree path
 entries path = by_two (bytes_eq (codes "m.txt") path) (bytes_eq (codes "n.txt") path) (File false one) (File false one) (codes "m.txt") (codes "n.txt")
 
-none_of_six : (a b c d e f : Bool) (u v w x y z : Entry) → a ≡ false → b ≡ false → c ≡ false → d ≡ false → e ≡ false → f ≡ false →
-    (if a then Some u else if b then Some v else if c then Some w else if d then Some x else if e then Some y else if f then Some z else None) ≡ None
-none_of_six true b c d e f u v w x y z p q r s t o = absurd (cc)
-none_of_six false true c d e f u v w x y z p q r s t o = absurd (cc)
-none_of_six false false true d e f u v w x y z p q r s t o = absurd (cc)
-none_of_six false false false true e f u v w x y z p q r s t o = absurd (cc)
-none_of_six false false false false true f u v w x y z p q r s t o = absurd (cc)
-none_of_six false false false false false true u v w x y z p q r s t o = absurd (cc)
-none_of_six false false false false false false u v w x y z p q r s t o = refl
-
-not_record : (text : List ℕ) → IsBelow (inside (codes "rec") text) (work_folder build_task) → ⊥
-not_record text (rest, is) = not_same (work_folder build_task) (inside (inside (codes "rec") text) rest) 0 (Some 119) (Some 114) refl refl w_not_r is
+w_not_k : ◌≡◌ {A = Option ℕ} (Some 119) (Some 107) → ⊥
+w_not_k e = let is : 119 ≡ 107 = ap (λ o. unwrap_or o 0) e in absurd (omega (arith, is))
 
 open_above : (q : List ℕ) → IsBelow q (work_folder build_task) → found_store q ≡ None
-open_above q below = none_of_six
-    (bytes_eq (stamp_path build_task) q) (bytes_eq (inside (work_folder build_task) (codes "m.txt")) q) (bytes_eq (inside (work_folder build_task) (codes "n.txt")) q)
-    (bytes_eq (inside (codes "rec") (hash_text (name_of noted_line.sig))) q) (bytes_eq (inside (codes "rec") (hash_text (name_of build_line.sig))) q) (bytes_eq (inside (codes "rec") (hash_text (name_of gen_line.sig))) q)
-    (File false (hash_text build_name ++ 10 ∷ [])) (File false one) (File false one) (record_entry noted_line).1 (record_entry build_line).1 (record_entry gen_line).1
-    (not_above (work_folder build_task) (stamp_path build_task) q (λ b. not_same (work_folder build_task) (inside (stamp_path build_task) b.0) 0 (Some 119) (Some 115) refl refl w_not_s b.1) below)
-    (not_above (work_folder build_task) (inside (work_folder build_task) (codes "m.txt")) q (λ b. not_same (work_folder build_task) (inside (inside (work_folder build_task) (codes "m.txt")) b.0) 15 None (Some 47) refl refl end_not_slash b.1) below)
-    (not_above (work_folder build_task) (inside (work_folder build_task) (codes "n.txt")) q (λ b. not_same (work_folder build_task) (inside (inside (work_folder build_task) (codes "n.txt")) b.0) 15 None (Some 47) refl refl end_not_slash b.1) below)
-    (not_above (work_folder build_task) (inside (codes "rec") (hash_text (name_of noted_line.sig))) q (not_record (hash_text (name_of noted_line.sig))) below)
-    (not_above (work_folder build_task) (inside (codes "rec") (hash_text (name_of build_line.sig))) q (not_record (hash_text (name_of build_line.sig))) below)
-    (not_above (work_folder build_task) (inside (codes "rec") (hash_text (name_of gen_line.sig))) q (not_record (hash_text (name_of gen_line.sig))) below)
+unfolding puts line_puts
+open_above q below = none_put Held q (
+  beside (stamp_path build_task) (λ b. not_same (work_folder build_task) (inside (stamp_path build_task) b.0) 0 (Some 119) (Some 115) refl refl w_not_s b.1),
+  (
+    beside (inside (work_folder build_task) (codes "m.txt")) (λ b. not_same (work_folder build_task) (inside (inside (work_folder build_task) (codes "m.txt")) b.0) 15 None (Some 47) refl refl end_not_slash b.1),
+    (
+      beside (inside (work_folder build_task) (codes "n.txt")) (λ b. not_same (work_folder build_task) (inside (inside (work_folder build_task) (codes "n.txt")) b.0) 15 None (Some 47) refl refl end_not_slash b.1),
+      (
+        no_record (name_of noted_line.sig),
+        (no_key noted_line.sig.key, (no_record (name_of build_line.sig), (no_key build_line.sig.key, (no_record (name_of gen_line.sig), (no_key gen_line.sig.key, tt))))),
+      ),
+    ),
+  ),
+)
+  where
+    Held : List (List ℕ × Entry)
+    Held = (stamp_path build_task, File false (hash_text build_name ++ 10 ∷ [])) ∷ ((inside (work_folder build_task) (codes "m.txt"), File false one) ∷ ((inside (work_folder build_task) (codes "n.txt"), File false one)
+        ∷ line_puts noted_line (line_puts build_line (line_puts gen_line []))))
+
+    beside : (path : List ℕ) → (IsBelow path (work_folder build_task) → ⊥) → bytes_eq path q ≡ false
+    beside path other = not_above (work_folder build_task) path q other below
+
+    no_record : (name : Hash) → bytes_eq (record_path name) q ≡ false
+    no_record name = beside (record_path name) (λ b. not_same (work_folder build_task) (inside (record_path name) b.0) 0 (Some 119) (Some 114) refl refl w_not_r b.1)
+
+    no_key : (key : Key) → bytes_eq (key_path (key_name key)) q ≡ false
+    no_key key = beside (key_path (key_name key)) (λ b. not_same (work_folder build_task) (inside (key_path (key_name key)) b.0) 0 (Some 119) (Some 107) refl refl w_not_k b.1)
 
 found : IsInWork found_store (rows_of second_book) again
 found = record {

@@ -18,7 +18,7 @@ use Rattle.store_model.specs.declared.signature.EquivRow.{EquivRow}
 use Rattle.store_model.specs.Rows.{row_at}
 use Rattle.store_model.specs.Origins.{row_of, rows_of}
 use Rattle.store_model.specs.Recording.{recorded}
-use Rattle.store_model.specs.Spelling.{name_of, signature_bytes}
+use Rattle.store_model.specs.Spelling.{key_bytes, key_name, name_of, short_bytes, signature_bytes}
 use Rattle.store_model.specs.Available.{IsInObject, IsInWork, IsNeeded, Matches, object_folder, stamp_path}
 use Rattle.store_model.specs.Available as need
 use Rattle.store_model.specs.LibraryAndApplication.{WhatIsNeeded, WhatIsRestored, app_compile, app_install, app_published, book, by_objects, greet_compile, greet_install, greeting, not_at_all, nothing, object, object_store, plan, published, publishing, task_of, tasks}
@@ -105,11 +105,11 @@ row : EquivRow
 row = row_of (recorded [] published app_published)
 
 is_row : row_at (rows_of book) (name_of published.sig) ≡ Some row
-unfolding name_of signature_bytes digits encode_with first_words schedule rounds compress hash_after digest_bytes sha256 row
+unfolding name_of signature_bytes short_bytes key_name key_bytes digits encode_with first_words schedule rounds compress hash_after digest_bytes sha256 row
 is_row = refl
 
 is_folder : object_folder row.unihash ≡ object
-unfolding name_of signature_bytes digits encode_with first_words schedule rounds compress hash_after digest_bytes sha256 row
+unfolding name_of signature_bytes short_bytes key_name key_bytes digits encode_with first_words schedule rounds compress hash_after digest_bytes sha256 row
 is_folder = refl
 
 no_stamp : (x : Entry) → object_store (stamp_path published.task) ≡ Some x → ⊥

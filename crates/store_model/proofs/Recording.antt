@@ -13,12 +13,17 @@ use Rattle.meta_model.proofs.Bools.{either_way, same_text}
 use Rattle.meta_model.specs.declared.plan.PlanTask.{PlanTask}
 use Rattle.meta_model.specs.CleanBuild.{Built, Entries, Gives, clean_build}
 use Rattle.store_model.specs.declared.signature.EquivRow.{EquivRow}
-use Rattle.store_model.specs.Spelling.{name_of}
+use Rattle.store_model.specs.Paths.{key_path}
+use Rattle.store_model.specs.Premises.{HasOneKey}
+use Rattle.store_model.specs.Spelling.{key_bytes, key_name, name_of}
 use Rattle.store_model.specs.Rows.{row_at}
 use Rattle.store_model.specs.Signatures.{Signed, dep_line, is_dep_before, signatures, signed_needs}
 use Rattle.store_model.specs.Origins.{Book, Line, Reading, origin, rows_of}
 use Rattle.outside_traits.specs.Store.{Store}
-use Rattle.store_model.specs.Valid.{IsNamedBefore, IsValidLine, StandsIn, record_entry}
+use Rattle.outside_traits.proofs.Puts.{put-same}
+use Rattle.tree_model.specs.declared.entry.Entry.TheVariants.{File}
+use Rattle.meta_model.specs.declared.value.Key.{Key}
+use Rattle.store_model.specs.Valid.{HasKey, HasKeys, IsNamedBefore, IsValidLine, StandsIn, key_file, record_entry}
 use Rattle.store_model.specs.Reuse.{MayReuse}
 use Rattle.store_model.specs.Recording.{HasRow, NeedsHaveRows, RecordingIsValid, recorded, with_record}
 use Rattle.store_model.proofs.Listing.{find_behind}
@@ -27,12 +32,12 @@ use Rattle.store_model.proofs.Ordered.{each_ordered, map_each}
 use Rattle.store_model.proofs.Signing.{both_at, both_places}
 use Rattle.store_model.specs.Spelled.{IsSpelled}
 use Rattle.store_model.proofs.Spelled.{signature_is_spelled}
-use Rattle.store_model.proofs.Digests.{same_name_text}
+use Rattle.store_model.proofs.Digests.{same_key_text, same_name_text}
 use Rattle.store_model.proofs.Unihashes.{new_unihash_is}
 use Rattle.store_model.proofs.Reusing.{Reused, clean_line}
 use Rattle.store_model.proofs.Staging.{Staged, all_named, all_staged, each_front}
 
--- ---- what is held under `rec/`
+-- ---- what is held under `rec2/` and `key/`
 
 find_last : {A : Type 0} (p : A → Bool) (xs : List A) (y : A) → p y ≡ false → find p (xs ++ y ∷ []) ≡ find p xs
 find_last p [] y f = rw f refl
@@ -43,7 +48,7 @@ find_last p (x ∷ xs) y f = by (p x) refl (find_last p xs y f)
     by false e more = simp e more
 
 -- the store with one more record holds the records of the book and that one
-records_kept : (now : Store) (book : Book) (line : Line) → ((path : List ℕ) → now (inside (codes "rec") path) ≡ entry_at (map record_entry book) path) → ((before : Book) (l : Line) → StandsIn book before l → name_of l.sig ≢ name_of line.sig) → (path : List ℕ) → with_record now line (inside (codes "rec") path) ≡ entry_at (map record_entry (book ++ line ∷ [])) path
+records_kept : (now : Store) (book : Book) (line : Line) → ((path : List ℕ) → now (inside (codes "rec2") path) ≡ entry_at (map record_entry book) path) → ((before : Book) (l : Line) → StandsIn book before l → name_of l.sig ≢ name_of line.sig) → (path : List ℕ) → with_record now line (inside (codes "rec2") path) ≡ entry_at (map record_entry (book ++ line ∷ [])) path
 records_kept now book line held new path = by (bytes_eq (hash_text (name_of line.sig)) path) refl
   where
     lists : map record_entry (book ++ line ∷ []) ≡ map record_entry book ++ record_entry line ∷ []
@@ -55,13 +60,32 @@ records_kept now book line held new path = by (bytes_eq (hash_text (name_of line
       | inr f ↦ f
     ]
 
-    by : (b : Bool) → bytes_eq (hash_text (name_of line.sig)) path ≡ b → (if b then Some (record_entry line).1 else now (inside (codes "rec") path)) ≡ entry_at (map record_entry (book ++ line ∷ [])) path
+    by : (b : Bool) → bytes_eq (hash_text (name_of line.sig)) path ≡ b → (if b then Some (record_entry line).1 else now (inside (codes "rec2") path)) ≡ entry_at (map record_entry (book ++ line ∷ [])) path
     by true t =
         let is = same_text (hash_text (name_of line.sig)) path t in
         let none = map_each record_entry (λ e. bytes_eq e.0 path ≡ false) book (each_line (λ l. bytes_eq (hash_text (name_of l.sig)) path ≡ false) book (unlike is)) in
         sym (ap (λ l. entry_at l path) lists ∙ ap (option_map (λ e. e.1)) (find_behind (λ e. bytes_eq e.0 path) (map record_entry book) (record_entry line) [] none t))
     by false f =
         held path ∙ sym (ap (λ l. entry_at l path) lists ∙ ap (option_map (λ e. e.1)) (find_last (λ e. bytes_eq e.0 path) (map record_entry book) (record_entry line) f))
+
+-- the store with one more record holds the keys of the book and that one
+keys_kept : (now : Store) (book : Book) (line : Line) → HasKeys now book → HasOneKey book line.sig → HasKeys (with_record now line) (book ++ line ∷ [])
+keys_kept now book line held one before l s = elim (split_last book before line l s) [
+  | inl p ↦ subst (λ (x : Line). HasKey (with_record now line) x.sig.key) (sym p.1) (own line.sig.key refl refl)
+  | inr u ↦ by before l u
+]
+  where
+    -- a key with this digest and these bytes is there
+    own : (key : Key) → key_name line.sig.key ≡ key_name key → key_bytes line.sig.key ≡ key_bytes key → HasKey (with_record now line) key
+    own key name bytes = put-same now (key_path (key_name line.sig.key)) (key_path (key_name key)) (Some (key_file line.sig.key)) (ap key_path (sym name)) ∙ ap (λ (b : List ℕ). Some (File false b)) bytes
+
+    by : (c : Book) (x : Line) → StandsIn book c x → HasKey (with_record now line) x.sig.key
+    by c x u = elim (either_way (bytes_eq (hash_text (key_name line.sig.key)) (hash_text (key_name x.sig.key)))) [
+      | inl t ↦
+          let name = same_key_text line.sig.key x.sig.key (same_text (hash_text (key_name line.sig.key)) (hash_text (key_name x.sig.key)) t) in
+          own x.sig.key name (sym (one c x u (sym name)))
+      | inr f ↦ ap (λ (a : Bool). if a then Some (key_file line.sig.key) else now (key_path (key_name x.sig.key))) f ∙ held c x u
+    ]
 
 -- ---- the new line
 
@@ -116,7 +140,7 @@ module _ (gives : Gives) (reading : Reading) (held : Store) (book : Book) (tasks
       }
 
 pub recording_is_valid : RecordingIsValid
-recording_is_valid gives reading held now book tasks may valid n s built is_s is_b needs tree clean none =
+recording_is_valid gives reading held now book tasks may valid n s built is_s is_b needs tree clean none one =
     let line = recorded (rows_of book) s tree in
     let v = line_is_valid gives reading held book tasks may n s built is_s is_b needs tree clean none in
     record {
@@ -125,4 +149,5 @@ recording_is_valid gives reading held now book tasks may valid n s built is_s is
         | inl p ↦ subst (λ b. IsValidLine gives reading b l) (sym p.0) (subst (λ x. IsValidLine gives reading book x) (sym p.1) v)
         | inr u ↦ valid.lines before l u
       ];
+      keys = keys_kept now book line valid.keys one;
     }

@@ -6,7 +6,7 @@ use Rattle.std.specs.declared.cmp.Ordering.TheVariants.{Less}
 use Rattle.std.specs.Cmp.Lexicographic.{slice_cmp}
 use Rattle.tree_model.specs.declared.hash.Hash.{Hash}
 use Rattle.store_model.specs.declared.signature.DepLine.{DepLine}
-use Rattle.store_model.specs.declared.signature.StoredSig.{StoredSig}
+use Rattle.store_model.specs.declared.signature.ShortStored.{ShortStored}
 use Rattle.store_model.specs.declared.candidate.Candidate.{Candidate}
 
 -- names by their bytes, and so by the texts of files
@@ -22,7 +22,7 @@ abbrev pub IsAmong : List Candidate → Candidate → Type 0
 IsAmong candidates c = (k : ℕ) × (slice_get candidates k ≡ Some c)
 
 -- the records are of one PN and task, and have one manifest
-pub record AreAlike (a b : StoredSig) : Type 0 where
+pub record AreAlike (a b : ShortStored) : Type 0 where
   pub pn : a.sig.pn ≡ b.sig.pn
   pub task : a.sig.task ≡ b.sig.task
   pub manifest : a.manifest ≡ b.manifest

@@ -91,16 +91,16 @@ script_in (line ∷ more) = option_map (λ value. value.text) line.value
 abbrev pub reading : Reading
 reading = record { script_of = λ lines task. script_in lines; places_of = λ lines task. Some []; sstate_of = λ lines task. false }
 
--- ---- the names of the three records: the digests of their signatures' bytes
+-- ---- the names of the three records: the digests of their signatures' short texts
 
 abbrev pub gen_name : Hash
-gen_name = record { bytes = 169 ∷ 3 ∷ 239 ∷ 50 ∷ 169 ∷ 134 ∷ 211 ∷ 219 ∷ 170 ∷ 114 ∷ 143 ∷ 41 ∷ 14 ∷ 124 ∷ 202 ∷ 97 ∷ 191 ∷ 7 ∷ 213 ∷ 94 ∷ 7 ∷ 46 ∷ 93 ∷ 153 ∷ 193 ∷ 115 ∷ 105 ∷ 214 ∷ 129 ∷ 183 ∷ 159 ∷ 54 ∷ [] }
+gen_name = record { bytes = 230 ∷ 22 ∷ 18 ∷ 138 ∷ 247 ∷ 194 ∷ 18 ∷ 105 ∷ 162 ∷ 6 ∷ 178 ∷ 135 ∷ 209 ∷ 43 ∷ 117 ∷ 166 ∷ 4 ∷ 176 ∷ 231 ∷ 0 ∷ 107 ∷ 59 ∷ 171 ∷ 137 ∷ 167 ∷ 69 ∷ 27 ∷ 115 ∷ 48 ∷ 7 ∷ 46 ∷ 203 ∷ [] }
 
 abbrev pub noted_name : Hash
-noted_name = record { bytes = 103 ∷ 40 ∷ 135 ∷ 201 ∷ 26 ∷ 117 ∷ 45 ∷ 34 ∷ 140 ∷ 104 ∷ 230 ∷ 225 ∷ 107 ∷ 92 ∷ 23 ∷ 228 ∷ 163 ∷ 115 ∷ 239 ∷ 186 ∷ 209 ∷ 42 ∷ 46 ∷ 115 ∷ 146 ∷ 74 ∷ 251 ∷ 121 ∷ 133 ∷ 2 ∷ 102 ∷ 242 ∷ [] }
+noted_name = record { bytes = 11 ∷ 234 ∷ 245 ∷ 36 ∷ 112 ∷ 12 ∷ 17 ∷ 233 ∷ 170 ∷ 100 ∷ 247 ∷ 238 ∷ 203 ∷ 40 ∷ 104 ∷ 111 ∷ 2 ∷ 82 ∷ 165 ∷ 29 ∷ 144 ∷ 25 ∷ 100 ∷ 21 ∷ 89 ∷ 81 ∷ 233 ∷ 73 ∷ 204 ∷ 102 ∷ 248 ∷ 216 ∷ [] }
 
 abbrev pub build_name : Hash
-build_name = record { bytes = 240 ∷ 155 ∷ 208 ∷ 155 ∷ 56 ∷ 65 ∷ 38 ∷ 20 ∷ 154 ∷ 96 ∷ 22 ∷ 51 ∷ 253 ∷ 151 ∷ 62 ∷ 178 ∷ 159 ∷ 232 ∷ 199 ∷ 96 ∷ 20 ∷ 97 ∷ 248 ∷ 92 ∷ 244 ∷ 228 ∷ 215 ∷ 175 ∷ 71 ∷ 37 ∷ 9 ∷ 202 ∷ [] }
+build_name = record { bytes = 160 ∷ 73 ∷ 93 ∷ 231 ∷ 77 ∷ 100 ∷ 162 ∷ 77 ∷ 181 ∷ 203 ∷ 221 ∷ 49 ∷ 248 ∷ 13 ∷ 190 ∷ 228 ∷ 2 ∷ 40 ∷ 26 ∷ 28 ∷ 153 ∷ 99 ∷ 22 ∷ 88 ∷ 82 ∷ 144 ∷ 160 ∷ 254 ∷ 8 ∷ 224 ∷ 89 ∷ 172 ∷ [] }
 
 -- ---- what the runs record
 

@@ -206,7 +206,7 @@ published =
 
 -- the folder of its object, whose name is the unihash: the digest of its own signature
 abbrev pub object : List ℕ
-object = codes "obj/86c0ef851786c63431465bb54872edb2e9b2605a896ce8bf61a4e14baa3d644c"
+object = codes "obj/6f2134ea13b1d55bd1b8c6cd73952e8cf725c01411ce324685300e2c47fa2b55"
 
 -- a store that has this object alone
 abbrev pub object_store : Store

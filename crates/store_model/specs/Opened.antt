@@ -1,26 +1,38 @@
 -- What opening a store leaves of a disk.
-use Rattle.std.specs.Prelude.{◌≡◌, ◌≢◌, ◌⊎◌, ℕ, List, [], codes, filter_map, map, slice_get, Some, None, IsSome}
+use Rattle.std.specs.Prelude.{◌≡◌, ◌≢◌, ◌⊎◌, ℕ, false, List, [], codes, filter_map, map, slice_get, Some, None, IsSome}
 use Rattle.std.specs.List.{AllByRecursion}
+use Rattle.sha2.specs.Sha256.{sha256}
+use Rattle.tree_model.specs.declared.entry.Entry.TheVariants.{File}
 use Rattle.tree_model.specs.declared.hash.Hash.{Hash}
 use Rattle.tree_model.specs.Hash.{IsHash}
 use Rattle.tree_model.specs.Path.{IsAtOrBelow, IsBelow, inside}
 use Rattle.outside_traits.specs.Store.{Store}
 use Rattle.store_model.specs.declared.signature.EquivRow.{EquivRow}
-use Rattle.store_model.specs.Spelling.{name_of, record_bytes}
-use Rattle.store_model.specs.Stored.{SpellsStored}
+use Rattle.store_model.specs.Spelling.{short_bytes, short_name, short_record, whole_text}
+use Rattle.store_model.specs.Stored.{SpellsShort}
 use Rattle.store_model.specs.declared.candidate.Candidate.{Candidate}
 use Rattle.store_model.specs.Believed.{Ascend, AreBelieved, IsAmong, IsBelieved}
-use Rattle.store_model.specs.Paths.{record_path, slashes}
-use Rattle.store_model.specs.Publication.{record_file, stamp_at, stamp_file, work_at}
-use Rattle.store_model.specs.Readable.{HasShortPaths, row_of_stored}
+use Rattle.store_model.specs.Paths.{key_path, record_path}
+use Rattle.outside_traits.specs.Store.{slashes}
+use Rattle.store_model.specs.Publication.{short_file, stamp_at, stamp_file, work_at}
+use Rattle.store_model.specs.Readable.{HasShortPaths}
 
--- A file under `rec/` that may be believed: it can't be executed, its bytes are the spelling of a record whose manifest has no path of
--- more than 3,072 bytes, and it stands under the name of that record's signature (own rule).
+-- these bytes are held as a key: by a file that can't be executed, under their digest
+pub record HoldsKey (held : Store) (name : Hash) (key : List ℕ) : Type 0 where
+  pub file : held (key_path name) ≡ Some (File false key)
+  pub digest : sha256 key ≡ name.bytes
+
+-- A file under `rec2/` that may be believed: it can't be executed, its bytes are the spelling of a record whose manifest has no path of more than 3,072
+-- bytes, it stands under the name of that record's signature, and the key that this names is held (own rule). What the key says isn't looked at: the
+-- digest tells that the bytes are whole, and a plan's key is compared with them.
 pub record IsRecordFile (held : Store) (c : Candidate) : Type 0 where
-  pub file : held (record_path c.name) ≡ Some (record_file c.stored)
-  pub name : c.name ≡ name_of c.stored.sig
-  pub spelled : SpellsStored (record_bytes c.stored) c.stored
+  pub file : held (record_path c.name) ≡ Some (short_file c.stored)
+  pub name : c.name ≡ short_name c.stored.sig
+  pub spelled : SpellsShort (short_record c.stored) c.stored
   pub short : HasShortPaths c.stored.manifest
+  pub key : List ℕ
+  pub key_held : HoldsKey held c.stored.sig.key key
+  pub text : c.sig ≡ whole_text (short_bytes c.stored.sig) key
 
 -- just such files, each once, in the order of their names
 pub record AreFound (held : Store) (candidates : List Candidate) : Type 0 where
@@ -42,20 +54,27 @@ pub record IsStamp (held : Store) (path : List ℕ) : Type 0 where
   pub file : held (stamp_at path) ≡ Some (stamp_file name)
   pub way : (q : List ℕ) → IsBelow q (work_at path) → held q ≡ None
 
--- The path is neither `rec`, `stamp` or `tmp` nor under one of them, nor is it `obj`, where a folder stands.
+-- The path is neither `rec2`, `key`, `stamp` or `tmp` nor under one of them, nor is it `obj`, where a folder stands.
 pub record IsElsewhere (q : List ℕ) : Type 0 where
-  pub records : IsAtOrBelow (codes "rec") q → ⊥
+  pub records : IsAtOrBelow (codes "rec2") q → ⊥
+  pub keys : IsAtOrBelow (codes "key") q → ⊥
   pub stamps : IsAtOrBelow (codes "stamp") q → ⊥
   pub temporary : IsAtOrBelow (codes "tmp") q → ⊥
   pub objects : q ≢ codes "obj"
 
--- A path that opening leaves alone: it stands elsewhere, or it has a believed record, or a stamp, or nothing is held there.
+-- where a key may stand, whatever is held there: one that is wrong is written again when its task is published (own rule)
+abbrev pub IsKeyPlace : List ℕ → Type 0
+IsKeyPlace q = (name : Hash) × IsHash name × (q ≡ key_path name)
+
+-- A path that opening leaves alone: it stands elsewhere, or it has a believed record, or it is the place of a key, or it has a stamp, or nothing is
+-- held there.
 abbrev pub IsLeft : Store → List ℕ → Type 0
 IsLeft held q =
     IsElsewhere q
     ⊎ (((c : Candidate) × IsBelievedRecord held c × (q ≡ record_path c.name))
+    ⊎ (IsKeyPlace q
     ⊎ (((path : List ℕ) × IsStamp held path × (q ≡ stamp_at path))
-    ⊎ (held q ≡ None)))
+    ⊎ (held q ≡ None))))
 
 -- A stamp that opening takes away: a record tells of its task that it gave nothing, and something is held at `work` or `work/PN`, so that no folder
 -- can be at `work/PN/TASK`. The task isn't available there, and would be once what is in the way is gone.
@@ -66,9 +85,13 @@ pub record IsBlocked (held : Store) (q : List ℕ) : Type 0 where
   pub stamp : q ≡ stamp_at (inside candidate.stored.sig.pn candidate.stored.sig.task)
   pub way : IsSome (held (codes "work")) ⊎ IsSome (held (work_at candidate.stored.sig.pn))
 
+-- what the index knows of a candidate
+abbrev pub row_of_candidate : Candidate → EquivRow
+row_of_candidate c = record { name = c.name; pn = c.stored.sig.pn; task = c.stored.sig.task; sig = c.sig; manifest = c.stored.manifest; unihash = c.stored.unihash }
+
 -- the rows of the candidates at these places
 abbrev pub rows_at : List Candidate → List ℕ → List EquivRow
-rows_at candidates places = map (λ c. row_of_stored c.stored) (filter_map (slice_get candidates) places)
+rows_at candidates places = map row_of_candidate (filter_map (slice_get candidates) places)
 
 -- An opened store: what is held is what opening leaves alone, and what is under `stamp/`, which is as it was but for the stamps that are blocked; and
 -- the rows are those of the believed records, by depth, then by name.

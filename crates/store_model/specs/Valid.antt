@@ -1,5 +1,5 @@
 -- Stores that are valid with a book.
-use Rattle.std.specs.Prelude.{◌≡◌, ◌≢◌, ◌⊎◌, ℕ, false, List, ◌∷◌, ◌++◌, map, codes, All, Ok}
+use Rattle.std.specs.Prelude.{◌≡◌, ◌≢◌, ◌⊎◌, ℕ, false, List, ◌∷◌, ◌++◌, map, codes, All, Ok, Some}
 use Rattle.tree_model.specs.declared.entry.Entry.{Entry}
 use Rattle.tree_model.specs.declared.entry.Entry.TheVariants.{File}
 use Rattle.tree_model.specs.declared.entry.EntryKind.TheVariants as kind
@@ -11,7 +11,9 @@ use Rattle.outside_traits.specs.Store.{Store}
 use Rattle.meta_model.specs.CleanBuild.{Entries, Gives}
 use Rattle.store_model.specs.declared.signature.DepLine.{DepLine}
 use Rattle.store_model.specs.declared.signature.StoredSig.{StoredSig}
-use Rattle.store_model.specs.Spelling.{name_of, record_bytes}
+use Rattle.meta_model.specs.declared.value.Key.{Key}
+use Rattle.store_model.specs.Paths.{key_path}
+use Rattle.store_model.specs.Spelling.{key_bytes, key_name, name_of, record_bytes}
 use Rattle.store_model.specs.Signatures.{file_hash}
 use Rattle.store_model.specs.Spelled.{IsSpelled}
 use Rattle.store_model.specs.Origins.{Reading, Line, Book, origin}
@@ -79,8 +81,21 @@ stored_of line = record { sig = line.sig; manifest = line.manifest; unihash = li
 abbrev pub record_entry : Line → List ℕ × Entry
 record_entry line = (hash_text (name_of line.sig), File false (record_bytes (stored_of line)))
 
--- A store is valid with a book: under `rec/` it holds exactly the stored records of the book's lines, each under its name, and
--- the lines are valid. Nothing is asked of what it holds elsewhere (own rule).
+-- the file of a key
+abbrev pub key_file : Key → Entry
+key_file key = File false (key_bytes key)
+
+-- the key is held, under its name
+abbrev pub HasKey : Store → Key → Type 0
+HasKey held key = held (key_path (key_name key)) ≡ Some (key_file key)
+
+-- the key of each line is held
+abbrev pub HasKeys : Store → Book → Type 0
+HasKeys held book = (before : Book) (line : Line) → StandsIn book before line → HasKey held line.sig.key
+
+-- A store is valid with a book: under `rec2/` it holds exactly the stored records of the book's lines, each under its name; the lines
+-- are valid; and the key of each is held. Nothing is asked of what it holds elsewhere (own rule).
 pub record IsValid (gives : Gives) (reading : Reading) (held : Store) (book : Book) : Type 0 where
-  pub records : (path : List ℕ) → held (inside (codes "rec") path) ≡ entry_at (map record_entry book) path
+  pub records : (path : List ℕ) → held (inside (codes "rec2") path) ≡ entry_at (map record_entry book) path
   pub lines : IsValidBook gives reading book
+  pub keys : HasKeys held book

@@ -6,20 +6,22 @@ use Rattle.std.proofs.lemmas.Bool.Decides.{Decides-eqb}
 use Rattle.std.proofs.lemmas.List.Splits.{slice_split_none}
 use Rattle.std.proofs.lemmas.List.Elements.{All-append, All-cons, All-nil, All-from_recursion}
 use Rattle.sha2.proofs.Facts256.{length-sha256}
-use Rattle.hex.specs.Hex.{IsBytes, encode_with, encode_lower}
+use Rattle.hex.specs.Hex.{IsBytes, decode_sized, encode_with, encode_lower}
+use Rattle.hex.proofs.HexLemmas.{decode_sized-encode_lower}
 use Rattle.tree_model.specs.declared.hash.Hash.{Hash}
 use Rattle.tree_model.specs.Hash.{IsHash, hash_text}
 use Rattle.tree_model.specs.Path.{IsClean, IsPart, inside, parts_of}
 use Rattle.tree_model.proofs.FolderLemmas.{parts_inside}
 use Rattle.meta_model.specs.declared.plan.PlanTask.{PlanTask}
 use Rattle.store_model.specs.Available.{task_folder}
+use Rattle.store_model.specs.declared.signature.ShortSig.{ShortSig}
 use Rattle.store_model.specs.declared.signature.SigRecord.{SigRecord}
-use Rattle.store_model.specs.Spelling.{name_of, signature_bytes}
+use Rattle.store_model.specs.Spelling.{name_of, short_bytes, short_name, short_of}
 use Rattle.stamp_store.specs.Stamp.{IsFolder}
 use Rattle.store_opening.specs.Named.{IsName}
 use Rattle.store_opening.specs.Paths.{HasPlace}
-use Rattle.store_model.specs.Paths.{slashes}
-use Rattle.store_opening.proofs.Hexed.{digit, digit_is, div_small, name_bytes_are, name_digest}
+use Rattle.outside_traits.specs.Store.{slashes}
+use Rattle.store_opening.proofs.Hexed.{are_bytes, digit, digit_is, div_small, name_bytes_are, name_digest, short_bytes_are, short_digest}
 use Rattle.store_opening.proofs.Slashes.{slashes_inside}
 use Rattle.store_opening.proofs.Surveyed.{each_of}
 
@@ -102,7 +104,10 @@ no_zero_digit text all has = let d = each_of IsDigit text 0 all has in let h = d
 
 -- names of records, and all digests that are read, are such
 pub name_is_name : (sig : SigRecord) → IsName (name_of sig)
-name_is_name sig = record { size = ap length (name_digest sig) ∙ length-sha256 (signature_bytes sig); bytes = name_bytes_are sig }
+name_is_name sig = record { size = ap length (name_digest sig) ∙ length-sha256 (short_bytes (short_of sig)); bytes = name_bytes_are sig }
+
+pub short_is_name : (s : ShortSig) → IsName (short_name s)
+short_is_name s = record { size = ap length (short_digest s) ∙ length-sha256 (short_bytes s); bytes = short_bytes_are s }
 
 all_bytes : (xs : List ℕ) → IsBytes xs → AllByRecursion (λ b. b < 256) xs
 all_bytes [] all = tt
@@ -133,3 +138,10 @@ name_clean name is =
       not_above = λ e. let l = ap length e in omega (arith, l, len);
       no_zero = no_zero_digit (hash_text name) (name_chars name is);
     }) (name_slashes name is)
+
+-- digests with one text are one
+pub same_digest : (a b : Hash) → IsName a → IsName b → hash_text a ≡ hash_text b → a ≡ b
+same_digest a b na nb e =
+    let k = sym (decode_sized-encode_lower a.bytes 32 na.size (are_bytes a.bytes na.bytes)) ∙ ap (λ t. decode_sized t 32) e ∙ decode_sized-encode_lower b.bytes 32 nb.size (are_bytes b.bytes nb.bytes) in
+    let same : a.bytes ≡ b.bytes = cc in
+    ap (λ l. record { bytes = l }) same

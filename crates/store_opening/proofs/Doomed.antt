@@ -1,9 +1,9 @@
 -- What opening takes away.
-use Rattle.std.proofs.Common.{◌≡◌, ◌∙◌, sym, ap, subst, refl, ℕ, ◌+◌, ◌<◌, ◌⊎◌, inl, inr, List, [], ◌∷◌, ◌++◌, arith, append_assoc, get_or, length, length-append, take, None, Ok}
+use Rattle.std.proofs.Common.{◌≡◌, ◌∙◌, sym, ap, subst, refl, ℕ, ◌+◌, ◌<◌, ◌≤◌, ◌⊎◌, inl, inr, zero, suc, List, [], ◌∷◌, ◌++◌, arith, append_assoc, get_or, length, length-append, take, None, Ok}
 use Rattle.std.specs.Prelude.{codes, Contains, IsSome}
 use Rattle.std.specs.Option.{is_some}
 use Rattle.std.proofs.lemmas.Bool.{false≢true}
-use Rattle.std.proofs.lemmas.List.{take_more}
+use Rattle.std.proofs.lemmas.List.{map-append, take_all, take_more}
 use Rattle.std.proofs.lemmas.List.Elements.{Contains-append_left, Contains-append_right, Contains-append_cases, Contains-push, Contains-push_cases}
 use Rattle.std.proofs.lemmas.Option.{get_or_from_slice_get}
 use Rattle.tree_model.specs.Hash.{hash_text}
@@ -14,11 +14,11 @@ use Rattle.outside_traits.specs.Answers.{Removes}
 use Rattle.outside_traits.proofs.Held.{removed_none, removes_ok}
 use Rattle.outside_traits.proofs.Folders.{under_same}
 use Rattle.store_model.specs.declared.candidate.Candidate.{Candidate}
-use Rattle.store_model.specs.Opened.{IsBlocked, IsElsewhere, IsLeft, IsRecordFile, IsStamp}
+use Rattle.store_model.specs.Opened.{IsBlocked, IsElsewhere, IsKeyPlace, IsLeft, IsRecordFile, IsStamp}
 use Rattle.store_model.specs.Paths.{record_path}
 use Rattle.store_model.specs.Publication.{stamp_at, work_at}
 use Rattle.store_opening.specs.declared.bare.Bare.{Bare}
-use Rattle.store_opening.specs.Survey.{AreBare, AreBareIn, Dooms, HasNoWay, IsAt, IsBareOf, IsBlockedOf, IsTop, NotesBare, NotesBlocked, NotesHeld, TakesOut, stamp_of}
+use Rattle.store_opening.specs.Survey.{AreBare, AreBareIn, AreKeys, Dooms, HasNoWay, HeldFile, IsAt, IsBareOf, IsBlockedOf, IsTop, NotesBare, NotesBlocked, NotesHeld, TakesOut, paths_of, stamp_of}
 use Rattle.store_opening.proofs.Areas.{differ, heads_differ}
 use Rattle.store_opening.proofs.Indexed.{in_range}
 use Rattle.store_opening.proofs.Surveyed.{believed_file, each_of}
@@ -27,25 +27,27 @@ held_none : (held : Store) (q : List ℕ) → held q ≡ None → IsSome (held q
 held_none held q none some = false≢true (sym (ap is_some none) ∙ some)
 
 -- one path of another kind goes
-pub not_left_by : (held : Store) (q : List ℕ) → IsSome (held q) → (IsElsewhere q → ⊥) → ((c : Candidate) → IsRecordFile held c → q ≡ record_path c.name → ⊥) → ((path : List ℕ) → IsStamp held path → q ≡ stamp_at path → ⊥) → IsLeft held q → ⊥
-not_left_by held q some elsewhere records stamps (inl e) = elsewhere e
-not_left_by held q some elsewhere records stamps (inr (inl b)) = records b.0 (believed_file held b.0 b.1) b.2
-not_left_by held q some elsewhere records stamps (inr (inr (inl t))) = stamps t.0 t.1 t.2
-not_left_by held q some elsewhere records stamps (inr (inr (inr n))) = held_none held q n some
+pub not_left_by : (held : Store) (q : List ℕ) → IsSome (held q) → (IsElsewhere q → ⊥) → ((c : Candidate) → IsRecordFile held c → q ≡ record_path c.name → ⊥) → (IsKeyPlace q → ⊥) → ((path : List ℕ) → IsStamp held path → q ≡ stamp_at path → ⊥) → IsLeft held q → ⊥
+not_left_by held q some elsewhere records keys stamps (inl e) = elsewhere e
+not_left_by held q some elsewhere records keys stamps (inr (inl b)) = records b.0 (believed_file held b.0 b.1) b.2
+not_left_by held q some elsewhere records keys stamps (inr (inr (inl k))) = keys k
+not_left_by held q some elsewhere records keys stamps (inr (inr (inr (inl t)))) = stamps t.0 t.1 t.2
+not_left_by held q some elsewhere records keys stamps (inr (inr (inr (inr n)))) = held_none held q n some
 
--- ---- one of the four folders itself
+-- ---- one of the five folders itself
 
 pub no_slash : (top rest : List ℕ) → top ≡ inside top rest → ⊥
 no_slash top rest is = let long = ap length is in omega (arith, long, length-append top (47 ∷ rest))
 
-never_at : (held : Store) (top q : List ℕ) → q ≡ top → IsSome (held q) → (IsElsewhere top → ⊥) → ((rest : List ℕ) → top ≡ inside (codes "rec") rest → ⊥) → ((rest : List ℕ) → top ≡ inside (codes "stamp") rest → ⊥) → IsLeft held q → ⊥
-never_at held top q same some elsewhere no_record no_stamp = not_left_by held q some (λ e. elsewhere (subst IsElsewhere same e)) (λ c file is. no_record (hash_text c.name) (sym same ∙ is)) (λ path t is. no_stamp path (sym same ∙ is))
+never_at : (held : Store) (top q : List ℕ) → q ≡ top → IsSome (held q) → (IsElsewhere top → ⊥) → ((rest : List ℕ) → top ≡ inside (codes "rec2") rest → ⊥) → ((rest : List ℕ) → top ≡ inside (codes "key") rest → ⊥) → ((rest : List ℕ) → top ≡ inside (codes "stamp") rest → ⊥) → IsLeft held q → ⊥
+never_at held top q same some elsewhere no_record no_key no_stamp = not_left_by held q some (λ e. elsewhere (subst IsElsewhere same e)) (λ c file is. no_record (hash_text c.name) (sym same ∙ is)) (λ k. no_key (hash_text k.0) (sym same ∙ k.2)) (λ path t is. no_stamp path (sym same ∙ is))
 
 top_never : (held : Store) (path q : List ℕ) → IsTop path → q ≡ path → IsSome (held q) → IsLeft held q → ⊥
-top_never held path q (inl e) same some = never_at held (codes "rec") q (same ∙ e) some (λ x. x.records (inl refl)) (λ rest is. no_slash (codes "rec") rest is) (λ rest is. heads_differ (differ 114 115 refl) is)
-top_never held path q (inr (inl e)) same some = never_at held (codes "stamp") q (same ∙ e) some (λ x. x.stamps (inl refl)) (λ rest is. heads_differ (differ 115 114 refl) is) (λ rest is. no_slash (codes "stamp") rest is)
-top_never held path q (inr (inr (inl e))) same some = never_at held (codes "tmp") q (same ∙ e) some (λ x. x.temporary (inl refl)) (λ rest is. heads_differ (differ 116 114 refl) is) (λ rest is. heads_differ (differ 116 115 refl) is)
-top_never held path q (inr (inr (inr e))) same some = never_at held (codes "obj") q (same ∙ e) some (λ x. x.objects refl) (λ rest is. heads_differ (differ 111 114 refl) is) (λ rest is. heads_differ (differ 111 115 refl) is)
+top_never held path q (inl e) same some = never_at held (codes "rec2") q (same ∙ e) some (λ x. x.records (inl refl)) (λ rest is. no_slash (codes "rec2") rest is) (λ rest is. heads_differ (differ 114 107 refl) is) (λ rest is. heads_differ (differ 114 115 refl) is)
+top_never held path q (inr (inl e)) same some = never_at held (codes "key") q (same ∙ e) some (λ x. x.keys (inl refl)) (λ rest is. heads_differ (differ 107 114 refl) is) (λ rest is. no_slash (codes "key") rest is) (λ rest is. heads_differ (differ 107 115 refl) is)
+top_never held path q (inr (inr (inl e))) same some = never_at held (codes "stamp") q (same ∙ e) some (λ x. x.stamps (inl refl)) (λ rest is. heads_differ (differ 115 114 refl) is) (λ rest is. heads_differ (differ 115 107 refl) is) (λ rest is. no_slash (codes "stamp") rest is)
+top_never held path q (inr (inr (inr (inl e)))) same some = never_at held (codes "tmp") q (same ∙ e) some (λ x. x.temporary (inl refl)) (λ rest is. heads_differ (differ 116 114 refl) is) (λ rest is. heads_differ (differ 116 107 refl) is) (λ rest is. heads_differ (differ 116 115 refl) is)
+top_never held path q (inr (inr (inr (inr e)))) same some = never_at held (codes "obj") q (same ∙ e) some (λ x. x.objects refl) (λ rest is. heads_differ (differ 111 114 refl) is) (λ rest is. heads_differ (differ 111 107 refl) is) (λ rest is. heads_differ (differ 111 115 refl) is)
 
 pub dooms_at : (held : Store) (path : List ℕ) (old new : List (List ℕ)) → IsTop path → NotesHeld held path old new → Dooms held (IsAt path) old new
 dooms_at held path old new top (inl n) = record {
@@ -102,6 +104,7 @@ pub blocked_never : (held : Store) (one : Bare) (q : List ℕ) → HasNoWay held
 blocked_never held one q no_way is some = not_left_by held q some
     (λ e. e.stamps (inr (inside one.pn one.task, is)))
     (λ c file same. heads_differ (differ 115 114 refl) (sym is ∙ same))
+    (λ k. heads_differ (differ 115 107 refl) (sym is ∙ k.2))
     (λ path t same. by path t.way (under_same (codes "stamp") (inside one.pn one.task) path (sym is ∙ same)) no_way)
   where
     by : (path : List ℕ) → ((p : List ℕ) → IsBelow p (work_at path) → held p ≡ None) → inside one.pn one.task ≡ path → HasNoWay held one.pn → ⊥
@@ -206,6 +209,12 @@ dooms_these held area paths old new all within never is = record {
     by q (inl has) = inl has
     by q (inr has) = inr (within q has, never q has)
 
+-- the path of one of some files
+path_in : (files : List HeldFile) (f : HeldFile) → Contains files f → Contains (paths_of files) f.0
+path_in [] f has = absurd (let lt = has.1 in omega (arith, lt))
+path_in (x ∷ files) f (zero, lt, is) = (zero, omega arith, ap (λ (g : HeldFile). g.0) is)
+path_in (x ∷ files) f (suc k, lt, is) = let p = path_in files f (k, omega (arith, lt), is) in (suc p.0, (let l = p.1 in omega (arith, l)), p.2)
+
 -- what stands under `tmp/`
 pub dooms_temporary : (held : Store) (paths old new : List (List ℕ)) → IsListing (codes "tmp/") held paths → new ≡ old ++ paths → Dooms held (BeginsWith (codes "tmp/")) old new
 dooms_temporary held paths old new listing is = dooms_these held (BeginsWith (codes "tmp/")) paths old new listing.all (λ q has. (listing.are_held q has).0) never is
@@ -215,7 +224,92 @@ dooms_temporary held paths old new listing is = dooms_these held (BeginsWith (co
         let at = listing.are_held q has in
         not_left_by held q at.1 (λ e. e.temporary (inr (at.0.0, at.0.1)))
         (λ c file same. heads_differ (differ 116 114 refl) (sym at.0.1 ∙ same))
+        (λ k. heads_differ (differ 116 107 refl) (sym at.0.1 ∙ k.2))
         (λ path t same. heads_differ (differ 116 115 refl) (sym at.0.1 ∙ same))
+
+-- ---- what stands under `key/`
+
+-- those of the first files that aren't the places of keys
+abbrev pub KeysGo : Store → List HeldFile → List (List ℕ) → List (List ℕ) → Type 0
+KeysGo held files old new = Dooms held (λ q. BeginsWith (codes "key/") q × Contains (paths_of files) q) old new
+
+pub keys_none : (held : Store) (old : List (List ℕ)) → KeysGo held [] old old
+keys_none held old = record { kept = λ q has. has; sound = λ q has. inl has; whole = λ q area some. (let lt = area.1.1 in absurd (omega (arith, lt))) }
+
+pub keys_more : (held : Store) (files : List HeldFile) (n : ℕ) (f : HeldFile) (start old new : List (List ℕ)) → AreKeys held files → n < length files → f ≡ get_or files n f → KeysGo held (take n files) start old
+    → (IsKeyPlace f.0 × (new ≡ old)) ⊎ ((IsKeyPlace f.0 → ⊥) × (new ≡ old ++ f.0 ∷ [])) → KeysGo held (take (n + 1) files) start new
+keys_more held files n f start old new are lt is was which = subst (λ (l : List HeldFile). KeysGo held l start new) (sym (take_more files n f lt ∙ ap (λ (x : HeldFile). take n files ++ x ∷ []) (sym is))) (by which)
+  where
+    More : List (List ℕ)
+    More = paths_of (take n files ++ f ∷ [])
+
+    more_is : paths_of (take n files ++ f ∷ []) ≡ paths_of (take n files) ++ f.0 ∷ []
+    more_is = map-append (λ (x : HeldFile). x.0) (take n files) (f ∷ [])
+
+    further : (q : List ℕ) → Contains (paths_of (take n files)) q → Contains (paths_of (take n files ++ f ∷ [])) q
+    further q has = subst (λ (l : List (List ℕ)). Contains l q) (sym more_is) (Contains-append_left (paths_of (take n files)) (f.0 ∷ []) q has)
+
+    last : Contains (paths_of (take n files ++ f ∷ [])) f.0
+    last = subst (λ (l : List (List ℕ)). Contains l f.0) (sym more_is) (Contains-push (paths_of (take n files)) f.0)
+
+    cases : (q : List ℕ) → Contains (paths_of (take n files ++ f ∷ [])) q → Contains (paths_of (take n files)) q ⊎ (f.0 ≡ q)
+    cases q has = Contains-push_cases (paths_of (take n files)) f.0 q (subst (λ (l : List (List ℕ)). Contains l q) more_is has)
+
+    begins : BeginsWith (codes "key/") f.0
+    begins = (are.listing.are_held f.0 (path_in files f (n, lt, sym is))).0
+
+    by : (IsKeyPlace f.0 × (new ≡ old)) ⊎ ((IsKeyPlace f.0 → ⊥) × (new ≡ old ++ f.0 ∷ [])) → KeysGo held (take n files ++ f ∷ []) start new
+    by (inl p) = record {
+      kept = λ q has. subst (λ (l : List (List ℕ)). Contains l q) (sym p.1) (was.kept q has);
+      sound = λ q has. elim (was.sound q (subst (λ (l : List (List ℕ)). Contains l q) p.1 has)) [
+        | inl first ↦ inl first
+        | inr w ↦ inr ((w.0.0, further q w.0.1), w.1)
+      ];
+      whole = λ q area some. elim (cases q area.1) [
+        | inl has ↦ elim (was.whole q (area.0, has) some) [
+          | inl c ↦ inl (subst (λ (l : List (List ℕ)). Contains l q) (sym p.1) c)
+          | inr l ↦ inr l
+        ]
+        | inr e ↦ inr (inr (inr (inl (subst IsKeyPlace e p.0))))
+      ];
+    }
+    by (inr w) = record {
+      kept = λ q has. subst (λ (l : List (List ℕ)). Contains l q) (sym w.1) (Contains-append_left old (f.0 ∷ []) q (was.kept q has));
+      sound = λ q has. elim (Contains-push_cases old f.0 q (subst (λ (l : List (List ℕ)). Contains l q) w.1 has)) [
+        | inl earlier ↦ elim (was.sound q earlier) [
+          | inl first ↦ inl first
+          | inr x ↦ inr ((x.0.0, further q x.0.1), x.1)
+        ]
+        | inr e ↦ inr ((subst (BeginsWith (codes "key/")) e begins, subst (Contains (paths_of (take n files ++ f ∷ []))) e last), never q (sym e))
+      ];
+      whole = λ q area some. elim (cases q area.1) [
+        | inl has ↦ elim (was.whole q (area.0, has) some) [
+          | inl c ↦ inl (subst (λ (l : List (List ℕ)). Contains l q) (sym w.1) (Contains-append_left old (f.0 ∷ []) q c))
+          | inr l ↦ inr l
+        ]
+        | inr e ↦ inl (subst (λ (l : List (List ℕ)). Contains l q) (sym w.1) (subst (Contains (old ++ f.0 ∷ [])) e (Contains-push old f.0)))
+      ];
+    }
+      where
+        never : (q : List ℕ) → q ≡ f.0 → IsLeft held q → ⊥
+        never q same left =
+            let at = are.listing.are_held f.0 (path_in files f (n, lt, sym is)) in
+            not_left_by held f.0 at.1 (λ e. e.keys (inr (begins.0, begins.1)))
+            (λ c file is'. heads_differ (differ 107 114 refl) (sym begins.1 ∙ is'))
+            w.0
+            (λ path t is'. heads_differ (differ 107 115 refl) (sym begins.1 ∙ is'))
+            (subst (IsLeft held) same left)
+
+-- all of them
+pub keys_all : (held : Store) (files : List HeldFile) (n : ℕ) (old new : List (List ℕ)) → length files ≤ n → AreKeys held files → KeysGo held (take n files) old new → Dooms held (BeginsWith (codes "key/")) old new
+keys_all held files n old new past are was = record {
+  kept = was.kept;
+  sound = λ q has. elim (was.sound q has) [
+    | inl first ↦ inl first
+    | inr w ↦ inr (w.0.0, w.1)
+  ];
+  whole = λ q area some. was.whole q (area, subst (λ (l : List HeldFile). Contains (paths_of l) q) (sym (take_all n files past)) (are.listing.all q area some)) some;
+}
 
 -- ---- removals
 

@@ -1,5 +1,9 @@
 -- The texts of digests stand in the order of the digests.
-use Rattle.std.proofs.Common.{◌≡◌, ◌∙◌, sym, ap, subst, refl, ℕ, zero, suc, ◌+◌, ◌/◌, ◌%◌, ◌<◌, ◌≤◌, ◌⊎◌, inl, inr, List, [], ◌∷◌, arith, lit<, mod-lt}
+use Rattle.std.proofs.Common.{◌≡◌, ◌∙◌, sym, ap, subst, refl, ℕ, zero, suc, ◌+◌, ◌/◌, ◌%◌, ◌<◌, ◌≤◌, ◌⊎◌, inl, inr, List, [], ◌∷◌, arith, lit<, length, mod-lt}
+use Rattle.std.specs.Prelude.{Ok}
+use Rattle.sha2.proofs.Facts256.{length-sha256}
+use Rattle.hex.proofs.HexLemmas.{decode_sized-encode_lower}
+use Rattle.tree_model.specs.Hash.{hash_text}
 use Rattle.std.specs.Prelude.{slice_index}
 use Rattle.std.specs.List.{AllByRecursion}
 use Rattle.std.specs.Ordering.{nat_cmp, ordering_then}
@@ -9,17 +13,27 @@ use Rattle.std.specs.declared.cmp.Ordering.{Ordering}
 use Rattle.std.specs.declared.cmp.Ordering.TheVariants.{Less, Equal, Greater}
 use Rattle.std.specs.Int.{to_be_bytes, w32}
 use Rattle.sha2.specs.Sha256.{sha256, digest_bytes}
-use Rattle.hex.specs.Hex.{encode_with, encode_lower, lower_digits}
+use Rattle.hex.specs.Hex.{IsBytes, decode_sized, encode_with, encode_lower, lower_digits}
+use Rattle.store_model.specs.declared.signature.ShortSig.{ShortSig}
 use Rattle.store_model.specs.declared.signature.SigRecord.{SigRecord}
-use Rattle.store_model.specs.Spelling.{name_of, signature_bytes}
+use Rattle.store_model.specs.Spelling.{name_of, short_bytes, short_name, short_of}
 use Rattle.store_model.proofs.Ordered.{each_append}
 use Rattle.store_model.specs.Believed.{name_cmp}
 use Rattle.store_model.specs.Paths.{record_path}
 
--- a name is the digest of its signature
-pub name_digest : (sig : SigRecord) → (name_of sig).bytes ≡ sha256 (signature_bytes sig)
+-- a name is the digest of its signature's short text
+pub name_digest : (sig : SigRecord) → (name_of sig).bytes ≡ sha256 (short_bytes (short_of sig))
 unfolding name_of
 name_digest sig = refl
+
+pub short_digest : (s : ShortSig) → (short_name s).bytes ≡ sha256 (short_bytes s)
+unfolding short_name
+short_digest s = refl
+
+-- ... whether its key is told or named
+pub name_is_short : (sig : SigRecord) → name_of sig ≡ short_name (short_of sig)
+unfolding name_of short_name
+name_is_short sig = refl
 
 abbrev pub digit : ℕ → ℕ
 digit a = slice_index lower_digits a
@@ -91,6 +105,11 @@ greater_digits x y rest lx ly gt = by (ways (x / 16) (y / 16))
 not_less : Greater ≡ Less → ⊥
 not_less e = cc
 
+pub are_bytes : (xs : List ℕ) → AllByRecursion (λ b. b < 256) xs → IsBytes xs
+are_bytes [] all i = lit< tt
+are_bytes (x ∷ xs) all zero = all.0
+are_bytes (x ∷ xs) all (suc i) = are_bytes xs all.1 i
+
 -- texts in order are of bytes in order
 pub hex_less : (xs ys : List ℕ) → AllByRecursion (λ b. b < 256) xs → AllByRecursion (λ b. b < 256) ys → slice_cmp nat_cmp (encode_lower xs) (encode_lower ys) ≡ Less → slice_cmp nat_cmp xs ys ≡ Less
 unfolding encode_with
@@ -113,13 +132,26 @@ unfolding digest_bytes
 each_byte h zero = tt
 each_byte h (suc n) = each_append (λ b. b < 256) (digest_bytes h n) (to_be_bytes w32 (slice_index h n)) (each_byte h n) (word_bytes (slice_index h n))
 
-digest_bytes_are : (m : List ℕ) → AllByRecursion (λ b. b < 256) (sha256 m)
+pub digest_bytes_are : (m : List ℕ) → AllByRecursion (λ b. b < 256) (sha256 m)
 unfolding sha256
 digest_bytes_are m = each_byte _ 8
 
 pub name_bytes_are : (sig : SigRecord) → AllByRecursion (λ b. b < 256) (name_of sig).bytes
-name_bytes_are sig = subst (AllByRecursion (λ b. b < 256)) (sym (name_digest sig)) (digest_bytes_are (signature_bytes sig))
+name_bytes_are sig = subst (AllByRecursion (λ b. b < 256)) (sym (name_digest sig)) (digest_bytes_are (short_bytes (short_of sig)))
+
+pub short_bytes_are : (s : ShortSig) → AllByRecursion (λ b. b < 256) (short_name s).bytes
+short_bytes_are s = subst (AllByRecursion (λ b. b < 256)) (sym (short_digest s)) (digest_bytes_are (short_bytes s))
 
 -- records in order are of names in order
-pub records_in_order : (a b : SigRecord) → slice_cmp nat_cmp (record_path (name_of a)) (record_path (name_of b)) ≡ Less → name_cmp (name_of a) (name_of b) ≡ Less
-records_in_order a b e = hex_less (name_of a).bytes (name_of b).bytes (name_bytes_are a) (name_bytes_are b) e
+pub records_in_order : (a b : ShortSig) → slice_cmp nat_cmp (record_path (short_name a)) (record_path (short_name b)) ≡ Less → name_cmp (short_name a) (short_name b) ≡ Less
+records_in_order a b e = hex_less (short_name a).bytes (short_name b).bytes (short_bytes_are a) (short_bytes_are b) e
+
+-- names with one text are one
+pub same_short_text : (a b : ShortSig) → hash_text (short_name a) ≡ hash_text (short_name b) → short_name a ≡ short_name b
+same_short_text a b e =
+    let read = sym (decoded a) ∙ ap (λ (t : List ℕ). decode_sized t 32) e ∙ decoded b in
+    let bytes : (short_name a).bytes ≡ (short_name b).bytes = cc in
+    λ i. record { bytes = bytes i }
+  where
+    decoded : (s : ShortSig) → decode_sized (hash_text (short_name s)) 32 ≡ Ok (short_name s).bytes
+    decoded s = decode_sized-encode_lower (short_name s).bytes 32 (ap length (short_digest s) ∙ length-sha256 (short_bytes s)) (are_bytes (short_name s).bytes (short_bytes_are s))

@@ -14,13 +14,12 @@ use Rattle.tree_model.specs.declared.hash.Hash.{Hash}
 use Rattle.meta_model.proofs.Bools.{text_itself}
 use Rattle.store_model.specs.declared.signature.EquivRow.{EquivRow}
 use Rattle.store_model.specs.Rows.{hash_eq, row_at}
-use Rattle.store_model.specs.Spelling.{name_of}
 use Rattle.store_model.proofs.Listing.{hash_other}
 use Rattle.store_model.specs.declared.candidate.Candidate.{Candidate}
 use Rattle.store_model.specs.Believed.{AreBelieved, Ascend, IsBelievedWithin, ComesBefore, name_cmp}
-use Rattle.store_model.specs.Opened.{rows_at}
-use Rattle.store_model.specs.Readable.{IsRow, row_of_stored}
-use Rattle.store_opening.specs.Survey.{IsGood}
+use Rattle.store_model.specs.Opened.{row_of_candidate, rows_at}
+use Rattle.store_model.specs.Readable.{IsRow}
+use Rattle.store_opening.specs.Survey.{HeldFile, IsGood}
 use Rattle.store_opening.proofs.Hexed.{ways}
 use Rattle.store_opening.proofs.Surveyed.{each_of}
 
@@ -66,15 +65,14 @@ comes_not candidates p c = by c.before
 abbrev IsNot : List Candidate → Hash → ℕ → Type 0
 IsNot candidates name p = (d : Candidate) → slice_get candidates p ≡ Some d → d.name ≢ name
 
-none_named : (candidates : List Candidate) (name : Hash) (places : List ℕ) → AllByRecursion IsGood candidates → AllByRecursion (IsNot candidates name) places → row_at (rows_at candidates places) name ≡ None
-none_named candidates name [] good all = refl
-none_named candidates name (p ∷ ps) good all = by (slice_get candidates p) refl (none_named candidates name ps good all.1)
+none_named : (candidates : List Candidate) (name : Hash) (places : List ℕ) → AllByRecursion (IsNot candidates name) places → row_at (rows_at candidates places) name ≡ None
+none_named candidates name [] all = refl
+none_named candidates name (p ∷ ps) all = by (slice_get candidates p) refl (none_named candidates name ps all.1)
   where
     by : (o : Option Candidate) → slice_get candidates p ≡ o → row_at (rows_at candidates ps) name ≡ None → row_at (rows_at candidates (p ∷ ps)) name ≡ None
     by None e more = rw e more
     by (Some d) e more =
-        let is_good = each_of IsGood candidates d good (p, in_range candidates p d e, get_or_from_slice_get candidates p d d e) in
-        let other : hash_eq (name_of d.stored.sig) name ≡ false = hash_other (name_of d.stored.sig) name (λ same. all.0 d e (is_good.name ∙ same)) in
+        let other : hash_eq d.name name ≡ false = hash_other d.name name (λ same. all.0 d e same) in
         rw (e, other) more
 
 earlier_are : (candidates : List Candidate) (places : List ℕ) (i : ℕ) (c : Candidate) → Ascend candidates → AllPairs (ComesBefore candidates) places → i < length places → slice_get candidates (get_or places i 0) ≡ Some c → AllByRecursion (IsNot candidates c.name) (take i places)
@@ -103,13 +101,13 @@ believed_at candidates places i believed lt =
     let w = believed.each i (get_or places i 0) (slice_get-get_or places i 0 lt) in
     in_range candidates (get_or places i 0) w.0 w.1
 
-pub new_name : (candidates : List Candidate) (places : List ℕ) (i : ℕ) (c : Candidate) → Ascend candidates → AllByRecursion IsGood candidates → AreBelieved candidates places → i < length places → slice_get candidates (get_or places i 0) ≡ Some c → row_at (rows_at candidates (take i places)) c.name ≡ None
-new_name candidates places i c ascend good believed lt at = none_named candidates c.name (take i places) good (earlier_are candidates places i c ascend believed.order lt at)
+pub new_name : (candidates : List Candidate) (places : List ℕ) (i : ℕ) (c : Candidate) → Ascend candidates → AreBelieved candidates places → i < length places → slice_get candidates (get_or places i 0) ≡ Some c → row_at (rows_at candidates (take i places)) c.name ≡ None
+new_name candidates places i c ascend believed lt at = none_named candidates c.name (take i places) (earlier_are candidates places i c ascend believed.order lt at)
 
 -- one row more
-pub rows_more : (candidates : List Candidate) (places : List ℕ) (i : ℕ) (c : Candidate) → i < length places → slice_get candidates (get_or places i 0) ≡ Some c → rows_at candidates (take (i + 1) places) ≡ rows_at candidates (take i places) ++ row_of_stored c.stored ∷ []
+pub rows_more : (candidates : List Candidate) (places : List ℕ) (i : ℕ) (c : Candidate) → i < length places → slice_get candidates (get_or places i 0) ≡ Some c → rows_at candidates (take (i + 1) places) ≡ rows_at candidates (take i places) ++ row_of_candidate c ∷ []
 rows_more candidates places i c lt at =
-    let row : Candidate → EquivRow = λ d. row_of_stored d.stored in
+    let row : Candidate → EquivRow = row_of_candidate in
     let last : filter_map (slice_get candidates) (get_or places i 0 ∷ []) ≡ c ∷ [] = rw at refl in
     ap (λ ps. rows_at candidates ps) (take_more places i 0 lt)
     ∙ ap (map row) (filter_map-append (slice_get candidates) (take i places) (get_or places i 0 ∷ []))
@@ -117,12 +115,12 @@ rows_more candidates places i c lt at =
     ∙ ap (λ l. map row (filter_map (slice_get candidates) (take i places)) ++ map row l) last
 
 -- the rows are those of records
-pub rows_good : (candidates : List Candidate) (places : List ℕ) → AllByRecursion IsGood candidates → AllByRecursion IsRow (rows_at candidates places)
-rows_good candidates [] good = tt
-rows_good candidates (p ∷ ps) good = by (slice_get candidates p) refl (rows_good candidates ps good)
+pub rows_good : (keys : List HeldFile) (candidates : List Candidate) (places : List ℕ) → AllByRecursion (IsGood keys) candidates → AllByRecursion IsRow (rows_at candidates places)
+rows_good keys candidates [] good = tt
+rows_good keys candidates (p ∷ ps) good = by (slice_get candidates p) refl (rows_good keys candidates ps good)
   where
     by : (o : Option Candidate) → slice_get candidates p ≡ o → AllByRecursion IsRow (rows_at candidates ps) → AllByRecursion IsRow (rows_at candidates (p ∷ ps))
     by None e more = rw e more
     by (Some d) e more =
-        let g = each_of IsGood candidates d good (p, in_range candidates p d e, get_or_from_slice_get candidates p d d e) in
-        rw e (record { stored = d.stored; is = refl; spelled = g.spelled; short = g.short }, more)
+        let g = each_of (IsGood keys) candidates d good (p, in_range candidates p d e, get_or_from_slice_get candidates p d d e) in
+        rw e (record { stored = d.stored; key = g.key; is = λ i. record { name = g.name i; pn = d.stored.sig.pn; task = d.stored.sig.task; sig = g.text i; manifest = d.stored.manifest; unihash = d.stored.unihash }; spelled = g.spelled; short = g.short; digest = g.key_in.digest }, more)

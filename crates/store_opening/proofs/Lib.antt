@@ -12,3 +12,6 @@ pub mod Slashes
 pub mod Sorted
 pub mod StillThere
 pub mod Surveyed
+pub mod Keyed
+pub mod Free
+pub mod Written

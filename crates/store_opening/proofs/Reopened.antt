@@ -1,41 +1,62 @@
 -- What was valid is so once it is opened.
-use Rattle.std.proofs.Common.{◌≡◌, ◌≢◌, ◌∙◌, sym, ap, subst, refl, ℕ, zero, suc, inl, inr, false, List, [], ◌∷◌, length, Option, Some, None}
+use Rattle.std.proofs.Common.{◌≡◌, ◌≢◌, ◌∙◌, sym, ap, subst, refl, ℕ, zero, suc, inl, inr, List, [], ◌∷◌, length, Option, Some, None}
 use Rattle.std.specs.Prelude.{◌⊎◌, codes, map, slice_get}
 use Rattle.std.specs.Option.{is_some}
 use Rattle.std.specs.List.{AllByRecursion}
 use Rattle.std.proofs.lemmas.Option.{none-some}
 use Rattle.tree_model.specs.declared.entry.Entry.{Entry}
-use Rattle.tree_model.specs.declared.entry.Entry.TheVariants.{File}
 use Rattle.tree_model.specs.Hash.{hash_text}
 use Rattle.tree_model.specs.Path.{IsBelow, inside}
 use Rattle.outside_traits.specs.Store.{Store}
 use Rattle.meta_model.specs.CleanBuild.{Gives}
 use Rattle.meta_model.specs.InOrder.{in_order}
-use Rattle.store_model.specs.declared.signature.StoredSig.{StoredSig}
+use Rattle.sha2.specs.Sha256.{sha256}
+use Rattle.meta_model.specs.declared.value.Key.{Key}
+use Rattle.store_model.specs.declared.signature.SigRecord.{SigRecord}
 use Rattle.store_model.specs.Origins.{Book, Line, Reading, row_of, rows_of}
-use Rattle.store_model.specs.Spelling.{name_of, record_bytes}
-use Rattle.store_model.specs.Valid.{IsValid, IsValidBook, StandsIn, stored_of}
-use Rattle.store_model.proofs.Digests.{same_name_text}
+use Rattle.store_model.specs.Spelling.{key_bytes, key_name, name_of, record_bytes, short_bytes, short_of, short_record, short_stored_of, signature_bytes, whole_text}
+use Rattle.store_model.specs.Stored.{SpellsShort, SpellsStored}
+use Rattle.store_model.specs.Paths.{key_path}
+use Rattle.store_model.specs.Valid.{IsValid, IsValidBook, StandsIn, record_entry, stored_of}
+use Rattle.store_model.proofs.Digests.{key_name_is_hash}
 use Rattle.store_model.proofs.Ordered.{each_from_ordered, each_map, each_middle, each_ordered, map_each}
 use Rattle.store_model.proofs.Standing.{AllNew, each_line, stands_behind, stands_first}
-use Rattle.sig_gen.proofs.Storing.{stored_again}
+use Rattle.sig_gen.proofs.ShortLaws.{short_is_whole}
 use Rattle.store_model.specs.declared.candidate.Candidate.{Candidate}
 use Rattle.store_model.specs.Believed.{AreBelieved, IsAmong}
 use Rattle.record_belief.specs.Books.{AreOfBook, IsInOrder, IsOfLine, IsLineAt}
 use Rattle.record_belief.proofs.Again.{again_valid, again_whole, line_at}
 use Rattle.record_belief.proofs.Bookish.{lines_believed}
 use Rattle.record_belief.proofs.Lasting.{order_is_one}
-use Rattle.store_model.specs.Opened.{AreFound, IsBlocked, IsLeft, IsRecordFile, rows_at}
-use Rattle.store_model.specs.Publication.{record_file}
+use Rattle.store_model.specs.Opened.{AreFound, IsBlocked, IsLeft, IsRecordFile, row_of_candidate, rows_at}
+use Rattle.store_model.specs.Publication.{short_file}
 use Rattle.store_opening.specs.Reopened.{ClearedIsValid, OpenedHoldsNoMore, OpenedIsValid, OpenedOneWay}
 use Rattle.store_model.specs.Lines.{HaveSameLines}
-use Rattle.store_model.specs.Readable.{IsReadable, row_of_stored}
+use Rattle.store_model.specs.Readable.{IsReadable}
+use Rattle.store_opening.proofs.Hexed.{name_is_short}
+use Rattle.store_opening.proofs.Surveyed.{one_record}
 use Rattle.store_opening.proofs.SameLines.{entry_found, entry_there, same_entries}
 use Rattle.store_opening.proofs.Sorted.{Differ, ascend_of, each_among, each_at, is_before, one_list, ordered_up}
 
 -- the candidate that a line's record is
 abbrev pub candidate_of : Line → Candidate
-candidate_of line = record { name = name_of line.sig; stored = stored_of line }
+candidate_of line = record { name = name_of line.sig; stored = short_stored_of (stored_of line); sig = signature_bytes line.sig }
+
+file_is : (line : Line) → Some (record_entry line).1 ≡ Some (short_file (short_stored_of (stored_of line)))
+unfolding record_bytes
+file_is line = refl
+
+spelled_is : (line : Line) → SpellsStored (record_bytes (stored_of line)) (stored_of line) → SpellsShort (short_record (short_stored_of (stored_of line))) (short_stored_of (stored_of line))
+unfolding record_bytes
+spelled_is line h = short_is_whole.0 (record_bytes (stored_of line)) (stored_of line) h
+
+key_digest : (key : Key) → sha256 (key_bytes key) ≡ (key_name key).bytes
+unfolding key_name
+key_digest key = refl
+
+text_is : (sig : SigRecord) → signature_bytes sig ≡ whole_text (short_bytes (short_of sig)) (key_bytes sig.key)
+unfolding signature_bytes
+text_is sig = refl
 
 -- ---- the records of a valid store
 
@@ -44,30 +65,33 @@ module _ (gives : Gives) (reading : Reading) (held : Store) (book : Book) (valid
   line_readable before line s = each_middle IsReadable before line s.rest (subst (AllByRecursion IsReadable) s.is readable)
 
   -- each line's record is there
-  line_file : (before : Book) (line : Line) → StandsIn book before line → IsRecordFile held (candidate_of line)
+  pub line_file : (before : Book) (line : Line) → StandsIn book before line → IsRecordFile held (candidate_of line)
   line_file before line s =
       let r = line_readable before line s in
-      record { file = valid.records (hash_text (name_of line.sig)) ∙ entry_there gives reading book before line valid.lines s; name = refl; spelled = r.spelled; short = r.short }
+      record {
+        file = valid.records (hash_text (name_of line.sig)) ∙ entry_there gives reading book before line valid.lines s ∙ file_is line;
+        name = name_is_short line.sig;
+        spelled = spelled_is line r.spelled;
+        short = r.short;
+        key = key_bytes line.sig.key;
+        key_held = record { file = valid.keys before line s; digest = key_digest line.sig.key };
+        text = text_is line.sig;
+      }
 
   -- and each record that is there is a line's
   file_line : (c : Candidate) → IsRecordFile held c → (before : Book) × (line : Line) × StandsIn book before line × (c ≡ candidate_of line)
   file_line c file =
-      let l = entry_found book (hash_text c.name) (record_file c.stored) (sym (valid.records (hash_text c.name)) ∙ file.file) in
-      let r = line_readable l.0 l.1 l.2 in
-      let name : name_of l.1.sig ≡ c.name = same_name_text l.1.sig c.stored.sig (l.3 ∙ ap hash_text file.name) ∙ sym file.name in
-      let entry : File false (record_bytes (stored_of l.1)) ≡ File false (record_bytes c.stored) = l.4 in
-      let bytes : record_bytes c.stored ≡ record_bytes (stored_of l.1) = cc in
-      let read : Some c.stored ≡ Some (stored_of l.1) = sym (stored_again (record_bytes c.stored) c.stored file.spelled.sound file.spelled.is) ∙ stored_again (record_bytes c.stored) (stored_of l.1) r.spelled.sound (bytes ∙ r.spelled.is) in
-      let stored : c.stored ≡ stored_of l.1 = cc in
-      (l.0, l.1, l.2, λ i. record { name = sym name i; stored = stored i })
+      let l = entry_found book (hash_text c.name) (short_file c.stored) (sym (valid.records (hash_text c.name)) ∙ file.file) in
+      let f = line_file l.0 l.1 l.2 in
+      (l.0, l.1, l.2, one_record held c (candidate_of l.1) file f (ap (inside (codes "rec2")) (sym l.3)))
 
   -- what is found are the records of the book
   pub of_book : (candidates : List Candidate) → AreFound held candidates → AreOfBook book candidates
   of_book candidates found = record {
     each = λ k c e.
         let l = file_line c (each_at (IsRecordFile held) candidates k c found.each e) in
-        record { line = l.1; before = l.0; in_book = l.2; records = record { name = ap (λ (x : Candidate). x.name) l.3; stored = ap (λ (x : Candidate). x.stored) l.3 } };
-    whole = λ before line s. record { candidate = candidate_of line; among = found.whole (candidate_of line) (line_file before line s); records = record { name = refl; stored = refl } };
+        record { line = l.1; before = l.0; in_book = l.2; records = record { name = ap (λ (x : Candidate). x.name) l.3; stored = ap (λ (x : Candidate). x.stored) l.3; text = ap (λ (x : Candidate). x.sig) l.3 } };
+    whole = λ before line s. record { candidate = candidate_of line; among = found.whole (candidate_of line) (line_file before line s); records = record { name = refl; stored = refl; text = refl } };
   }
 
   -- they can be found
@@ -98,8 +122,8 @@ module _ (gives : Gives) (reading : Reading) (held : Store) (book : Book) (valid
 
   -- ---- what opening leaves
 
-  left_by : (candidates : List Candidate) → AreFound held candidates → (path : List ℕ) (o : Option Entry) → held (inside (codes "rec") path) ≡ o → IsLeft held (inside (codes "rec") path)
-  left_by candidates found path None e = inr (inr (inr e))
+  left_by : (candidates : List Candidate) → AreFound held candidates → (path : List ℕ) (o : Option Entry) → held (inside (codes "rec2") path) ≡ o → IsLeft held (inside (codes "rec2") path)
+  left_by candidates found path None e = inr (inr (inr (inr e)))
   left_by candidates found path (Some x) e =
       let l = entry_found book path x (sym (valid.records path) ∙ e) in
       let k = found.whole (candidate_of l.1) (line_file l.0 l.1 l.2) in
@@ -110,16 +134,17 @@ module _ (gives : Gives) (reading : Reading) (held : Store) (book : Book) (valid
           found = found;
           believed = lines_believed gives reading book candidates valid.lines (of_book candidates found) k.0 (candidate_of l.1) k.1;
         },
-        ap (inside (codes "rec")) (sym l.3),
+        ap (inside (codes "rec2")) (sym l.3),
       ))
 
-  pub rec_left : (path : List ℕ) → IsLeft held (inside (codes "rec") path)
-  rec_left path = left_by found_there.0 found_there.1 path (held (inside (codes "rec") path)) refl
+  pub rec_left : (path : List ℕ) → IsLeft held (inside (codes "rec2") path)
+  rec_left path = left_by found_there.0 found_there.1 path (held (inside (codes "rec2") path)) refl
 
 pub cleared_is_valid : ClearedIsValid
 cleared_is_valid held old new clears gives reading book valid readable other was = record {
-  records = λ path. clears.left (inside (codes "rec") path) (rec_left gives reading held book valid readable path) ∙ was.records path;
+  records = λ path. clears.left (inside (codes "rec2") path) (rec_left gives reading held book valid readable path) ∙ was.records path;
   lines = was.lines;
+  keys = λ before line s. clears.left (key_path (key_name line.sig.key)) (inr (inr (inl (key_name line.sig.key, key_name_is_hash line.sig.key, refl)))) ∙ was.keys before line s;
 }
 
 -- ---- the lines in another order
@@ -134,7 +159,7 @@ module _ (book : Book) (candidates : List Candidate) (of : AreOfBook book candid
   again_more p places c stands more = record {
     again = l.line ∷ more.again;
     order = record { long = ap suc more.order.long; each = at };
-    rows_are = rw stands (ap (λ (s : StoredSig). row_of_stored s ∷ rows_at candidates places) l.records.stored ∙ ap (λ rows. row_of l.line ∷ rows) more.rows_are);
+    rows_are = rw stands ((λ i. row_of_candidate (record { name = l.records.name i; stored = l.records.stored i; sig = l.records.text i }) ∷ rows_at candidates places) ∙ ap (λ rows. row_of l.line ∷ rows) more.rows_are);
   }
     where
       l : IsOfLine book c
@@ -158,8 +183,11 @@ opened_is_valid before after rows opened gives reading book valid readable = rec
   same = same;
   readable = each_line IsReadable a.again (λ b line s. let l = same.only b line s in line_readable gives reading before book valid readable l.0 line l.1);
   valid = record {
-    records = λ path. opened.left (inside (codes "rec") path) (rec_left gives reading before book valid readable path) ∙ valid.records path ∙ sym (same_entries gives reading book a.again valid.lines lines same path);
+    records = λ path. opened.left (inside (codes "rec2") path) (rec_left gives reading before book valid readable path) ∙ valid.records path ∙ sym (same_entries gives reading book a.again valid.lines lines same path);
     lines = lines;
+    keys = λ b line s.
+        let l = same.only b line s in
+        opened.left (key_path (key_name line.sig.key)) (inr (inr (inl (key_name line.sig.key, key_name_is_hash line.sig.key, refl)))) ∙ valid.keys l.0 line l.1;
   };
   rows_are = opened.rows_are ∙ a.rows_are;
 }

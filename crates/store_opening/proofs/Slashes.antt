@@ -4,7 +4,7 @@ use Rattle.std.specs.Prelude.{◌==◌}
 use Rattle.std.proofs.lemmas.Bool.Decides.{Decides-eqb}
 use Rattle.std.proofs.lemmas.List.{take_more}
 use Rattle.tree_model.specs.Path.{inside}
-use Rattle.store_model.specs.Paths.{slashes}
+use Rattle.outside_traits.specs.Store.{slashes}
 
 pub slashes-append : (xs ys : List ℕ) → slashes (xs ++ ys) ≡ slashes xs + slashes ys
 slashes-append [] ys = omega arith

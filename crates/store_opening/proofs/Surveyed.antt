@@ -1,5 +1,5 @@
--- What is found under `rec/`.
-use Rattle.std.proofs.Common.{◌≡◌, ◌∙◌, sym, ap, subst, refl, ℕ, zero, suc, ◌+◌, ◌<◌, ◌≤◌, ◌⊎◌, inl, inr, List, [], ◌∷◌, ◌++◌, length, arith, get_or, take, AllPairs, Some, length-append}
+-- What is found under `rec2/`.
+use Rattle.std.proofs.Common.{◌≡◌, ◌∙◌, sym, ap, subst, refl, ℕ, zero, suc, ◌+◌, ◌<◌, ◌≤◌, ◌⊎◌, inl, inr, List, [], ◌∷◌, ◌++◌, length, arith, get_or, take, AllPairs, Option, None, Some, false, IfNone, IfSome, length-append}
 use Rattle.std.specs.Prelude.{codes, Contains, IsSome, slice_get}
 use Rattle.std.specs.Option.{is_some}
 use Rattle.std.specs.List.{AllByRecursion}
@@ -17,20 +17,21 @@ use Rattle.tree_model.specs.declared.entry.Entry.TheVariants.{File}
 use Rattle.tree_model.specs.Path.{BeginsWith, inside}
 use Rattle.tree_model.specs.Hash.{hash_text}
 use Rattle.outside_traits.specs.Store.{IsListing, Store}
-use Rattle.store_model.specs.Spelling.{name_of, record_bytes}
-use Rattle.store_model.specs.declared.signature.StoredSig.{StoredSig}
-use Rattle.store_model.proofs.Digests.{same_name_text}
+use Rattle.store_model.specs.Spelling.{short_bytes, short_name, short_record, whole_text}
+use Rattle.store_model.specs.declared.signature.ShortStored.{ShortStored}
+use Rattle.store_model.specs.Stored.{SpellsShort}
+use Rattle.tree_model.specs.declared.hash.Hash.{Hash}
 use Rattle.store_model.proofs.Ordered.{each_append, each_weaker}
-use Rattle.sig_gen.proofs.Storing.{stored_again}
+use Rattle.sig_gen.proofs.ShortLaws.{short_stored_again}
 use Rattle.store_model.specs.declared.candidate.Candidate.{Candidate}
 use Rattle.store_model.specs.Believed.{Ascend, IsAmong, IsBelievedWithin, name_cmp}
 use Rattle.store_opening.specs.declared.records.Found.{Found}
-use Rattle.store_model.specs.Opened.{IsBelievedRecord, IsLeft, IsRecordFile}
-use Rattle.store_model.specs.Paths.{record_path}
-use Rattle.store_model.specs.Publication.{record_file}
-use Rattle.store_opening.specs.Survey.{AreRead, AreRecords, HasNoRecord, HasRead, HeldFile, IsFileIn, IsFoundIn, IsGood, IsSurveyed, Rejects, StandsAmong, Takes, Visits, paths_of}
+use Rattle.store_model.specs.Opened.{HoldsKey, IsBelievedRecord, IsLeft, IsRecordFile}
+use Rattle.store_model.specs.Paths.{key_path, record_path}
+use Rattle.store_model.specs.Publication.{short_file}
+use Rattle.store_opening.specs.Survey.{AreKeys, AreRead, AreRecords, AreUnder, HasNoRecord, HasRead, HeldFile, IsFileIn, IsFoundIn, IsGood, IsKeyIn, IsSurveyed, Rejects, StandsAmong, Takes, Visits, paths_of}
 use Rattle.store_opening.proofs.Areas.{differ, heads_differ}
-use Rattle.store_opening.proofs.Hexed.{records_in_order}
+use Rattle.store_opening.proofs.Hexed.{records_in_order, same_short_text}
 
 -- ---- lists
 
@@ -53,7 +54,7 @@ pairs_push {A} R xs y pairs all i j d lt within =
     ]
 
 -- what comes before a path of an ascending list is less
-less_before : (paths : List (List ℕ)) (n : ℕ) (path : List ℕ) → n < length paths → path ≡ get_or paths n path → IsStrictlySortedBy (slice_cmp nat_cmp) paths → AllByRecursion (λ q. slice_cmp nat_cmp q path ≡ Less) (take n paths)
+pub less_before : (paths : List (List ℕ)) (n : ℕ) (path : List ℕ) → n < length paths → path ≡ get_or paths n path → IsStrictlySortedBy (slice_cmp nat_cmp) paths → AllByRecursion (λ q. slice_cmp nat_cmp q path ≡ Less) (take n paths)
 unfolding IsStrictlySortedBy
 less_before [] n path lt is sorted = absurd (omega (arith, lt))
 less_before (x ∷ xs) zero path lt is sorted = tt
@@ -63,9 +64,29 @@ less_before (x ∷ xs) (suc n) path lt is sorted =
 pub each_of : {A : Type 0} (P : A → Type 0) (xs : List A) (x : A) → AllByRecursion P xs → Contains xs x → P x
 each_of P xs x all has = subst P has.2 (All-from_recursion P xs all has.0 x has.1)
 
+-- ---- keys that were read
+
+-- which of some files has this path
+pub file_of : (files : List HeldFile) (path : List ℕ) → Contains (paths_of files) path → (f : HeldFile) × Contains files f × (f.0 ≡ path)
+file_of [] path has = absurd (let lt = has.1 in omega (arith, lt))
+file_of (x ∷ files) path (zero, lt, is) = (x, (zero, omega arith, refl), is)
+file_of (x ∷ files) path (suc k, lt, is) = let f = file_of files path (k, omega (arith, lt), is) in (f.0, (suc f.1.0, (let l = f.1.1 in omega (arith, l)), f.1.2), f.2)
+
+pub key_holds : (held : Store) (files : List HeldFile) (name : Hash) (key : List ℕ) → AreKeys held files → IsKeyIn files name key → HoldsKey held name key
+key_holds held files name key are k = record { file = each_of (IsFileIn held) files (key_path name, File false key) are.each k.among; digest = k.digest }
+
+pub key_found : (held : Store) (files : List HeldFile) (name : Hash) (key : List ℕ) → AreKeys held files → HoldsKey held name key → IsKeyIn files name key
+key_found held files name key are k =
+    let listed = are.listing.all (key_path name) (hash_text name, refl) (subst IsSome (sym k.file) refl) in
+    let f = file_of files (key_path name) listed in
+    let there : held f.0.0 ≡ Some f.0.1 = each_of (IsFileIn held) files f.0 are.each f.1 in
+    let entry : Some f.0.1 ≡ Some (File false key) = sym there ∙ ap held f.2 ∙ k.file in
+    let one : f.0.1 ≡ File false key = cc in
+    record { among = subst (Contains files) (λ i. (f.2 i, one i)) f.1; digest = k.digest }
+
 -- ---- one path more
 
-module _ (held : Store) (seen : List (List ℕ)) (path : List ℕ) (less : AllByRecursion (λ q. slice_cmp nat_cmp q path ≡ Less) seen) (found next : Found) (was : IsSurveyed held seen found) where
+module _ (held : Store) (keys : List HeldFile) (are_keys : AreKeys held keys) (seen : List (List ℕ)) (path : List ℕ) (less : AllByRecursion (λ q. slice_cmp nat_cmp q path ≡ Less) seen) (found next : Found) (was : IsSurveyed held seen found) where
   abbrev More : List (List ℕ)
   More = seen ++ path ∷ []
 
@@ -75,13 +96,13 @@ module _ (held : Store) (seen : List (List ℕ)) (path : List ℕ) (less : AllBy
   at_path : Contains More path
   at_path = Contains-push seen path
 
-  file_at : (entry : Entry) → held path ≡ Some entry → (c : Candidate) → IsRecordFile held c → path ≡ record_path c.name → entry ≡ record_file c.stored
-  file_at entry at c file is = let e : Some entry ≡ Some (record_file c.stored) = sym at ∙ ap held is ∙ file.file in cc
+  file_at : (entry : Entry) → held path ≡ Some entry → (c : Candidate) → IsRecordFile held c → path ≡ record_path c.name → entry ≡ short_file c.stored
+  file_at entry at c file is = let e : Some entry ≡ Some (short_file c.stored) = sym at ∙ ap held is ∙ file.file in cc
 
-  takes : (entry : Entry) → held path ≡ Some entry → Takes path entry found next → IsSurveyed held More next
+  takes : (entry : Entry) → held path ≡ Some entry → Takes keys path entry found next → IsSurveyed held More next
   takes entry at t =
       let c = t.candidate in
-      let file : IsRecordFile held c = record { file = sym (ap held t.stands) ∙ at ∙ ap (λ e. Some e) t.is; name = t.good.name; spelled = t.good.spelled; short = t.good.short } in
+      let file : IsRecordFile held c = record { file = sym (ap held t.stands) ∙ at ∙ ap (λ e. Some e) t.is; name = t.good.name; spelled = t.good.spelled; short = t.good.short; key = t.good.key; key_held = key_holds held keys c.stored.sig.key t.good.key are_keys t.good.key_in; text = t.good.text } in
       record {
         ascend = subst Ascend (sym t.candidates) (pairs_push (λ a b. name_cmp a.name b.name ≡ Less) found.candidates.items c was.ascend (each_weaker (StandsAmong held seen) (λ x. name_cmp x.name c.name ≡ Less) (before c t.stands t.good.name) found.candidates.items was.each));
         each = subst (AllByRecursion (StandsAmong held More)) (sym t.candidates)
@@ -91,12 +112,12 @@ module _ (held : Store) (seen : List (List ℕ)) (path : List ℕ) (less : AllBy
         whole = λ q has. by q (Contains-push_cases seen path q has);
       }
     where
-      before : (c : Candidate) → path ≡ record_path c.name → c.name ≡ name_of c.stored.sig → (x : Candidate) → StandsAmong held seen x → name_cmp x.name c.name ≡ Less
+      before : (c : Candidate) → path ≡ record_path c.name → c.name ≡ short_name c.stored.sig → (x : Candidate) → StandsAmong held seen x → name_cmp x.name c.name ≡ Less
       before c stands name x s =
           let lt : slice_cmp nat_cmp (record_path x.name) path ≡ Less = each_of (λ q. slice_cmp nat_cmp q path ≡ Less) seen (record_path x.name) less s.at in
-          let e : slice_cmp nat_cmp (record_path (name_of x.stored.sig)) (record_path (name_of c.stored.sig)) ≡ Less =
-          ap (λ n. slice_cmp nat_cmp (record_path n) (record_path (name_of c.stored.sig))) (sym s.file.name) ∙ ap (λ n. slice_cmp nat_cmp (record_path x.name) (record_path n)) (sym name) ∙ ap (λ p. slice_cmp nat_cmp (record_path x.name) p) (sym stands) ∙ lt in
-          ap (λ n. name_cmp n c.name) s.file.name ∙ ap (λ n. name_cmp (name_of x.stored.sig) n) name ∙ records_in_order x.stored.sig c.stored.sig e
+          let e : slice_cmp nat_cmp (record_path (short_name x.stored.sig)) (record_path (short_name c.stored.sig)) ≡ Less =
+          ap (λ n. slice_cmp nat_cmp (record_path n) (record_path (short_name c.stored.sig))) (sym s.file.name) ∙ ap (λ n. slice_cmp nat_cmp (record_path x.name) (record_path n)) (sym name) ∙ ap (λ p. slice_cmp nat_cmp (record_path x.name) p) (sym stands) ∙ lt in
+          ap (λ n. name_cmp n c.name) s.file.name ∙ ap (λ n. name_cmp (short_name x.stored.sig) n) name ∙ records_in_order x.stored.sig c.stored.sig e
 
       by : (q : List ℕ) → Contains seen q ⊎ (path ≡ q) → Contains next.rejected.items q ⊎ ((c : Candidate) × Contains next.candidates.items c × (q ≡ record_path c.name))
       by q (inl s) = by_old (was.whole q s)
@@ -106,7 +127,7 @@ module _ (held : Store) (seen : List (List ℕ)) (path : List ℕ) (less : AllBy
           by_old (inr w) = inr (w.0, subst (λ (l : List Candidate). Contains l w.0) (sym t.candidates) (Contains-append_left found.candidates.items (t.candidate ∷ []) w.0 w.1), w.2)
       by q (inr e) = inr (t.candidate, subst (λ (l : List Candidate). Contains l t.candidate) (sym t.candidates) (Contains-push found.candidates.items t.candidate), sym e ∙ t.stands)
 
-  rejects : (entry : Entry) → held path ≡ Some entry → Rejects path entry found next → IsSurveyed held More next
+  rejects : (entry : Entry) → held path ≡ Some entry → Rejects keys path entry found next → IsSurveyed held More next
   rejects entry at r = record {
     ascend = subst Ascend (sym r.candidates) was.ascend;
     each = subst (AllByRecursion (StandsAmong held More)) (sym r.candidates) (each_weaker (StandsAmong held seen) (StandsAmong held More) further found.candidates.items was.each);
@@ -116,7 +137,7 @@ module _ (held : Store) (seen : List (List ℕ)) (path : List ℕ) (less : AllBy
     where
       by_new : (q : List ℕ) → Contains found.rejected.items q ⊎ (path ≡ q) → Contains More q × HasNoRecord held q
       by_new q (inl o) = let w = was.rejected q o in (Contains-append_left seen (path ∷ []) q w.0, w.1)
-      by_new q (inr e) = (subst (Contains More) e at_path, λ c file is. r.none c (record { name = file.name; spelled = file.spelled; short = file.short }) (e ∙ is) (file_at entry at c file (e ∙ is)))
+      by_new q (inr e) = (subst (Contains More) e at_path, λ c file is. r.none c (record { name = file.name; spelled = file.spelled; short = file.short; key = file.key; key_in = key_found held keys c.stored.sig.key file.key are_keys file.key_held; text = file.text }) (e ∙ is) (file_at entry at c file (e ∙ is)))
 
       by : (q : List ℕ) → Contains seen q ⊎ (path ≡ q) → Contains next.rejected.items q ⊎ ((c : Candidate) × Contains next.candidates.items c × (q ≡ record_path c.name))
       by q (inl s) = by_old (was.whole q s)
@@ -126,7 +147,7 @@ module _ (held : Store) (seen : List (List ℕ)) (path : List ℕ) (less : AllBy
           by_old (inr w) = inr (w.0, subst (λ (l : List Candidate). Contains l w.0) (sym r.candidates) w.1, w.2)
       by q (inr e) = inl (subst (λ (l : List (List ℕ)). Contains l q) (sym r.rejected) (subst (Contains (found.rejected.items ++ path ∷ [])) e (Contains-push found.rejected.items path)))
 
-  visited : (entry : Entry) → held path ≡ Some entry → Visits path entry found next → IsSurveyed held More next
+  visited : (entry : Entry) → held path ≡ Some entry → Visits keys path entry found next → IsSurveyed held More next
   visited entry at (inl t) = takes entry at t
   visited entry at (inr r) = rejects entry at r
 
@@ -142,15 +163,15 @@ as_many [] = refl
 as_many (x ∷ files) = ap suc (as_many files)
 
 -- what the next file is told to be is so of it
-pub surveyed_more : (held : Store) (files : List HeldFile) (n : ℕ) (f : HeldFile) (found next : Found) → n < length files → f ≡ get_or files n f → AreRecords held files → IsSurveyed held (take n (paths_of files)) found → Visits f.0 f.1 found next → IsSurveyed held (take (n + 1) (paths_of files)) next
-surveyed_more held files n f found next lt is all was visits =
+pub surveyed_more : (held : Store) (keys : List HeldFile) → AreKeys held keys → (files : List HeldFile) (n : ℕ) (f : HeldFile) (found next : Found) → n < length files → f ≡ get_or files n f → AreRecords held files → IsSurveyed held (take n (paths_of files)) found → Visits keys f.0 f.1 found next → IsSurveyed held (take (n + 1) (paths_of files)) next
+surveyed_more held keys are_keys files n f found next lt is all was visits =
     let paths = paths_of files in
     let within : n < length paths = omega (arith, lt, as_many files) in
     let at : get_or paths n f.0 ≡ f.0 = path_at files n f lt is in
     let grown : take (n + 1) paths ≡ take n paths ++ f.0 ∷ [] = take_more paths n f.0 within ∙ ap (λ (p : List ℕ). take n paths ++ p ∷ []) at in
     let here : held f.0 ≡ Some f.1 = each_of (IsFileIn held) files f all.each (n, lt, sym is) in
     subst (λ (l : List (List ℕ)). IsSurveyed held l next) (sym grown)
-    (visited held (take n paths) f.0 (less_before paths n f.0 within (sym at) all.listing.ascending) found next was f.1 here visits)
+    (visited held keys are_keys (take n paths) f.0 (less_before paths n f.0 within (sym at) all.listing.ascending) found next was f.1 here visits)
 
 -- one file more
 pub read_more : (held : Store) (paths : List (List ℕ)) (n : ℕ) (path : List ℕ) (files next : List HeldFile) → n < length paths → path ≡ get_or paths n path → IsSome (held path) → AreRead held (take n paths) files → HasRead held path files next → AreRead held (take (n + 1) paths) next
@@ -180,31 +201,50 @@ believed_file held c b =
     in_range (y ∷ ys) zero x e = omega arith
     in_range (y ∷ ys) (suc k) x e = let lt = in_range ys k x e in omega (arith, lt)
 
+-- records with the same bytes are one, but for their keys
+pub same_stored : (a b : ShortStored) → SpellsShort (short_record a) a → SpellsShort (short_record b) b → short_record a ≡ short_record b → a ≡ b
+same_stored a b one other bytes =
+    let read : Some a ≡ Some b = sym (short_stored_again (short_record a) a one) ∙ short_stored_again (short_record a) b (subst (λ (l : List ℕ). SpellsShort l b) (sym bytes) other) in
+    cc
+
+-- ... also where one is read from the bytes that the other one spells
+pub same_bytes_stored : (bytes : List ℕ) (s other : ShortStored) → SpellsShort bytes s → SpellsShort (short_record other) other → bytes ≡ short_record other → other ≡ s
+same_bytes_stored bytes s other one two is =
+    let read : Some other ≡ Some s = sym (short_stored_again bytes other (subst (λ (l : List ℕ). SpellsShort l other) (sym is) two)) ∙ short_stored_again bytes s one in
+    cc
+
+-- what a fact entails holds where it does
+pub none_weaker : {T P Q : Type 0} (found : Option T) → (P → Q) → IfNone found P → IfNone found Q
+none_weaker None then fact = then fact
+none_weaker (Some x) then fact = fact
+
+-- ... and what a fact of a value entails
+pub some_weaker : {T : Type 0} {P Q : T → Type 0} (found : Option T) → ((x : T) → P x → Q x) → IfSome found P → IfSome found Q
+some_weaker None then fact = tt
+some_weaker (Some x) then fact = then x fact
+
 -- what has the same bytes has one name
-pub one_name : (a b : Candidate) → IsGood a → IsGood b → record_bytes a.stored ≡ record_bytes b.stored → a.name ≡ b.name
-one_name a b one other bytes =
-    let read : Some a.stored ≡ Some b.stored = sym (stored_again (record_bytes a.stored) a.stored one.spelled.sound one.spelled.is) ∙ stored_again (record_bytes a.stored) b.stored other.spelled.sound (bytes ∙ other.spelled.is) in
-    let stored : a.stored ≡ b.stored = cc in
-    one.name ∙ ap (λ (s : StoredSig). name_of s.sig) stored ∙ sym other.name
+pub one_name : (keys : List HeldFile) (a b : Candidate) → IsGood keys a → IsGood keys b → short_record a.stored ≡ short_record b.stored → a.name ≡ b.name
+one_name keys a b one other bytes = one.name ∙ ap (λ (s : ShortStored). short_name s.sig) (same_stored a.stored b.stored one.spelled other.spelled bytes) ∙ sym other.name
+
+bytes_in : {x y : List ℕ} {e f : _} → Some (File e x) ≡ Some (File f y) → x ≡ y
+bytes_in e = cc
 
 -- records at one path are one
 pub one_record : (held : Store) (a b : Candidate) → IsRecordFile held a → IsRecordFile held b → record_path a.name ≡ record_path b.name → a ≡ b
 one_record held a b fa fb same =
     let text : hash_text a.name ≡ hash_text b.name = cc in
-    let name : a.name ≡ b.name = fa.name ∙ same_name_text a.stored.sig b.stored.sig (ap hash_text (sym fa.name) ∙ text ∙ ap hash_text fb.name) ∙ sym fb.name in
-    let file : Some (record_file a.stored) ≡ Some (record_file b.stored) = sym fa.file ∙ ap held same ∙ fb.file in
-    let bytes : record_bytes a.stored ≡ record_bytes b.stored = bytes_in file in
-    let read : Some a.stored ≡ Some b.stored = sym (stored_again (record_bytes a.stored) a.stored fa.spelled.sound fa.spelled.is) ∙ stored_again (record_bytes a.stored) b.stored fb.spelled.sound (bytes ∙ fb.spelled.is) in
-    let stored : a.stored ≡ b.stored = cc in
-    λ i. record { name = name i; stored = stored i }
-  where
-    bytes_in : {x y : List ℕ} {e f : _} → Some (File e x) ≡ Some (File f y) → x ≡ y
-    bytes_in e = cc
+    let name : a.name ≡ b.name = fa.name ∙ same_short_text a.stored.sig b.stored.sig (ap hash_text (sym fa.name) ∙ text ∙ ap hash_text fb.name) ∙ sym fb.name in
+    let file : Some (short_file a.stored) ≡ Some (short_file b.stored) = sym fa.file ∙ ap held same ∙ fb.file in
+    let stored : a.stored ≡ b.stored = same_stored a.stored b.stored fa.spelled fb.spelled (bytes_in file) in
+    let key : fa.key ≡ fb.key = bytes_in (sym fa.key_held.file ∙ ap (λ (s : ShortStored). held (key_path s.sig.key)) stored ∙ fb.key_held.file) in
+    let sig : a.sig ≡ b.sig = fa.text ∙ (λ i. whole_text (short_bytes (stored i).sig) (key i)) ∙ sym fb.text in
+    λ i. record { name = name i; stored = stored i; sig = sig i }
 
 pub among_of : (xs : List Candidate) (x : Candidate) → Contains xs x → IsAmong xs x
 among_of xs x has = (has.0, slice_get-get_or xs has.0 x has.1 ∙ ap (λ y. Some y) has.2)
 
-pub found_in : (held : Store) (paths : List (List ℕ)) (found : Found) → IsListing (codes "rec/") held paths → IsSurveyed held paths found → IsFoundIn held found.candidates.items found.rejected.items
+pub found_in : (held : Store) (paths : List (List ℕ)) (found : Found) → IsListing (codes "rec2/") held paths → IsSurveyed held paths found → IsFoundIn held found.candidates.items found.rejected.items
 found_in held paths found listing s = record { found = record { ascend = s.ascend; each = each_weaker (StandsAmong held paths) (IsRecordFile held) (λ c x. x.file) found.candidates.items s.each; whole = whole }; within = λ q r. (listing.are_held q (s.rejected q r).0).0; not_left = not_left; whole = all }
   where
     files : AllByRecursion (IsRecordFile held) found.candidates.items
@@ -220,18 +260,19 @@ found_in held paths found listing s = record { found = record { ascend = s.ascen
     not_left : (q : List ℕ) → Contains found.rejected.items q → IsLeft held q → ⊥
     not_left q r = let w = s.rejected q r in let at = listing.are_held q w.0 in by at.0 at.1 w.1
       where
-        by : BeginsWith (codes "rec/") q → IsSome (held q) → HasNoRecord held q → IsLeft held q → ⊥
+        by : BeginsWith (codes "rec2/") q → IsSome (held q) → HasNoRecord held q → IsLeft held q → ⊥
         by begins some none (inl e) = e.records (inr (begins.0, begins.1))
         by begins some none (inr (inl b)) = none b.0 (believed_file held b.0 b.1) b.2
-        by begins some none (inr (inr (inl t))) = heads_differ (differ 114 115 refl) (sym begins.1 ∙ t.2)
-        by begins some none (inr (inr (inr n))) = false≢true (sym (ap is_some n) ∙ some)
+        by begins some none (inr (inr (inl k))) = heads_differ (differ 114 107 refl) (sym begins.1 ∙ k.2)
+        by begins some none (inr (inr (inr (inl t)))) = heads_differ (differ 114 115 refl) (sym begins.1 ∙ t.2)
+        by begins some none (inr (inr (inr (inr n)))) = false≢true (sym (ap is_some n) ∙ some)
 
-    all : (path : List ℕ) → IsSome (held (inside (codes "rec") path)) → Contains found.rejected.items (inside (codes "rec") path) ⊎ ((c : Candidate) × Contains found.candidates.items c × (inside (codes "rec") path ≡ record_path c.name))
-    all path some = s.whole (inside (codes "rec") path) (listing.all (inside (codes "rec") path) (path, refl) some)
+    all : (path : List ℕ) → IsSome (held (inside (codes "rec2") path)) → Contains found.rejected.items (inside (codes "rec2") path) ⊎ ((c : Candidate) × Contains found.candidates.items c × (inside (codes "rec2") path ≡ record_path c.name))
+    all path some = s.whole (inside (codes "rec2") path) (listing.all (inside (codes "rec2") path) (path, refl) some)
 
--- what is read of a listing of `rec/` is all that stands there
-pub listing_read : (held : Store) (paths : List (List ℕ)) (files : List HeldFile) → IsListing (codes "rec/") held paths → AreRead held paths files → AreRecords held files
-listing_read held paths files listing read = record { listing = subst (IsListing (codes "rec/") held) (sym read.at) listing; each = read.each }
+-- what is read of a listing is all that stands there
+pub listing_read : (prefix : List ℕ) (held : Store) (paths : List (List ℕ)) (files : List HeldFile) → IsListing prefix held paths → AreRead held paths files → AreUnder prefix held files
+listing_read prefix held paths files listing read = record { listing = subst (IsListing prefix held) (sym read.at) listing; each = read.each }
 
 -- all of them
 pub surveyed_all : (held : Store) (files : List HeldFile) (n : ℕ) (found : Found) → length files ≤ n → AreRecords held files → IsSurveyed held (take n (paths_of files)) found → IsFoundIn held found.candidates.items found.rejected.items

@@ -5,7 +5,7 @@ use Rattle.tree_model.specs.Hash.{hash_text}
 use Rattle.tree_model.specs.Path.{IsPart, inside}
 use Rattle.outside_traits.specs.Store.{Store}
 use Rattle.meta_model.specs.declared.plan.PlanTask.{PlanTask}
-use Rattle.store_model.specs.Paths.{slashes}
+use Rattle.outside_traits.specs.Store.{slashes}
 
 -- a text that is one part of a path
 pub record IsOnePart (text : List ℕ) : Type 0 where
@@ -17,21 +17,23 @@ pub record HasPlace (of : PlanTask) : Type 0 where
   pub pn : IsOnePart of.id.pn
   pub task : IsOnePart of.id.task
 
--- where it is written first: `tmp/rec/NAME`
+-- where it is written first: `tmp/rec2/NAME`
 abbrev pub staged_record_path : Hash → List ℕ
-staged_record_path name = inside (codes "tmp/rec") (hash_text name)
+staged_record_path name = inside (codes "tmp/rec2") (hash_text name)
 
 -- what stands under `tmp/`: records and stamps that are written there first, and stamps that were taken away
 abbrev pub IsTemporary : List ℕ → Type 0
 IsTemporary path =
-    ((rest : List ℕ) × (path ≡ inside (codes "rec") rest) × (slashes rest ≡ 0))
+    ((rest : List ℕ) × (path ≡ inside (codes "rec2") rest) × (slashes rest ≡ 0))
     ⊎ (((rest : List ℕ) × (path ≡ inside (codes "stamp") rest) × (slashes rest ≡ 1))
     ⊎ ((rest : List ℕ) × (path ≡ inside (codes "old") rest) × (slashes rest ≡ 1)))
 
--- What is held under `rec/` and `tmp/` stands where records and temporary files do, and nothing is held at these two, nor at `stamp`.
+-- What is held under `rec2/`, `key/` and `tmp/` stands where records, keys and temporary files do, and nothing is held at these three, nor at `stamp`.
 pub record IsLaidOut (held : Store) : Type 0 where
-  pub records : (path : List ℕ) → IsSome (held (inside (codes "rec") path)) → slashes path ≡ 0
+  pub records : (path : List ℕ) → IsSome (held (inside (codes "rec2") path)) → slashes path ≡ 0
+  pub keys : (path : List ℕ) → IsSome (held (inside (codes "key") path)) → slashes path ≡ 0
   pub temporary : (path : List ℕ) → IsSome (held (inside (codes "tmp") path)) → IsTemporary path
-  pub at_records : held (codes "rec") ≡ None
+  pub at_records : held (codes "rec2") ≡ None
+  pub at_keys : held (codes "key") ≡ None
   pub at_stamps : held (codes "stamp") ≡ None
   pub at_temporary : held (codes "tmp") ≡ None

@@ -9,10 +9,11 @@ use std::marker::Model;
 use std::sync::Mutex;
 use tree_model::{Entry, Mem, Text};
 
-/// What some files under `rec/` say, wherever they are all that stands there. Contracts see the files, and what they say.
+/// What some files under `rec2/` and under `key/` say, wherever they are all that stands there. Contracts see the files, and what they say.
 #[derive(Drop)]
 pub struct Known {
     files: Vec<(Text, Entry)>,
+    keys: Vec<(Text, Entry)>,
     survey: Survey,
 }
 
@@ -21,28 +22,37 @@ impl Model for Known {
     ghost use Rattle.store_opening.specs.Survey.{HeldFile, IsSurveyOf};
     ghost use Rattle.std.specs.Prelude.{List};
 
-    ghost Value = { List HeldFile × ASurvey };
+    ghost Value = { List HeldFile × (List HeldFile × ASurvey) };
 
-    ghost view = { λ k. (k.files.items, k.survey) };
+    ghost view = { λ k. (k.files.items, (k.keys.items, k.survey)) };
 
-    ghost invariant = { λ k. IsSurveyOf k.files.items k.survey.index k.survey.doomed.items k.survey.bare.items };
+    ghost invariant = { λ k. IsSurveyOf k.files.items k.keys.items k.survey.index k.survey.doomed.items k.survey.bare.items };
 }
 
 impl Known {
-    /// Works out what these files say, which are given in the order of their paths.
-    pub fn of_files(alloc: Global, files: Vec<(Text, Entry)>) -> Result<Known, Mem>
-        ensures { IfOk result (λ known. known.0 ≡ files.items) }
+    /// Works out what these files say: those under `rec2/`, and those under `key/`, each in the order of their paths.
+    pub fn of_files(
+        alloc: Global,
+        files: Vec<(Text, Entry)>,
+        keys: Vec<(Text, Entry)>,
+    ) -> Result<Known, Mem>
+        ensures files { IfOk result (λ known. known.0 ≡ files.items) }
+        ensures keys { IfOk result (λ known. known.1.0 ≡ keys.items) }
     {
-        let survey = survey_of(alloc, &files)?;
-        Ok(Known { files, survey })
+        let survey = survey_of(alloc, &files, &keys)?;
+        Ok(Known {
+            files,
+            keys,
+            survey,
+        })
     }
 }
 
 /// What is known, where it is of these files.
-fn survey_in(known: Known, files: &[(Text, Entry)]) -> Option<Survey>
-    ensures { IfSome result (λ survey. IsSurveyOf files.now survey.index survey.doomed.items survey.bare.items) }
+fn survey_in(known: Known, files: &[(Text, Entry)], keys: &[(Text, Entry)]) -> Option<Survey>
+    ensures { IfSome result (λ survey. IsSurveyOf files.now keys.now survey.index survey.doomed.items survey.bare.items) }
 {
-    if same_entries(known.files.as_slice(), files) {
+    if same_entries(known.files.as_slice(), files) && same_entries(known.keys.as_slice(), keys) {
         return Some(known.survey);
     }
     None
@@ -64,7 +74,7 @@ impl Ahead {
         }
     }
 
-    /// Leaves what is known of the files under `rec/`.
+    /// Leaves what is known of the files under `rec2/` and `key/`.
     pub fn put(&self, known: Known) {
         if let Some(mut place) = self.known.try_lock() {
             *place = Some(known);
@@ -72,10 +82,14 @@ impl Ahead {
     }
 
     /// Takes what is known of these files, where that is there.
-    pub(crate) fn survey_of(&self, files: &[(Text, Entry)]) -> Option<Survey>
-        ensures { IfSome result (λ survey. IsSurveyOf files.now survey.index survey.doomed.items survey.bare.items) }
+    pub(crate) fn survey_of(
+        &self,
+        files: &[(Text, Entry)],
+        keys: &[(Text, Entry)],
+    ) -> Option<Survey>
+        ensures { IfSome result (λ survey. IsSurveyOf files.now keys.now survey.index survey.doomed.items survey.bare.items) }
     {
         let mut place = self.known.try_lock()?;
-        survey_in(place.take()?, files)
+        survey_in(place.take()?, files, keys)
     }
 }

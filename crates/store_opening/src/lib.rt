@@ -12,11 +12,11 @@
 //! (`opened_is_valid`); what is available stays so (`opened_stays`), and so does what a plan may reuse (`reuse_again`). There is a way
 //! for folders, and nothing is left under `tmp/` (`opened_has_way`).
 //!
-//! Opening reads each file under `rec/`, and none under `stamp/`, which stays as it is: a stamp is read when its task is asked for. But for each task that
-//! gave nothing, by its record, opening looks at `work/PN`: where something is held there, or at `work`, the task isn't available, and would be as soon as
-//! another task's publication makes way for its own folder. So then its stamp goes.
+//! Opening reads each file under `rec2/` and under `key/`, each key once, and none under `stamp/`, which stays as it is: a stamp is read when its task
+//! is asked for. But for each task that gave nothing, by its record, opening looks at `work/PN`: where something is held there, or at `work`, the task
+//! isn't available, and would be as soon as another task's publication makes way for its own folder. So then its stamp goes.
 //!
-//! What the files under `rec/` say another thread may have worked out before (`Known`, `Ahead`): that counts only where opening reads just these
+//! What the files under `rec2/` and `key/` say another thread may have worked out before (`Known`, `Ahead`): that counts only where opening reads just these
 //! files, so whatever was left there, no clause is another.
 //!
 //! `judge_disk` gives the rows that opening would give, and changes nothing: neither what is held nor any image. It calls `list` and `read` of the disk alone.
@@ -27,6 +27,7 @@
 mod bare;
 mod judged;
 mod judging;
+mod keys;
 mod known;
 mod laws;
 mod opening;
@@ -40,5 +41,5 @@ pub use known::{Ahead, Known};
 pub use laws::{opened_has_way, opened_is_valid, opened_stays, reuse_again};
 pub use opening::open_disk;
 pub use places::{record_path, work_at};
-pub use records::same_bytes;
+pub use records::{read_under, same_bytes};
 pub use survey::remove_all;

@@ -10,7 +10,7 @@ use tree_model::{Hash, Mem, Text};
 pub fn record_path(alloc: Global, name: &Hash) -> Result<Text, Mem>
     ensures { IfOk result (λ path. path ≡ record_path name.now) }
 {
-    let mut path = Text::from_str(alloc, "rec/")?;
+    let mut path = Text::from_str(alloc, "rec2/")?;
     path.push_str(name.text(alloc)?.as_str())?;
     Ok(path)
 }

@@ -1,22 +1,24 @@
-// The files under `rec/` that may be believed.
+// The files under `rec2/` that may be believed.
 ghost use Rattle.std.specs.Prelude.{◌≡◌, ◌≤◌, ◌↔◌, All, Contains, IfNone, IfOk, IfSome, IsSome, IsTrue, List, OnOk, ℕ};
 ghost use Rattle.std.specs.List.{AllByRecursion};
 ghost use Rattle.outside_traits.specs.Fault.{Counts, disk_failed};
 ghost use Rattle.outside_traits.specs.Passes.{Passes, Same};
 ghost use Rattle.outside_traits.specs.Store.{Store};
 ghost use Rattle.store_model.specs.declared.candidate.Candidate.{Candidate as ACandidate};
-ghost use Rattle.store_model.specs.Stored.{SpellsStored};
-ghost use Rattle.store_model.specs.Spelling.{name_of, record_bytes};
+ghost use Rattle.store_model.specs.Stored.{SpellsShort};
+ghost use Rattle.store_model.specs.Spelling.{short_bytes, short_name, short_record, whole_text};
 ghost use Rattle.store_model.specs.Paths.{record_path};
-ghost use Rattle.store_model.specs.Publication.{record_file};
+ghost use Rattle.store_model.specs.Publication.{short_file};
 ghost use Rattle.store_model.specs.Readable.{HasShortPaths};
-ghost use Rattle.store_opening.specs.Survey.{AreRead, AreRecords, HasRead, IsFoundIn, IsGood, Visits};
+ghost use Rattle.store_opening.specs.Survey.{AreKeys, AreRead, AreRecords, AreUnder, HasRead, IsFoundIn, IsGood, IsKeyTable, Visits};
 
+use crate::keys::{key_in, key_table};
+use indexmap::IndexMap;
 use meta_model::MAX_OUTPUT_PATH;
 use outside_traits::{Disk, DiskFault};
-use sig_gen::{SigFault, decode_stored, name_by, signature_in};
+use sig_gen::{SigFault, decode_short_stored, signature_in};
 use std::alloc::Global;
-use store_model::{Candidate, StoredSig};
+use store_model::{Candidate, ShortStored, SigText};
 use tree_model::{Entry, Hash, ManifestLine, Mem, Text};
 
 /// Whether two byte strings are the same.
@@ -39,46 +41,76 @@ fn are_short(lines: &[ManifestLine]) -> bool
 fn is_path_of(path: &str, name: &Hash) -> bool
     ensures { IsTrue result ↔ (path.now ≡ record_path name.now) }
 {
-    match path.as_bytes().strip_prefix(b"rec/") {
+    match path.as_bytes().strip_prefix(b"rec2/") {
         Some(digits) => same_bytes(digits, name.digits().as_slice()),
         None => false,
     }
 }
 
-/// The name of a record, by the bytes that spell it.
-fn name_in(bytes: &[u8], stored: &StoredSig) -> Result<Hash, Mem>
-    requires { SpellsStored bytes.now stored.now }
-    ensures { IfOk result (λ name. name ≡ name_of stored.now.sig) }
+/// The short text of a record's signature, among the bytes that spell the record.
+fn short_in<'a>(bytes: &'a [u8], stored: &ShortStored) -> Result<&'a [u8], Mem>
+    requires { SpellsShort bytes.now stored.now }
+    ensures { IfOk result (λ short. short.now ≡ short_bytes stored.now.sig) }
 {
     match signature_in(bytes) {
-        Ok(sig) => Ok(name_by(sig)),
+        Ok(short) => Ok(short),
         Err(SigFault::Memory) => Err(Mem),
         Err(SigFault::BadRecord) => unreachable!(),
     }
 }
 
-/// The candidate that a record is, which was read from these bytes, unless a path of its manifest is long.
-fn candidate_by(bytes: &[u8], stored: StoredSig) -> Result<Option<Candidate>, Mem>
-    requires { SpellsStored bytes.now stored }
-    ensures some { IfOk result (λ found. IfSome found (λ c. (c.stored ≡ stored) × (c.name ≡ name_of stored.sig)
-        × HasShortPaths stored.manifest)) }
-    ensures none { IfOk result (λ found. IfNone found (HasShortPaths stored.manifest → ⊥)) }
+/// A record with its key.
+#[tactic(auto, unfolding(store_model::specs::Spelling::short_name))]
+fn with_key(alloc: Global, bytes: &[u8], stored: ShortStored, key: &[u8]) -> Result<Candidate, Mem>
+    requires { SpellsShort bytes.now stored }
+    ensures stored { IfOk result (λ c. c.stored ≡ stored) }
+    ensures name { IfOk result (λ c. c.name ≡ short_name stored.sig) }
+    ensures text { IfOk result (λ c. c.sig ≡ whole_text (short_bytes stored.sig) key.now) }
 {
-    if are_short(stored.manifest.lines()) {
-        let name = name_in(bytes, &stored)?;
-        return Ok(Some(Candidate { name, stored }));
+    let short = short_in(bytes, &stored)?;
+    let name = Hash::of(short);
+    let sig = SigText::new(short.to_vec(alloc)?, key)?;
+    Ok(Candidate { name, stored, sig })
+}
+
+/// The keys that were read: the files under `key/`, and the place of each key by its name.
+#[derive(Drop)]
+pub(crate) struct Keys<'a> {
+    pub(crate) files: &'a [(Text, Entry)],
+    pub(crate) table: &'a IndexMap<[u8; 32], usize>,
+}
+
+/// The candidate that a record is, which was read from these bytes, unless a path of its manifest is long, or its key isn't there.
+fn candidate_by(
+    alloc: Global,
+    bytes: &[u8],
+    stored: ShortStored,
+    keys: &Keys,
+) -> Result<Option<Candidate>, Mem>
+    requires spells { SpellsShort bytes.now stored }
+    requires keys { IsKeyTable keys.now.files.now keys.now.table.now.entries }
+    ensures some { IfOk result (λ found. IfSome found (λ c. (c.stored ≡ stored) × IsGood keys.now.files.now c)) }
+    ensures none { IfOk result (λ found. IfNone found ((c : ACandidate) → IsGood keys.now.files.now c → c.stored ≡ stored → ⊥)) }
+{
+    if !are_short(stored.manifest.lines()) {
+        return Ok(None);
     }
-    Ok(None)
+    match key_in(keys.files, keys.table, &stored.sig.key) {
+        Some(key) => Ok(Some(with_key(alloc, bytes, stored, key)?)),
+        None => Ok(None),
+    }
 }
 
 /// The candidate that some bytes are, wherever they stand.
-fn record_in(alloc: Global, bytes: &[u8]) -> Result<Option<Candidate>, Mem>
-    ensures some { IfOk result (λ found. IfSome found (λ c. IsGood c × (bytes.now ≡ record_bytes c.stored))) }
-    ensures none { IfOk result (λ found. IfNone found ((c : ACandidate) → IsGood c → bytes.now ≡ record_bytes c.stored
-        → ⊥)) }
+fn record_in(alloc: Global, bytes: &[u8], keys: &Keys) -> Result<Option<Candidate>, Mem>
+    requires { IsKeyTable keys.now.files.now keys.now.table.now.entries }
+    ensures some { IfOk result (λ found. IfSome found (λ c. IsGood keys.now.files.now c
+        × (bytes.now ≡ short_record c.stored))) }
+    ensures none { IfOk result (λ found. IfNone found ((c : ACandidate) → IsGood keys.now.files.now c
+        → bytes.now ≡ short_record c.stored → ⊥)) }
 {
-    match decode_stored(alloc, bytes) {
-        Ok(stored) => candidate_by(bytes, stored),
+    match decode_short_stored(alloc, bytes) {
+        Ok(stored) => candidate_by(alloc, bytes, stored, keys),
         Err(SigFault::BadRecord) => Ok(None),
         Err(SigFault::Memory) => Err(Mem),
     }
@@ -96,27 +128,39 @@ fn at_its_path(path: &str, candidate: Candidate) -> Option<Candidate>
 }
 
 /// The candidate that some bytes are, which were read at a path.
-fn candidate_in(alloc: Global, path: &str, bytes: &[u8]) -> Result<Option<Candidate>, Mem>
-    ensures some { IfOk result (λ found. IfSome found (λ c. IsGood c × (path.now ≡ record_path c.name)
-        × (bytes.now ≡ record_bytes c.stored))) }
-    ensures none { IfOk result (λ found. IfNone found ((c : ACandidate) → IsGood c → path.now ≡ record_path c.name
-        → bytes.now ≡ record_bytes c.stored → ⊥)) }
+fn candidate_in(
+    alloc: Global,
+    path: &str,
+    bytes: &[u8],
+    keys: &Keys,
+) -> Result<Option<Candidate>, Mem>
+    requires { IsKeyTable keys.now.files.now keys.now.table.now.entries }
+    ensures some { IfOk result (λ found. IfSome found (λ c. IsGood keys.now.files.now c × (path.now ≡ record_path c.name)
+        × (bytes.now ≡ short_record c.stored))) }
+    ensures none { IfOk result (λ found. IfNone found ((c : ACandidate) → IsGood keys.now.files.now c
+        → path.now ≡ record_path c.name → bytes.now ≡ short_record c.stored → ⊥)) }
 {
-    match record_in(alloc, bytes)? {
+    match record_in(alloc, bytes, keys)? {
         Some(candidate) => Ok(at_its_path(path, candidate)),
         None => Ok(None),
     }
 }
 
 /// The candidate that an entry is, which was read at a path.
-fn candidate_of(alloc: Global, path: &str, entry: &Entry) -> Result<Option<Candidate>, Mem>
-    ensures some { IfOk result (λ found. IfSome found (λ c. IsGood c × (path.now ≡ record_path c.name)
-        × (entry.now ≡ record_file c.stored))) }
-    ensures none { IfOk result (λ found. IfNone found ((c : ACandidate) → IsGood c → path.now ≡ record_path c.name
-        → entry.now ≡ record_file c.stored → ⊥)) }
+fn candidate_of(
+    alloc: Global,
+    path: &str,
+    entry: &Entry,
+    keys: &Keys,
+) -> Result<Option<Candidate>, Mem>
+    requires { IsKeyTable keys.now.files.now keys.now.table.now.entries }
+    ensures some { IfOk result (λ found. IfSome found (λ c. IsGood keys.now.files.now c × (path.now ≡ record_path c.name)
+        × (entry.now ≡ short_file c.stored))) }
+    ensures none { IfOk result (λ found. IfNone found ((c : ACandidate) → IsGood keys.now.files.now c
+        → path.now ≡ record_path c.name → entry.now ≡ short_file c.stored → ⊥)) }
 {
     match entry {
-        Entry::File { exec: false, bytes } => candidate_in(alloc, path, bytes.as_slice()),
+        Entry::File { exec: false, bytes } => candidate_in(alloc, path, bytes.as_slice(), keys),
         Entry::File {
             exec: true,
             bytes: _,
@@ -125,7 +169,7 @@ fn candidate_of(alloc: Global, path: &str, entry: &Entry) -> Result<Option<Candi
     }
 }
 
-/// What is found under `rec/`: the candidates, and the paths of all else.
+/// What is found under `rec2/`: the candidates, and the paths of all else.
 #[derive(Drop)]
 pub(crate) struct Found {
     pub(crate) candidates: Vec<Candidate>,
@@ -133,29 +177,46 @@ pub(crate) struct Found {
 }
 
 /// Puts what an entry is, which was read at a path, to what is found.
-fn put_found(alloc: Global, path: &str, entry: &Entry, found: &mut Found) -> Result<(), Mem>
-    ensures visits { OnOk result (Visits path.now entry.now found.old found.new) }
-    ensures good { AllByRecursion IsGood found.old.candidates.items → AllByRecursion IsGood found.new.candidates.items }
+fn put_found(
+    alloc: Global,
+    path: &str,
+    entry: &Entry,
+    keys: &Keys,
+    found: &mut Found,
+) -> Result<(), Mem>
+    requires { IsKeyTable keys.now.files.now keys.now.table.now.entries }
+    ensures visits { OnOk result (Visits keys.now.files.now path.now entry.now found.old found.new) }
+    ensures good { AllByRecursion (IsGood keys.now.files.now) found.old.candidates.items
+        → AllByRecursion (IsGood keys.now.files.now) found.new.candidates.items }
 {
-    match candidate_of(alloc, path, entry)? {
+    match candidate_of(alloc, path, entry, keys)? {
         Some(candidate) => found.candidates.push(candidate)?,
         None => found.rejected.push(Text::from_str(alloc, path)?)?,
     }
     Ok(())
 }
 
-/// What these files are, which are all that stand under `rec/`.
-pub(crate) fn found_among(alloc: Global, files: &[(Text, Entry)]) -> Result<Found, Mem>
-    ensures found { IfOk result (λ found. (held : Store) → AreRecords held files.now
+/// What these files are, which are all that stand under `rec2/`; and these, all that stand under `key/`.
+pub(crate) fn found_among(
+    alloc: Global,
+    files: &[(Text, Entry)],
+    keys: &[(Text, Entry)],
+) -> Result<Found, Mem>
+    ensures found { IfOk result (λ found. (held : Store) → AreRecords held files.now → AreKeys held keys.now
         → IsFoundIn held found.candidates.items found.rejected.items) }
-    ensures good { IfOk result (λ found. AllByRecursion IsGood found.candidates.items) }
+    ensures good { IfOk result (λ found. AllByRecursion (IsGood keys.now) found.candidates.items) }
 {
+    let table = key_table(alloc, keys)?;
+    let keys = Keys {
+        files: keys,
+        table: &table,
+    };
     let mut found = Found {
         candidates: Vec::with_capacity(alloc, files.len())?,
         rejected: Vec::new(alloc),
     };
     for file in files {
-        put_found(alloc, file.0.as_str(), &file.1, &mut found)?;
+        put_found(alloc, file.0.as_str(), &file.1, &keys, &mut found)?;
     }
     Ok(found)
 }
@@ -195,15 +256,16 @@ fn read_all<D: Disk>(
     Ok(files)
 }
 
-/// Reads what stands under `rec/`.
-pub(crate) fn read_records<D: Disk>(
+/// Reads what stands at paths that begin with a prefix.
+pub fn read_under<D: Disk>(
     alloc: Global,
     disk: &mut D,
+    prefix: &str,
 ) -> Result<Vec<(Text, Entry)>, DiskFault>
-    ensures read { D.tells → IfOk result (λ files. AreRecords (D.story disk.old).held files.items) }
+    ensures read { D.tells → IfOk result (λ files. AreUnder prefix.now (D.story disk.old).held files.items) }
     ensures others { D.tells → Passes (D.story disk.old) (D.story disk.new) Same }
     ensures cause { Counts (D.faults disk.old) (D.faults disk.new) (disk_failed result) }
 {
-    let paths = disk.list(alloc, "rec/")?;
+    let paths = disk.list(alloc, prefix)?;
     read_all(alloc, disk, paths.as_slice())
 }

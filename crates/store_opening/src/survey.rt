@@ -40,7 +40,7 @@ pub(crate) fn survey_temporary<D: Disk>(
 }
 
 /// Puts a path to what goes.
-fn doom(alloc: Global, path: &str, doomed: &mut Vec<Text>) -> Result<(), Mem>
+pub(crate) fn doom(alloc: Global, path: &str, doomed: &mut Vec<Text>) -> Result<(), Mem>
     ensures { OnOk result (doomed.new.items ≡ doomed.old.items ++ path.now ∷ []) }
 {
     Ok(doomed.push(Text::from_str(alloc, path)?)?)
@@ -65,7 +65,7 @@ pub(crate) fn doom_held<D: Disk>(
     Ok(())
 }
 
-/// Puts one of the four folders' own paths to what goes, if something is held there.
+/// Puts one of the five folders' own paths to what goes, if something is held there.
 pub(crate) fn survey_at<D: Disk>(
     alloc: Global,
     disk: &mut D,

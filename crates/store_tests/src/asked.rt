@@ -28,20 +28,21 @@ pub fn opened(alloc: Global, disk: MemDisk) -> Result<Store<MemDisk>, Fail>
     requires { IsFresh (story_of disk) }
     ensures { IfOk result (λ store. store.kept ≡ []) }
 {
-    opened_beside(alloc, disk, Vec::new(alloc))
+    opened_beside(alloc, disk, Vec::new(alloc), Vec::new(alloc))
 }
 
-/// The same, where one thread left what these files say.
+/// The same, where one thread left what these files say, records and keys.
 pub fn opened_beside(
     alloc: Global,
     disk: MemDisk,
-    files: Vec<(Text, Entry)>,
+    records: Vec<(Text, Entry)>,
+    keys: Vec<(Text, Entry)>,
 ) -> Result<Store<MemDisk>, Fail>
     requires { IsFresh (story_of disk) }
     ensures { IfOk result (λ store. store.kept ≡ []) }
 {
     let ahead = Ahead::none();
-    ahead.put(Known::of_files(alloc, files)?);
+    ahead.put(Known::of_files(alloc, records, keys)?);
     match open_store(alloc, disk, &ahead) {
         Ok(store) => Ok(store),
         Err(_) => Err(Fail::from("not opened")),

@@ -10,55 +10,64 @@ use std::alloc::Global;
 use std::test::Fail;
 use tree_model::{Entry, Text};
 
+/// The paths of two keys, and the keys: of no lines, and of one.
+const NO_LINES: &str = "key/f1ab6b1fa3e07be02cdd3816ad1c1c0f6a540c262e4c805f208a901850e5dde0";
+
+const NO_LINES_KEY: &[u8] = b"0;";
+
+const ONE_LINE: &str = "key/d6c06e8e6df7906ba96e515dfb3beb4b1faead98e8525279bb761d1b516bb233";
+
+const ONE_LINE_KEY: &[u8] = b"1;1:x,-";
+
 /// The path of a record.
-const NAME: &str = "rec/200d8cacc48a20f9fd4ed575b3641e101c1fc914cfeaaded1ecf8e6d25a6935d";
+const NAME: &str = "rec2/fccf7280f0b71673fdc34066a31774a00c46b9403b23b5a246c7a940da0a7145";
 
 /// The record there: of a task that gave nothing.
 const RECORD: &[u8] =
-    b"6:bbrec1,23:6:bbsig1,1:p,1:a,0;0;0;,0;64:200d8cacc48a20f9fd4ed575b3641e101c1fc914cfeaaded1ecf8e6d25a6935d,";
+    b"6:bbrec2,89:6:bbsig2,1:p,1:a,64:f1ab6b1fa3e07be02cdd3816ad1c1c0f6a540c262e4c805f208a901850e5dde0,0;0;,0;64:fccf7280f0b71673fdc34066a31774a00c46b9403b23b5a246c7a940da0a7145,";
 
 /// It without its last byte.
 const CUT_RECORD: &[u8] =
-    b"6:bbrec1,23:6:bbsig1,1:p,1:a,0;0;0;,0;64:200d8cacc48a20f9fd4ed575b3641e101c1fc914cfeaaded1ecf8e6d25a6935d";
+    b"6:bbrec2,89:6:bbsig2,1:p,1:a,64:f1ab6b1fa3e07be02cdd3816ad1c1c0f6a540c262e4c805f208a901850e5dde0,0;0;,0;64:fccf7280f0b71673fdc34066a31774a00c46b9403b23b5a246c7a940da0a7145";
 
 /// It with the name of the next record as its unihash.
 const TURNED: &[u8] =
-    b"6:bbrec1,23:6:bbsig1,1:p,1:a,0;0;0;,0;64:3e874e7871c86c8b314d5cf99c7f54fd3bcccaba9a300f8eb03918a28b4f2a48,";
+    b"6:bbrec2,89:6:bbsig2,1:p,1:a,64:f1ab6b1fa3e07be02cdd3816ad1c1c0f6a540c262e4c805f208a901850e5dde0,0;0;,0;64:3499454fc2f9b43ffb296820a444b494c44716b4d484a1d408c18f0bdff47305,";
 
 /// The path of the record of another signature of that task.
-const OTHER: &str = "rec/3e874e7871c86c8b314d5cf99c7f54fd3bcccaba9a300f8eb03918a28b4f2a48";
+const OTHER: &str = "rec2/3499454fc2f9b43ffb296820a444b494c44716b4d484a1d408c18f0bdff47305";
 
 /// The record there, which has the output and the unihash of the first one.
 const SHARES: &[u8] =
-    b"6:bbrec1,28:6:bbsig1,1:p,1:a,1;1:x,-0;0;,0;64:200d8cacc48a20f9fd4ed575b3641e101c1fc914cfeaaded1ecf8e6d25a6935d,";
+    b"6:bbrec2,89:6:bbsig2,1:p,1:a,64:d6c06e8e6df7906ba96e515dfb3beb4b1faead98e8525279bb761d1b516bb233,0;0;,0;64:fccf7280f0b71673fdc34066a31774a00c46b9403b23b5a246c7a940da0a7145,";
 
 /// One with that unihash, and another output.
 const DIFFERS: &[u8] =
-    b"6:bbrec1,28:6:bbsig1,1:p,1:a,1;1:x,-0;0;,1;1:f,f0;64:e3b0c44298fc1c149afbf4c8996fb92427ae41e4649b934ca495991b7852b855,64:200d8cacc48a20f9fd4ed575b3641e101c1fc914cfeaaded1ecf8e6d25a6935d,";
+    b"6:bbrec2,89:6:bbsig2,1:p,1:a,64:d6c06e8e6df7906ba96e515dfb3beb4b1faead98e8525279bb761d1b516bb233,0;0;,1;1:f,f0;64:e3b0c44298fc1c149afbf4c8996fb92427ae41e4649b934ca495991b7852b855,64:fccf7280f0b71673fdc34066a31774a00c46b9403b23b5a246c7a940da0a7145,";
 
 /// The path of the record of another task.
-const BESIDE: &str = "rec/59126f4767b089742cccdef9209bebfe98721ed0205b33ae7fd0793e69561f73";
+const BESIDE: &str = "rec2/63fb3a058418c109422929c4ecc017e438c5deaae1b065fc1d4594c53b2b8090";
 
 /// The record there, which has the output and the unihash of the first one.
 const ASIDE: &[u8] =
-    b"6:bbrec1,23:6:bbsig1,1:p,1:c,0;0;0;,0;64:200d8cacc48a20f9fd4ed575b3641e101c1fc914cfeaaded1ecf8e6d25a6935d,";
+    b"6:bbrec2,89:6:bbsig2,1:p,1:c,64:f1ab6b1fa3e07be02cdd3816ad1c1c0f6a540c262e4c805f208a901850e5dde0,0;0;,0;64:fccf7280f0b71673fdc34066a31774a00c46b9403b23b5a246c7a940da0a7145,";
 
 /// The path of the record of a task that needs the first one.
-const ABOVE: &str = "rec/d4f39412da373f2bf16fa505ecfbe2e78ade3f66f3ec56afd737c01da2fa768d";
+const ABOVE: &str = "rec2/8ff9c07b7ec30c4b393a9737115ad1337de6a3dda609ed55934183535921deb1";
 
 /// The record there.
 const NEEDS: &[u8] =
-    b"6:bbrec1,99:6:bbsig1,1:p,1:d,0;0;1;1:p,1:a,64:200d8cacc48a20f9fd4ed575b3641e101c1fc914cfeaaded1ecf8e6d25a6935d,,0;64:d4f39412da373f2bf16fa505ecfbe2e78ade3f66f3ec56afd737c01da2fa768d,";
+    b"6:bbrec2,165:6:bbsig2,1:p,1:d,64:f1ab6b1fa3e07be02cdd3816ad1c1c0f6a540c262e4c805f208a901850e5dde0,0;1;1:p,1:a,64:fccf7280f0b71673fdc34066a31774a00c46b9403b23b5a246c7a940da0a7145,,0;64:8ff9c07b7ec30c4b393a9737115ad1337de6a3dda609ed55934183535921deb1,";
 
 /// The text of a stamp.
-const DIGEST: &[u8] = b"200d8cacc48a20f9fd4ed575b3641e101c1fc914cfeaaded1ecf8e6d25a6935d\n";
+const DIGEST: &[u8] = b"fccf7280f0b71673fdc34066a31774a00c46b9403b23b5a246c7a940da0a7145\n";
 
 /// It without the end of its line, with a digit less, and with a capital one.
-const CUT_DIGEST: &[u8] = b"200d8cacc48a20f9fd4ed575b3641e101c1fc914cfeaaded1ecf8e6d25a6935d";
+const CUT_DIGEST: &[u8] = b"fccf7280f0b71673fdc34066a31774a00c46b9403b23b5a246c7a940da0a7145";
 
-const SHORT_DIGEST: &[u8] = b"200d8cacc48a20f9fd4ed575b3641e101c1fc914cfeaaded1ecf8e6d25a6935\n";
+const SHORT_DIGEST: &[u8] = b"fccf7280f0b71673fdc34066a31774a00c46b9403b23b5a246c7a940da0a714\n";
 
-const CAPITAL_DIGEST: &[u8] = b"A00d8cacc48a20f9fd4ed575b3641e101c1fc914cfeaaded1ecf8e6d25a6935d\n";
+const CAPITAL_DIGEST: &[u8] = b"Accf7280f0b71673fdc34066a31774a00c46b9403b23b5a246c7a940da0a7145\n";
 
 /// A file and, where it has a path, another one; and how many of them opening leaves.
 type Row = (
@@ -87,9 +96,9 @@ const RECORDS: [Row; 15] = [
     (NAME, b"", "", b"", 0),
     // a name that isn't its digest, and names that are none
     (ABOVE, RECORD, NAME, RECORD, 1),
-    ("rec/hello", RECORD, "", b"", 0),
-    ("rec/a/b", RECORD, "rec/a/c", b"", 0),
-    ("rec", RECORD, "", b"", 0),
+    ("rec2/hello", RECORD, "", b"", 0),
+    ("rec2/a/b", RECORD, "rec2/a/c", b"", 0),
+    ("rec2", RECORD, "", b"", 0),
 ];
 
 const OTHERS: [Row; 11] = [
@@ -106,8 +115,27 @@ const OTHERS: [Row; 11] = [
     // but at `stamp` itself
     ("stamp", DIGEST, "", b"", 0),
     // temporary files, and all else
-    ("tmp/rec/x", RECORD, "tmp/stamp/p/t", DIGEST, 0),
+    ("tmp/rec2/x", RECORD, "tmp/stamp/p/t", DIGEST, 0),
     ("work/p/t/u", b"", "obj/x", b"", 2),
+    // what stands where the first format has its records, and the file that says the format, are none of an opening's
+    ("rec/hello", RECORD, "format", b"2\n", 2),
+];
+
+/// With no other key beside them: how many of these, keys too, opening leaves.
+const KEYS: [Row; 8] = [
+    // a record whose key isn't there
+    (NAME, RECORD, "", b"", 0),
+    (NAME, RECORD, ONE_LINE, ONE_LINE_KEY, 1),
+    // one that has its key
+    (NAME, RECORD, NO_LINES, NO_LINES_KEY, 2),
+    // a key of other bytes stays, and its record isn't believed
+    (NAME, RECORD, NO_LINES, ONE_LINE_KEY, 1),
+    // keys without records stay
+    (NO_LINES, NO_LINES_KEY, ONE_LINE, ONE_LINE_KEY, 2),
+    // names that are none, and what stands in the way
+    ("key/hello", NO_LINES_KEY, "", b"", 0),
+    ("key/a/b", NO_LINES_KEY, "", b"", 0),
+    ("key", NO_LINES_KEY, "", b"", 0),
 ];
 
 /// A file and, where it has a path, another one.
@@ -126,7 +154,19 @@ fn files_of(
     Ok(files)
 }
 
-/// A disk with a file and, where it has a path, another one.
+/// The two keys.
+fn two_keys(alloc: Global) -> Result<Vec<(Text, Entry)>, Fail> {
+    files_of(alloc, ONE_LINE, ONE_LINE_KEY, NO_LINES, NO_LINES_KEY)
+}
+
+/// How many files are held, but for keys.
+fn besides_keys(held: &[(Text, Entry)]) -> usize {
+    held.iter()
+        .filter(|one| !one.0.as_str().starts_with("key/"))
+        .count()
+}
+
+/// A disk with a file and, where it has a path, another one; and with the two keys.
 fn disk_of(
     alloc: Global,
     path: &str,
@@ -136,16 +176,18 @@ fn disk_of(
 ) -> Result<MemDisk, Fail>
     ensures { IfOk result (λ disk. IsFresh (story_of disk)) }
 {
-    match MemDisk::new(alloc, files_of(alloc, path, bytes, other, more)?) {
+    let mut files = files_of(alloc, path, bytes, other, more)?;
+    files.append(&mut two_keys(alloc)?)?;
+    match MemDisk::new(alloc, files) {
         Ok(disk) => Ok(disk),
         Err(_) => Err(Fail::from("no disk")),
     }
 }
 
-/// How many files opening leaves of one and, where it has a path, another one.
+/// How many files opening leaves of one and, where it has a path, another one, beside the two keys.
 fn left(alloc: Global, path: &str, bytes: &[u8], other: &str, more: &[u8]) -> Result<usize, Fail> {
     let disk = disk_of(alloc, path, bytes, other, more)?;
-    Ok(opened(alloc, disk)?.into_disk().held().len())
+    Ok(besides_keys(opened(alloc, disk)?.into_disk().held()))
 }
 
 /// Whether opening leaves as many files as each row says.
@@ -168,7 +210,8 @@ fn left_beside(
     known: Vec<(Text, Entry)>,
 ) -> Result<usize, Fail> {
     let disk = disk_of(alloc, path, bytes, other, more)?;
-    Ok(opened_beside(alloc, disk, known)?.into_disk().held().len())
+    let store = opened_beside(alloc, disk, known, two_keys(alloc)?)?;
+    Ok(besides_keys(store.into_disk().held()))
 }
 
 /// Whether opening leaves as many files as each row says, whatever is known ahead: what the row's own files say, what one record alone
@@ -187,7 +230,7 @@ fn are_left_beside_known(alloc: Global, rows: &[Row]) -> Result<bool, Fail> {
     Ok(true)
 }
 
-/// What stands under `rec/` goes, but for records that are believed.
+/// What stands under `rec2/` goes, but for records that are believed.
 #[test]
 fn odd_records_go(rt: HostRuntime) -> Result<(), Fail> {
     assert!(rt; are_left(rt.alloc(), &RECORDS)?);
@@ -201,12 +244,36 @@ fn known_files_change_nothing(rt: HostRuntime) -> Result<(), Fail> {
     Ok(())
 }
 
+/// How many files opening leaves of a file and, where it has a path, another one.
+fn left_alone(
+    alloc: Global,
+    path: &str,
+    bytes: &[u8],
+    other: &str,
+    more: &[u8],
+) -> Result<usize, Fail> {
+    match MemDisk::new(alloc, files_of(alloc, path, bytes, other, more)?) {
+        Ok(disk) => Ok(opened(alloc, disk)?.into_disk().held().len()),
+        Err(_) => Err(Fail::from("no disk")),
+    }
+}
+
+/// A record counts with its key alone; keys stay, and what stands in their way goes.
+#[test]
+fn odd_keys_go(rt: HostRuntime) -> Result<(), Fail> {
+    for (path, bytes, other, more, want) in KEYS {
+        assert_eq!(rt; left_alone(rt.alloc(), path, bytes, other, more)?, want);
+    }
+    Ok(())
+}
+
 /// How many files opening leaves of the stamp of a task that gave nothing by its record, with that record and a file at this path.
 fn left_of_blocked(alloc: Global, path: &str) -> Result<usize, Fail> {
     let mut files = files_of(alloc, NAME, RECORD, "stamp/p/a", DIGEST)?;
     files.push(file(alloc, path, b"")?)?;
+    files.append(&mut two_keys(alloc)?)?;
     match MemDisk::new(alloc, files) {
-        Ok(disk) => Ok(opened(alloc, disk)?.into_disk().held().len()),
+        Ok(disk) => Ok(besides_keys(opened(alloc, disk)?.into_disk().held())),
         Err(_) => Err(Fail::from("no disk")),
     }
 }

@@ -3,14 +3,14 @@ ghost use Rattle.std.specs.Prelude.{IfOk};
 ghost use Rattle.store_tests.specs.Samples.{IsSample};
 
 use crate::asked::{begin, empty, is_there, opened};
-use crate::samples::{AGAIN, HELLO, MORE, Sample, file, sample_with};
+use crate::samples::{AGAIN, HELLO, MORE, Sample, Texts, file, sample_with};
 use build_store::{Step, Store};
 use outside_mem::MemDisk;
 use std::alloc::Global;
 use std::test::Fail;
 
 /// A task of this signature, which is no task of the shared state, and gave 130 files, the first with this text.
-fn many(alloc: Global, sig: &[u8], text: &[u8]) -> Result<Sample, Fail>
+fn many(alloc: Global, sig: Texts, text: &[u8]) -> Result<Sample, Fail>
     ensures { IfOk result (λ made. IsSample made.task made.sig made.tree) }
 {
     let mut files = Vec::new(alloc);

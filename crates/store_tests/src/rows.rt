@@ -2,8 +2,8 @@
 use hash_equiv::{EquivFault, Index};
 use std::alloc::Global;
 use std::test::Fail;
-use store_model::EquivRow;
-use tree_model::{Bytes, EntryKind, Hash, Manifest, ManifestLine, Mem, Text};
+use store_model::{EquivRow, SigText};
+use tree_model::{EntryKind, Hash, Manifest, ManifestLine, Mem, Text};
 
 /// A digest of one byte, 32 times.
 fn hash(byte: u8) -> Hash {
@@ -28,7 +28,7 @@ fn add(alloc: Global, index: &mut Index, name: u8, sig: u8, output: u8) -> Resul
         name: hash(name),
         pn: Text::from_str(alloc, "p")?,
         task: Text::from_str(alloc, "do_b")?,
-        sig: Bytes::from_slice(alloc, &[sig])?,
+        sig: SigText::new(Vec::new(alloc), &[sig])?,
         manifest: manifest(alloc, output)?,
         unihash: hash(name),
     };

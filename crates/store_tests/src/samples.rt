@@ -9,21 +9,42 @@ use meta_model::{Key, PlanTask, TaskId};
 use sig_gen::decode;
 use std::alloc::Global;
 use std::test::Fail;
-use store_model::SigRecord;
+use store_model::{SigRecord, SigText};
 use tree_model::{Bytes, Entry, ListOf, Mem, Text, Tree};
 
+/// The short text of a signature, and its key.
+pub type Texts = (&'static [u8], &'static [u8]);
+
 /// A signature: one task's body, no files, nothing needed.
-pub const HELLO: &[u8] =
-    b"6:bbsig1,5:hello,8:do_build,1;8:do_build,+27:    echo hello > hello.txt\n,0;1;4:func,1:1,0;0;";
+pub const HELLO: Texts = (
+    b"6:bbsig2,5:hello,8:do_build,64:43e50bb16432119eca694814ac2085a3cc481e21c1568579ed352fb3bb91c2cb,0;0;",
+    b"1;8:do_build,+27:    echo hello > hello.txt\n,0;1;4:func,1:1,",
+);
 
 /// Another one of that task.
-pub const AGAIN: &[u8] = b"6:bbsig1,5:hello,8:do_build,0;0;0;";
+pub const AGAIN: Texts = (
+    b"6:bbsig2,5:hello,8:do_build,64:f1ab6b1fa3e07be02cdd3816ad1c1c0f6a540c262e4c805f208a901850e5dde0,0;0;",
+    b"0;",
+);
 
 /// And a third one.
-pub const ANEW: &[u8] = b"6:bbsig1,5:hello,8:do_build,1;1:x,-0;0;";
+pub const ANEW: Texts = (
+    b"6:bbsig2,5:hello,8:do_build,64:d6c06e8e6df7906ba96e515dfb3beb4b1faead98e8525279bb761d1b516bb233,0;0;",
+    b"1;1:x,-",
+);
 
 /// That of a task of the same recipe.
-pub const MORE: &[u8] = b"6:bbsig1,5:hello,7:do_more,0;0;0;";
+pub const MORE: Texts = (
+    b"6:bbsig2,5:hello,7:do_more,64:f1ab6b1fa3e07be02cdd3816ad1c1c0f6a540c262e4c805f208a901850e5dde0,0;0;",
+    b"0;",
+);
+
+/// The whole text of a signature.
+pub fn text_of(alloc: Global, texts: Texts) -> Result<SigText, Fail> {
+    let mut short = Vec::new(alloc);
+    short.extend_from_slice(texts.0)?;
+    Ok(SigText::new(short, texts.1)?)
+}
 
 /// A task, its signature, and what it gave.
 #[derive(Drop)]
@@ -101,7 +122,7 @@ fn sample_of(alloc: Global, sig: SigRecord, tree: Tree) -> Result<Sample, Fail>
 }
 
 /// A task of this signature, which gave one file.
-pub fn sample_from(alloc: Global, sig: &[u8], path: &str, text: &[u8]) -> Result<Sample, Fail>
+pub fn sample_from(alloc: Global, sig: Texts, path: &str, text: &[u8]) -> Result<Sample, Fail>
     ensures { IfOk result (λ made. IsSample made.task made.sig made.tree) }
 {
     let mut files = Vec::new(alloc);
@@ -110,11 +131,11 @@ pub fn sample_from(alloc: Global, sig: &[u8], path: &str, text: &[u8]) -> Result
 }
 
 /// A task of this signature, which gave these files.
-pub fn sample_with(alloc: Global, sig: &[u8], files: Vec<(Text, Entry)>) -> Result<Sample, Fail>
+pub fn sample_with(alloc: Global, sig: Texts, files: Vec<(Text, Entry)>) -> Result<Sample, Fail>
     ensures { IfOk result (λ made. IsSample made.task made.sig made.tree) }
 {
     let tree = Tree::from_entries(files)?;
-    match decode(alloc, sig) {
+    match decode(alloc, &text_of(alloc, sig)?) {
         Ok(sig) => sample_of(alloc, sig, tree),
         Err(_) => Err(Fail::from("no signature")),
     }

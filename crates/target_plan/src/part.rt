@@ -15,10 +15,12 @@ use meta_model::{Plan, Status};
 use multi_config::ConfigTargets;
 use outside_traits::Layers;
 use std::alloc::Global;
+use std::thread::Threads;
 use target_graph::find_part_run;
 
 /// The plan that a part has.
-fn part_planned<L: Layers>(
+fn part_planned<R: Threads + Sync, L: Layers>(
+    rt: &R,
     alloc: Global,
     layers: &mut L,
     part: &ConfigTargets,
@@ -33,7 +35,7 @@ fn part_planned<L: Layers>(
     ensures cause { Counts (L.faults layers.old) (L.faults layers.new) (mode_failed result) }
 {
     match find_part_run(alloc, layers, part) {
-        Ok(found) => plan_of(alloc, layers, &found, force),
+        Ok(found) => plan_of(rt, alloc, layers, &found, force),
         Err(status) => Err(status),
     }
 }
@@ -46,7 +48,8 @@ fn part_planned<L: Layers>(
 /// - The limit `UnsoundPlan`: the plan isn't sound. Layers that tell what they hold have no such plan, so of them it never comes.
 ///
 /// No call changes a file. An answered plan is sound, and a program can hold its tasks' signatures, whatever the layers tell.
-pub fn find_part_plan<L: Layers>(
+pub fn find_part_plan<R: Threads + Sync, L: Layers>(
+    rt: &R,
     alloc: Global,
     layers: &mut L,
     part: &ConfigTargets,
@@ -62,7 +65,7 @@ pub fn find_part_plan<L: Layers>(
     ensures same { SameFiles L.files layers.old layers.new }
     ensures cause { Counts (L.faults layers.old) (L.faults layers.new) (mode_failed result) }
 {
-    match part_planned(alloc, layers, part, force) {
+    match part_planned(rt, alloc, layers, part, force) {
         Ok(made) => checked(alloc, made),
         Err(refused) => Err(refused),
     }

@@ -6,6 +6,7 @@ ghost use Rattle.answer_model.specs.Answers.{is_refusal};
 ghost use Rattle.project_reading.specs.Answered.{mode_failed};
 ghost use Rattle.target_graph.specs.Meaning.{asked_meant};
 ghost use Rattle.target_graph.specs.Runs.{HasRun};
+ghost use Rattle.plan_model.specs.Plans.{IsOver};
 ghost use Rattle.plan_model.specs.Sound.{IsSound};
 ghost use Rattle.plan_model.specs.Spellings.{HasSpellings};
 ghost use Rattle.answer_model.specs.Plans.{HasPlan, plan_under};
@@ -17,12 +18,20 @@ use crate::soundness::checked;
 use meta_model::{Plan, Status};
 use outside_traits::Layers;
 use std::alloc::Global;
+use std::thread::Threads;
 use target_graph::{Run, find_run};
 use task_plan::{forced_plan, plan};
 use tree_model::Text;
 
+/// The graph of a run is one of its recipes.
+fn graph_is_theirs(found: &Run)
+    requires { HasRun (asked_meant found.now.asked) found.now.graph found.now.threads }
+    ensures over { IsOver found.now.asked.set.facts found.now.graph }
+{}
+
 /// The plan of a run.
-pub(crate) fn plan_of<L: Layers>(
+pub(crate) fn plan_of<R: Threads + Sync, L: Layers>(
+    rt: &R,
     alloc: Global,
     layers: &mut L,
     found: &Run,
@@ -37,11 +46,12 @@ pub(crate) fn plan_of<L: Layers>(
     ensures same { SameFiles L.files layers.old layers.new }
     ensures cause { Counts (L.faults layers.old) (L.faults layers.new) (mode_failed result) }
 {
+    graph_is_theirs(found);
     let set = &found.asked.set;
     let made = if force {
-        forced_plan(alloc, set, layers, &found.graph, found.threads)
+        forced_plan(rt, alloc, set, layers, &found.graph, found.threads)
     } else {
-        plan(alloc, set, layers, &found.graph, found.threads)
+        plan(rt, alloc, set, layers, &found.graph, found.threads)
     };
     match made {
         Ok(made) => Ok(made),
@@ -50,7 +60,8 @@ pub(crate) fn plan_of<L: Layers>(
 }
 
 /// The plan that words have.
-fn planned<L: Layers>(
+fn planned<R: Threads + Sync, L: Layers>(
+    rt: &R,
     alloc: Global,
     layers: &mut L,
     words: &[Text],
@@ -66,7 +77,7 @@ fn planned<L: Layers>(
     ensures cause { Counts (L.faults layers.old) (L.faults layers.new) (mode_failed result) }
 {
     match find_run(alloc, layers, words, task) {
-        Ok(found) => plan_of(alloc, layers, &found, force),
+        Ok(found) => plan_of(rt, alloc, layers, &found, force),
         Err(status) => Err(status),
     }
 }
@@ -80,7 +91,8 @@ fn planned<L: Layers>(
 /// - The limit `UnsoundPlan`: the plan isn't sound. Layers that tell what they hold have no such plan, so of them it never comes.
 ///
 /// No call changes a file. An answered plan is sound, and a program can hold its tasks' signatures, whatever the layers tell.
-pub fn find_plan<L: Layers>(
+pub fn find_plan<R: Threads + Sync, L: Layers>(
+    rt: &R,
     alloc: Global,
     layers: &mut L,
     words: &[Text],
@@ -97,7 +109,7 @@ pub fn find_plan<L: Layers>(
     ensures same { SameFiles L.files layers.old layers.new }
     ensures cause { Counts (L.faults layers.old) (L.faults layers.new) (mode_failed result) }
 {
-    match planned(alloc, layers, words, task, force) {
+    match planned(rt, alloc, layers, words, task, force) {
         Ok(made) => checked(alloc, made),
         Err(refused) => Err(refused),
     }

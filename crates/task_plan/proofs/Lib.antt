@@ -1,3 +1,4 @@
+pub mod Aheads
 pub mod Faulting
 pub mod Inputting
 pub mod Keeping

@@ -6,9 +6,12 @@
 //! is the plan with the option `-f`: the tasks of the targets run in any case.
 //!
 //! How it is done: what is found out of a recipe's names is kept for all its tasks (`StoreKeys` of `var_deps`), from its first task
-//! to the end of the call. The key of a task is asked once, and its script is made from it.
+//! to the end of the call. The key of a task is asked once, and its script is made from it. Of a plan with many tasks several threads
+//! make keys and scripts ahead, each for recipes of its own; then the tasks are gone through in their order, one after another, as if
+//! nothing had been made: what couldn't be made ahead is made in its turn, and refused there.
 #![tactic(auto)]
 
+mod ahead;
 mod fault;
 mod graph_plan;
 mod inputs;

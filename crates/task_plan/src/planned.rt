@@ -1,18 +1,19 @@
 // The tasks of a plan.
-ghost use Rattle.std.specs.Prelude.{◌≡◌, ◌<◌, [], ℕ, false, nat_eq, length, Ok, Some, IfOk, IfErr, OnOk, slice_index_or};
+ghost use Rattle.std.specs.Prelude.{◌≡◌, ◌<◌, [], ℕ, false, nat_eq, length, Ok, Some, IfOk, IfErr, OnOk, IfSome, slice_index_or};
 ghost use Rattle.std.specs.Ordering.{nat_cmp};
 ghost use Rattle.std.specs.BTreeMap.{get};
 ghost use Rattle.std.specs.Map.{update};
 ghost use Rattle.outside_traits.specs.Fault.{Counts};
 ghost use Rattle.outside_traits.specs.Store.{SameFiles};
 ghost use Rattle.plan_model.specs.Plans as plans;
+ghost use Rattle.task_plan.specs.Ahead.{IsMade, IsMadeOf};
 ghost use Rattle.task_plan.specs.Faults.{IsPlanFault, plan_failed};
 ghost use Rattle.task_plan.specs.Steps.{IsFaultOfKeys};
 ghost use Rattle.task_plan.specs.Meant.{parts_meant, sums_meant, AreKept};
 
 use crate::fault::{PlanFault, data_told};
 use crate::inputs::Inputs;
-use crate::parts::{Parts, parts_of};
+use crate::parts::{Made, Parts, parts_made, parts_of};
 use crate::shell::Shell;
 use crate::texts::texts_of;
 use datastore::Datastore;
@@ -25,7 +26,7 @@ use tree_model::{ListOf, Mem};
 use var_deps::StoreKeys;
 
 /// The most bytes of the keys' lines and the scripts of a plan together (own rule).
-const MOST_OF_TEXTS: u64 = 268_435_456;
+pub(crate) const MOST_OF_TEXTS: u64 = 268_435_456;
 
 /// The bytes of a plan so far: of keys and scripts, and of input files.
 #[derive(Drop)]
@@ -140,7 +141,7 @@ fn new_keys<'a>(alloc: Global, file: &str, store: &'a Datastore) -> Result<Store
 }
 
 /// The keys of the tasks of a recipe: those that are kept, or new ones.
-fn keys_of<'a>(
+pub(crate) fn keys_of<'a>(
     alloc: Global,
     file: &str,
     set: &'a RecipeSet,
@@ -161,7 +162,7 @@ fn keys_of<'a>(
 }
 
 /// Keeps the keys of the tasks of a recipe.
-fn keep<'a>(kept: &mut Kept<'a>, recipe: u32, keys: StoreKeys<'a>) -> Result<(), Mem>
+pub(crate) fn keep<'a>(kept: &mut Kept<'a>, recipe: u32, keys: StoreKeys<'a>) -> Result<(), Mem>
     ensures { OnOk result ((q : ℕ) → get nat_cmp kept.new q
         ≡ update nat_eq (get nat_cmp kept.old) recipe (Some keys.entry) q) }
 {
@@ -199,7 +200,7 @@ fn planned_with<'a, L: Layers>(
 }
 
 /// The file of a recipe.
-fn file_of(set: &RecipeSet, recipe: u32) -> &str
+pub(crate) fn file_of(set: &RecipeSet, recipe: u32) -> &str
     requires { recipe < length set.now.facts.recipes }
     ensures { result.now ≡ plans.file_at set.now.facts recipe }
 {
@@ -207,8 +208,8 @@ fn file_of(set: &RecipeSet, recipe: u32) -> &str
     recipes[recipe as usize].file.as_str()
 }
 
-/// The task of a node.
-pub(crate) fn planned_node<'a, L: Layers>(
+/// The task of a node of which nothing is made.
+fn planned_anew<'a, L: Layers>(
     alloc: Global,
     layers: &mut L,
     set: &'a RecipeSet,
@@ -230,5 +231,73 @@ pub(crate) fn planned_node<'a, L: Layers>(
     match keys_of(alloc, file, set, kept, node.recipe) {
         Ok(keys) => planned_with(alloc, layers, file, keys, kept, node, sums),
         Err(fault) => Err(fault),
+    }
+}
+
+/// The task of a node of which this is made.
+fn planned_made<L: Layers>(
+    alloc: Global,
+    layers: &mut L,
+    file: &str,
+    store: &Datastore,
+    made: Made,
+    node: &Node,
+    sums: &mut Sums,
+) -> Result<PlanTask, PlanFault>
+    requires { IsMade file.now store.now node.now.id.task made }
+    ensures ok { IfOk result (λ task. L.tells → plans.planned (L.files layers.old) file.now store.now node.now
+        (sums_meant sums.old) ≡ Ok (record { task = task; sums = sums_meant sums.new })) }
+    ensures err { IfErr result (λ fault. L.tells → IsPlanFault fault
+        (plans.planned (L.files layers.old) file.now store.now node.now (sums_meant sums.old))) }
+    ensures same { SameFiles L.files layers.old layers.new }
+    ensures cause { Counts (L.faults layers.old) (L.faults layers.new) (plan_failed result) }
+{
+    match parts_made(
+        alloc,
+        layers,
+        file,
+        store,
+        made,
+        node.id.task.as_str(),
+        sums.inputs,
+    ) {
+        Ok(parts) => counted(alloc, node, parts, sums),
+        Err(fault) => Err(fault),
+    }
+}
+
+/// The task of a node, and what is made of it ahead, if anything is.
+pub(crate) fn planned_node<'a, L: Layers>(
+    alloc: Global,
+    layers: &mut L,
+    set: &'a RecipeSet,
+    kept: &mut Kept<'a>,
+    made: Option<Made>,
+    node: &Node,
+    sums: &mut Sums,
+) -> Result<PlanTask, PlanFault>
+    requires within { node.now.recipe < length set.now.facts.recipes }
+    requires kept { AreKept set.now.stores (get nat_cmp kept.old) }
+    requires made { IfSome made (IsMadeOf set.now node.now) }
+    ensures kept { OnOk result (AreKept set.now.stores (get nat_cmp kept.new)) }
+    ensures ok { IfOk result (λ task. L.tells → plans.planned_node (L.files layers.old) set.now node.now
+        (sums_meant sums.old) ≡ Ok (record { task = task; sums = sums_meant sums.new })) }
+    ensures err { IfErr result (λ fault. L.tells → IsPlanFault fault
+        (plans.planned_node (L.files layers.old) set.now node.now (sums_meant sums.old))) }
+    ensures same { SameFiles L.files layers.old layers.new }
+    ensures cause { Counts (L.faults layers.old) (L.faults layers.new) (plan_failed result) }
+{
+    let file = file_of(set, node.recipe);
+    match made {
+        Some(made) => planned_made(
+            alloc,
+            layers,
+            file,
+            set.store_of(node.recipe),
+            made,
+            node,
+            sums,
+        ),
+        None => planned_anew(alloc, layers, set, kept, node, sums),
     }
 }

@@ -2,7 +2,7 @@
 use Rattle.std.specs.Prelude.{◌≡◌, ℕ, Bool, true, false, not, ◌||◌, List, [], ◌++◌, Option, Some, None, is_some}
 use Rattle.std.specs.Option.{option_map, option_or}
 use Rattle.std.specs.BTreeMap.{get_by_text}
-use Rattle.std.specs.Rc.{rc_value}
+use Rattle.std.specs.Arc.{arc_value}
 use Rattle.meta_model.specs.declared.entry.EntryLine.{EntryLine}
 use Rattle.meta_model.specs.Base.{value_slot, flag_slot, lates}
 use Rattle.value_maps.specs.declared.maps.Base.{Base}
@@ -15,7 +15,7 @@ use Rattle.value_maps.specs.Plain.{is_plain}
 
 -- what a store shares with others, if anything
 abbrev pub base_of : Maps → Option Base
-base_of maps = option_map rc_value maps.base
+base_of maps = option_map arc_value maps.base
 
 -- the entries that are shared
 abbrev pub under_entries : Option Base → List EntryLine

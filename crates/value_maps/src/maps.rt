@@ -2,7 +2,7 @@
 ghost use Rattle.std.specs.Prelude.{◌≡◌, ◌++◌, [], List, None, IfOk, OnOk, OnErr, MatchOption, true, Some, option_copied};
 ghost use Rattle.std.specs.BTreeMap.{get_by_text};
 ghost use Rattle.std.specs.Option.{option_map};
-ghost use Rattle.std.specs.Rc.{rc_value};
+ghost use Rattle.std.specs.Arc.{arc_value};
 ghost use Rattle.meta_model.specs.declared.entry.EntryLine.{EntryLine as Line};
 ghost use Rattle.meta_model.specs.Frozen.{is_task_line};
 ghost use Rattle.value_maps.specs.Named.{Steps, subject};
@@ -16,7 +16,7 @@ use crate::special::special_of;
 use meta_model::EntryLine;
 use std::alloc::Global;
 use std::collections::BTreeMap;
-use std::rc::Rc;
+use std::sync::Arc;
 use tree_model::{Mem, Text, Texts};
 
 /// Entries that stores share, in their order, with what is kept of each name, and which forms it has; and the names that are told
@@ -32,7 +32,7 @@ pub struct Base {
 /// What is kept of each name, and which forms it has. What is a store's own of a name stands in place of what is shared.
 #[derive(Drop)]
 pub struct Maps {
-    pub(crate) base: Option<Rc<Base>>,
+    pub(crate) base: Option<Arc<Base>>,
     pub(crate) named: BTreeMap<String, Named>,
     pub(crate) forms: Forms,
 }
@@ -67,9 +67,9 @@ impl Maps {
     }
 
     /// What shared entries give.
-    pub fn over(alloc: Global, base: Option<Rc<Base>>) -> Maps
-        ensures same { base_of result ≡ option_map rc_value base }
-        ensures keeps { KeepsBase (option_map rc_value base) → Keeps (under_entries (option_map rc_value base)) result }
+    pub fn over(alloc: Global, base: Option<Arc<Base>>) -> Maps
+        ensures same { base_of result ≡ option_map arc_value base }
+        ensures keeps { KeepsBase (option_map arc_value base) → Keeps (under_entries (option_map arc_value base)) result }
     {
         Maps {
             base,
@@ -86,8 +86,8 @@ impl Maps {
     }
 
     /// What is shared, again. It is not copied.
-    pub fn copy_base(&self) -> Result<Option<Rc<Base>>, Mem>
-        ensures { IfOk result (λ made. option_map rc_value made ≡ base_of self.now) }
+    pub fn copy_base(&self) -> Result<Option<Arc<Base>>, Mem>
+        ensures { IfOk result (λ made. option_map arc_value made ≡ base_of self.now) }
     {
         match &self.base {
             Some(base) => Ok(Some(base.clone()?)),
@@ -96,11 +96,11 @@ impl Maps {
     }
 
     /// Entries with the maps that keep what they give, to be shared.
-    pub fn share(self, alloc: Global, entries: Vec<EntryLine>) -> Result<Rc<Base>, Mem>
+    pub fn share(self, alloc: Global, entries: Vec<EntryLine>) -> Result<Arc<Base>, Mem>
         requires keeps { Keeps entries.items self }
         requires alone { base_of self ≡ None }
-        ensures entries { IfOk result (λ made. under_entries (Some (rc_value made)) ≡ entries.items) }
-        ensures keeps { IfOk result (λ made. KeepsBase (Some (rc_value made))) }
+        ensures entries { IfOk result (λ made. under_entries (Some (arc_value made)) ≡ entries.items) }
+        ensures keeps { IfOk result (λ made. KeepsBase (Some (arc_value made))) }
     {
         let Maps {
             base: _,
@@ -108,7 +108,7 @@ impl Maps {
             forms,
         } = self;
         let special = special_of(alloc, &named)?;
-        Ok(Rc::new(
+        Ok(Arc::new(
             alloc,
             Base {
                 entries,

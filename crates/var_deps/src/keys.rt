@@ -3,7 +3,7 @@ ghost use Rattle.std.specs.Prelude.{◌≡◌, List, ℕ, Some, None, true, fals
 ghost use Rattle.meta_model.specs.declared.value.Resolved.{Resolved as Has};
 ghost use Rattle.meta_model.specs.Active.{find_in};
 ghost use Rattle.meta_model.specs.Base.{flag, names};
-ghost use Rattle.meta_model.specs.Text.{is_in};
+ghost use Rattle.meta_model.specs.Text.{in_byte_order, is_in};
 ghost use Rattle.datastore.specs.Faults.{IsDataFault, refusal_of};
 ghost use Rattle.task_model.specs.Views.{is_bare};
 ghost use Rattle.task_model.specs.Leads.{value_words};
@@ -85,6 +85,14 @@ fn exported_names(alloc: Global, store: &Datastore) -> Result<Texts, Mem>
     store.flagged(alloc, "export")
 }
 
+/// The names with the flag `func`, in byte order.
+fn function_names(alloc: Global, store: &Datastore) -> Result<Texts, Mem>
+    ensures all { IfOk result (λ made. (t : List ℕ) → is_in t made ≡ is_some (flag store.now t (codes "func"))) }
+    ensures ordered { IfOk result (λ made. in_byte_order made ≡ made) }
+{
+    store.flagged(alloc, "func")
+}
+
 /// A table in which nothing is kept yet.
 fn empty_table<'a>(
     alloc: Global,
@@ -92,7 +100,8 @@ fn empty_table<'a>(
     ignored: Texts,
     functions: Texts,
 ) -> Table<'a>
-    requires { (t : List ℕ) → is_in t functions ≡ is_some (flag store.now t (codes "func")) }
+    requires all { (t : List ℕ) → is_in t functions ≡ is_some (flag store.now t (codes "func")) }
+    requires ordered { in_byte_order functions ≡ functions }
     ensures store { result.shared.seen.store.now ≡ store.now }
     ensures task { result.shared.seen.task ≡ None }
     ensures ignored { result.shared.ignored ≡ ignored }
@@ -133,7 +142,7 @@ impl StoreKeys<'_> {
         let ignored = words_of(alloc, store, "BB_BASEHASH_IGNORE_VARS")?;
         let sstate = words_of(alloc, store, "SSTATETASKS")?;
         let exported = exported_names(alloc, store)?;
-        let functions = store.flagged(alloc, "func")?;
+        let functions = function_names(alloc, store)?;
         let mut table = empty_table(alloc, store, ignored, functions);
         let exports = exports_of(alloc, &mut table.shared, exported)?;
         Ok(StoreKeys {

@@ -1,7 +1,7 @@
 // A store as a task sees it.
 ghost use Rattle.std.specs.Prelude.{◌≡◌, ℕ, [], List, Result, Option, Some, true, IfOk, IfErr, Ok, codes, is_some, option_copied, if◌then◌else◌};
 ghost use Rattle.meta_model.specs.Base.{flag};
-ghost use Rattle.meta_model.specs.Text.{is_in};
+ghost use Rattle.meta_model.specs.Text.{in_byte_order, is_in};
 ghost use Rattle.meta_model.specs.Active.{find_in};
 ghost use Rattle.meta_model.specs.Refusal.{Refusal};
 ghost use Rattle.meta_model.specs.declared.value.Resolved.{Resolved as Has};
@@ -13,7 +13,8 @@ ghost use Rattle.var_deps.specs.Reading.{function_named};
 ghost use Rattle.task_model.specs.Views.{flag_of, is_bare, is_function, seen_by, unless_bare};
 
 use datastore::{AllFlags, DataFault, Datastore};
-use meta_model::{Resolved, is_among};
+use meta_model::Resolved;
+use name_walk::holds;
 use std::alloc::Global;
 use tree_model::{Mem, Text, Texts};
 use var_expand::{ExpandFault, Lookup};
@@ -25,8 +26,9 @@ pub(crate) struct Seen<'a> {
     pub(crate) store: &'a Datastore,
     /// The task whose name counts as absent where it is bare: it has an empty text, no removes, and is no function.
     pub(crate) task: Option<Text>,
-    /// The names with the flag `func`.
+    /// The names with the flag `func`, in byte order.
     pub(crate) functions: Texts,
+    ghost ordered: { in_byte_order functions ≡ functions },
     ghost functions_are: { (t : List ℕ) → is_in t functions ≡ is_some (flag store.now t (codes "func")) },
 }
 
@@ -35,7 +37,7 @@ impl Seen<'_> {
     pub(crate) fn is_no_function(&self, name: &str) -> bool
         ensures { result ≡ true → function_named (seen_with self.now.store.now self.now.task) name.now ≡ Ok [] }
     {
-        self.store.active().is_some() && !is_among(name, self.functions.as_slice())
+        self.store.active().is_some() && !holds(self.functions.as_slice(), name)
     }
 }
 

@@ -1,5 +1,6 @@
 -- What is answered of a run that isn't begun, but asked about.
 use Rattle.std.specs.Prelude.{◌≡◌, ◌++◌, ℕ, List}
+use Rattle.tree_model.specs.declared.hash.Hash.{Hash}
 use Rattle.outside_traits.specs.Store.{Store}
 use Rattle.meta_model.specs.declared.event.Status.{Status}
 use Rattle.meta_model.specs.declared.event.Status.TheVariants as status
@@ -8,7 +9,9 @@ use Rattle.plan_model.specs.Inputs.{Files}
 use Rattle.answer_model.specs.declared.asked.RunRequest.{RunRequest}
 use Rattle.answer_model.specs.Plans.{IsPlanRefused}
 use Rattle.answer_model.specs.Run.{IsRunPlan}
+use Rattle.run_model.specs.Causes.{IsClashOf}
 use Rattle.run_model.specs.Written.{WritesFront}
+use Rattle.store_model.specs.declared.signature.EquivRow.{EquivRow}
 use Rattle.why_model.specs.Why.{IsWhyText}
 
 -- The text is what is told of the request's run, whose plan is this one, over what is held (own rule).
@@ -31,6 +34,10 @@ HasWhy (status.Limit kind) files paths request = IsPlanRefused files paths reque
 HasWhy status.ReadFault files paths request = Unit {0}
 HasWhy status.OutOfMemory files paths request = Unit {0}
 HasWhy _ files paths request = ⊥
+
+-- A collision tells truly of a plan: two texts that differ have one digest, and over some rows one of them is that of a task of the plan.
+abbrev pub ToldClash : Plan → Status → Type 0
+ToldClash plan s = (name : Hash) (held given : List ℕ) → s ≡ status.Collision name held given → (rows : List EquivRow) × IsClashOf plan rows name held given
 
 -- the text was printed, whole
 pub record Prints (request : RunRequest) (plan : Plan) (held : Store) (old new : List ℕ) : Type 0 where

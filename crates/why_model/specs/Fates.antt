@@ -1,5 +1,5 @@
 -- What a run would do with each task that it needs, and why it would run. (Own rules.)
-use Rattle.std.specs.Prelude.{◌≡◌, ◌≢◌, ℕ, Bool, true, false, List, [], Option, Some, None, Contains, slice_get}
+use Rattle.std.specs.Prelude.{◌≡◌, ◌≢◌, ◌⊎◌, ℕ, Bool, true, false, List, [], Option, Some, None, Contains, slice_get}
 use Rattle.std.specs.Option.{option_and_then}
 use Rattle.outside_traits.specs.Store.{Store}
 use Rattle.tale_model.specs.Need.{IsIn}
@@ -36,6 +36,10 @@ pub record IsEarlier (held : Store) (rows : List EquivRow) (of : PlanTask) (was 
   pub sound : IsSignature was
   pub spelled : row.sig ≡ signature_bytes was
 
+-- It leads to no signature: it names no row, or one whose text is no signature's (its key is some other bytes of the right digest).
+abbrev pub HasNoEarlier : Store → List EquivRow → PlanTask → Type 0
+HasNoEarlier held rows of = IsStamped held rows of None ⊎ ((row : EquivRow) × IsStamped held rows of (Some row) × ((was : SigRecord) → IsSignature was → row.sig ≡ signature_bytes was → ⊥))
+
 -- What is held, the rows of its believed records, and the plan of a run; how the outputs of its needed tasks are there, which tasks are seen, and
 -- which are needed in any case; and whether the run is given the option `-f`.
 pub record Told : Type 0 where
@@ -55,7 +59,7 @@ IsForced told n = (told.force ≡ true) × Contains told.plan.targets n
 abbrev pub IsCause : Told → ℕ → Signed → Cause → Type 0
 IsCause told n s cause.Forced = (s.task.nostamp ≡ true) × IsForced told n
 IsCause told n s cause.Always = (s.task.nostamp ≡ true) × (IsForced told n → ⊥)
-IsCause told n s cause.New = (s.task.nostamp ≡ false) × IsStamped told.held told.rows s.task None
+IsCause told n s cause.New = (s.task.nostamp ≡ false) × HasNoEarlier told.held told.rows s.task
 IsCause told n s cause.Gone = (s.task.nostamp ≡ false) × ((was : SigRecord) × IsEarlier told.held told.rows s.task was × (differing s.sig was ≡ []))
 IsCause told n s (cause.Differs names) = (s.task.nostamp ≡ false) × ((was : SigRecord) × IsEarlier told.held told.rows s.task was × (names ≡ differing s.sig was) × (names ≢ []))
 

@@ -1,10 +1,9 @@
 -- What questions to a disk that is looked at leave, and what becomes of a fault.
-use Rattle.std.proofs.Common.{◌≡◌, ◌∙◌, sym, ap, subst, refl, ℕ, arith, false, List, Option, Some, None}
+use Rattle.std.proofs.Common.{◌≡◌, ◌∙◌, sym, ap, subst, refl, ℕ, arith, inl, false, List, Option, Some, None}
 use Rattle.std.specs.Prelude.{unwrap_or}
 use Rattle.std.specs.Option.{is_some}
 use Rattle.std.proofs.lemmas.Bool.{true≢false}
 use Rattle.std.proofs.lemmas.Option.{none-some, same_Some}
-use Rattle.sha2.specs.Sha256.{sha256}
 use Rattle.tree_model.specs.declared.hash.Hash.{Hash}
 use Rattle.outside_traits.specs.Fault.{Counts}
 use Rattle.outside_traits.specs.Passes.{Passes, Same}
@@ -12,10 +11,12 @@ use Rattle.outside_traits.specs.Story.{Story}
 use Rattle.meta_model.specs.declared.plan.Plan.{Plan}
 use Rattle.store_model.specs.declared.signature.EquivRow.{EquivRow}
 use Rattle.store_model.specs.declared.signature.SigRecord.{SigRecord}
+use Rattle.store_model.specs.Clashes.{AreToldApart}
 use Rattle.store_model.specs.Rows.{row_at}
-use Rattle.store_model.specs.Spelling.{name_of, signature_bytes}
+use Rattle.store_model.specs.Spelling.{name_of, signature_bytes, text_name}
 use Rattle.run_model.specs.Causes.{IsClashOf}
 use Rattle.build_store.specs.Faults.{IsClash, IsCollision, is_disk_fault}
+use Rattle.build_store.proofs.Texts.{text_name_is}
 use Rattle.build_store.specs.declared.fault.StoreFault.{StoreFault}
 use Rattle.build_store.specs.declared.fault.StoreFault.TheVariants as fault_of
 use Rattle.setscene_plan.specs.View.{IsAskedOf, IsNamedFor}
@@ -30,20 +31,23 @@ asked_name plan rows number sig asked = record { number = number; signed = asked
 
 -- what a collision is where the name is that of the signature of a task of the plan
 clash_of : (plan : Plan) (rows : List EquivRow) (at name : Hash) (bytes held given : List ℕ) → IsNamedFor (record { plan = plan; rows = rows }) at bytes → IsCollision rows at bytes name held given → IsClashOf plan rows name held given
-unfolding name_of
 clash_of plan rows at name bytes held given named clash = record {
-  row = clash.row;
-  is_row = ap (row_at rows) clash.name_is ∙ clash.is_row;
-  held_is = clash.held_is;
   number = named.number;
   signed = named.signed;
   is_signed = named.is_signed;
-  given_is = clash.given_is ∙ named.spelled;
-  name_is = clash.name_is ∙ named.named;
-  differ = clash.differ;
-  held_name = clash.held_name;
-  given_name = ap sha256 (clash.given_is ∙ named.spelled) ∙ ap (λ (h : Hash). h.bytes) (sym (clash.name_is ∙ named.named));
+  meet = inl (
+    clash.row,
+    ap (row_at rows) (sym named.named) ∙ clash.is_row,
+    subst (λ (h : Hash). AreToldApart clash.row.sig (signature_bytes named.signed.sig) h name held given) named.named (subst (λ (b : List ℕ). AreToldApart clash.row.sig b at name held given) named.spelled clash.told),
+  );
+  differ = clash.told.differ;
+  held_name = clash.told.held_name;
+  given_name = clash.told.given_name;
 }
+
+-- a text that is named for a task has the name that its short part gives
+pub named_text : (plan : Plan) (rows : List EquivRow) (name : Hash) (bytes : List ℕ) → IsNamedFor (record { plan = plan; rows = rows }) name bytes → name ≡ text_name bytes
+named_text plan rows name bytes named = named.named ∙ sym (text_name_is named.signed.sig) ∙ ap text_name (sym named.spelled)
 
 -- why a question about a signature is refused
 pub clash_met : (plan : Plan) (rows : List EquivRow) (name : Hash) (bytes : List ℕ) (before now : ℕ) (fault : StoreFault) → IsNamedFor (record { plan = plan; rows = rows }) name bytes → IsClash rows name bytes fault → Counts before now (is_disk_fault fault) → IsMet plan rows before now fault

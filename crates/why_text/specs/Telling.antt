@@ -9,19 +9,25 @@ use Rattle.store_model.specs.declared.signature.EquivRow.{EquivRow}
 use Rattle.store_model.specs.declared.signature.SigRecord.{SigRecord}
 use Rattle.store_model.specs.Signatures.{Signed, signatures}
 use Rattle.tree_model.specs.declared.hash.Hash.{Hash}
+use Rattle.sig_gen.specs.Sound.{Spells}
 use Rattle.setscene_plan.specs.Names.{unihashes_over}
 use Rattle.why_model.specs.declared.fate.Cause.{Cause}
 use Rattle.why_model.specs.declared.fate.Fate.{Fate}
 use Rattle.why_model.specs.declared.fate.Fate.TheVariants as fate
 use Rattle.why_model.specs.declared.fate.Cause.TheVariants as cause
 use Rattle.why_model.specs.Differing.{differing}
-use Rattle.why_model.specs.Fates.{IsCause, IsEarlier, IsFate, IsStamped, Told}
+use Rattle.why_model.specs.Fates.{HasNoEarlier, IsCause, IsEarlier, IsFate, Told}
 use Rattle.why_model.specs.Seen.{narrowed, seen_over}
 use Rattle.why_model.specs.Why.{AreLines, IsLine}
 
--- the signature of the row that a task's stamp names, or that it names none
+-- what is read of a text: the signature that it spells, or that it spells none
+abbrev pub IsRead : List ℕ → Option SigRecord → Type 0
+IsRead text None = (was : SigRecord) → Spells text was → ⊥
+IsRead text (Some was) = Spells text was
+
+-- the signature to which a task's stamp leads, or that it leads to none
 abbrev pub IsEarlierOf : Store → List EquivRow → PlanTask → Option SigRecord → Type 0
-IsEarlierOf held rows of None = IsStamped held rows of None
+IsEarlierOf held rows of None = HasNoEarlier held rows of
 IsEarlierOf held rows of (Some was) = IsEarlier held rows of was
 
 -- Why a task would run that doesn't run in each run, by its signature and the one that its stamp leads to.
@@ -34,7 +40,7 @@ IsCauseBy sig was (cause.Differs names) = (names ≡ differing sig was) × (name
 
 -- ... by what its stamp leads to
 abbrev pub IsChangedCause : Store → List EquivRow → PlanTask → SigRecord → Cause → Type 0
-IsChangedCause held rows of sig why = (IsStamped held rows of None × (why ≡ cause.New)) ⊎ ((was : SigRecord) × IsEarlier held rows of was × IsCauseBy sig was why)
+IsChangedCause held rows of sig why = (HasNoEarlier held rows of × (why ≡ cause.New)) ⊎ ((was : SigRecord) × IsEarlier held rows of was × IsCauseBy sig was why)
 
 -- just the targets are marked where the option `-f` is given, and nothing is where it isn't
 pub record AreMarked (force : Bool) (plan : Plan) (marks : List Bool) : Type 0 where

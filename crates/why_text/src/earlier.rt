@@ -5,10 +5,8 @@ ghost use Rattle.outside_traits.specs.Fault.{Counts, disk_failed};
 ghost use Rattle.outside_traits.specs.Passes.{Passes, Same};
 ghost use Rattle.stamp_store.specs.Stamp.{IsCurrent};
 ghost use Rattle.store_model.specs.Available.{stamp_path, task_folder};
-ghost use Rattle.store_model.specs.Readable.{IsRow};
 ghost use Rattle.store_model.specs.Rows.{row_at};
-ghost use Rattle.sig_gen.specs.Sound.{Spells};
-ghost use Rattle.why_text.specs.Telling.{IsEarlierOf};
+ghost use Rattle.why_text.specs.Telling.{IsEarlierOf, IsRead};
 
 use crate::rows::Rows;
 use hash_equiv::Index;
@@ -40,15 +38,14 @@ fn stamped<D: Disk>(alloc: Global, disk: &mut D, task: &PlanTask) -> Result<Opti
     current(alloc, disk, folder.as_str())
 }
 
-/// The signature of a row.
-fn sig_in(alloc: Global, row: &EquivRow) -> Result<SigRecord, Mem>
-    requires { IsRow row.now }
-    ensures { IfOk result (Spells row.now.sig) }
+/// The signature of a row; none where its text is no signature's.
+fn sig_in(alloc: Global, row: &EquivRow) -> Result<Option<SigRecord>, Mem>
+    ensures { IfOk result (IsRead row.now.sig) }
 {
-    match decode(alloc, row.sig.as_slice()) {
-        Ok(sig) => Ok(sig),
+    match decode(alloc, &row.sig) {
+        Ok(sig) => Ok(Some(sig)),
         Err(SigFault::Memory) => Err(Mem),
-        Err(SigFault::BadRecord) => unreachable!(),
+        Err(SigFault::BadRecord) => Ok(None),
     }
 }
 
@@ -62,7 +59,7 @@ fn row_named<'r>(index: &'r Index, name: Option<&Hash>) -> Option<&'r EquivRow>
     }
 }
 
-/// The signature of the row that a task's stamp names; none where it names no row.
+/// The signature of the row that a task's stamp names; none where it names no row, or one whose text is no signature's.
 pub(crate) fn earlier_of<D: Disk>(
     alloc: Global,
     disk: &mut D,
@@ -75,7 +72,7 @@ pub(crate) fn earlier_of<D: Disk>(
 {
     let name = stamped(alloc, disk, task)?;
     match row_named(rows.index(), name.as_ref()) {
-        Some(row) => Ok(Some(sig_in(alloc, row)?)),
+        Some(row) => Ok(sig_in(alloc, row)?),
         None => Ok(None),
     }
 }

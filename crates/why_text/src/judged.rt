@@ -8,7 +8,7 @@ use meta_model::{Avail, Plan, PlanTask};
 use outside_traits::Disk;
 use setscene_plan::{Probe, ProbeFault};
 use std::alloc::Global;
-use store_model::SigRecord;
+use store_model::{SigRecord, SigText};
 use tree_model::Hash;
 
 /// A disk with the rows of its believed records, asked on the tasks of one plan. Nothing changes in it. It keeps the first fault that it meets, and asks
@@ -66,11 +66,11 @@ impl<D: Disk> Probe for Judged<'_, D> {
         self.rows.index().unihash_of(name)
     }
 
-    fn known_name(&self, pn: &str, sig: &[u8]) -> Option<Hash> {
+    fn known_name(&self, pn: &str, sig: &SigText) -> Option<Hash> {
         self.rows.index().name_of(pn, sig)
     }
 
-    fn compare(&mut self, name: &Hash, sig: &[u8]) -> Result<(), ProbeFault> {
+    fn compare(&mut self, name: &Hash, sig: &SigText) -> Result<(), ProbeFault> {
         if self.fault.is_some() {
             return Err(ProbeFault::Memory);
         }

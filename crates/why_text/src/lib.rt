@@ -1,6 +1,6 @@
 //! The text that says what a run would do with each task that it needs, and why, before there is a run.
 //!
-//! A disk is seen by its story. The text is a definition over a plan and what is held (`why_model`, `Why`). The records under `rec/` are judged as an
+//! A disk is seen by its story. The text is a definition over a plan and what is held (`why_model`, `Why`). The records under `rec2/` are judged as an
 //! opening would judge them (`store_opening`), names, needs and what is there are worked out as a run works them out (`setscene_plan`), and for the rest the
 //! plan is walked once from its end and once from its begin.
 //!

@@ -6,6 +6,7 @@ use Rattle.std.proofs.lemmas.Option.{none-some, same_Some}
 use Rattle.tree_model.specs.declared.entry.Entry.{Entry}
 use Rattle.tree_model.specs.Hash.{hash_text}
 use Rattle.tree_model.specs.Path.{inside}
+use Rattle.outside_traits.specs.Store.{put}
 use Rattle.outside_traits.proofs.Puts.{put-same}
 use Rattle.meta_model.specs.declared.event.Logged.{Logged}
 use Rattle.meta_model.specs.declared.plan.PlanTask.{PlanTask}
@@ -17,8 +18,9 @@ use Rattle.tree_model.specs.Overlay.{overlaid}
 use Rattle.store_model.specs.Available.{stamp_path}
 use Rattle.store_model.specs.Hello.{first_line, hello_reading, hello_signed, hello_task, hello_tree}
 use Rattle.store_model.specs.Origins.{Book}
-use Rattle.store_model.specs.Spelling.{name_of}
-use Rattle.store_model.specs.Valid.{IsValid, IsValidLine, record_entry}
+use Rattle.store_model.specs.Paths.{key_path}
+use Rattle.store_model.specs.Spelling.{key_name, name_of}
+use Rattle.store_model.specs.Valid.{IsValid, IsValidLine, key_file, record_entry}
 use Rattle.store_model.proofs.Hello.{hello_is_recorded}
 use Rattle.run_model.specs.Books.{line_of_ended}
 use Rattle.run_model.specs.Headline.{nothing}
@@ -75,7 +77,7 @@ some_none entry None is none = none-some entry is
 
 -- where the record is held
 abbrev first_path : List ℕ
-first_path = inside (codes "rec") (hash_text (name_of first_line.sig))
+first_path = inside (codes "rec2") (hash_text (name_of first_line.sig))
 
 -- before the first event nothing is in flight, so no record is held
 none_left : IsValidAfter empty_opening hello_plan [] recorded_alone → ⊥
@@ -84,7 +86,7 @@ none_left after = by after.in_flight refl
     by : (ts : List ℕ) → after.in_flight ≡ ts → ⊥
     by [] none =
         let v = subst (λ (l : List ℕ). IsValid shell hello_reading recorded_alone (book_with empty_opening hello_plan [] l)) none after.valid in
-        some_none (record_entry first_line).1 (recorded_alone first_path) (put-same nothing first_path first_path (Some (record_entry first_line).1) refl) (v.records (hash_text (name_of first_line.sig)))
+        some_none (record_entry first_line).1 (recorded_alone first_path) (put-same (put nothing (key_path (key_name first_line.sig.key)) (Some (key_file first_line.sig.key))) first_path first_path (Some (record_entry first_line).1) refl) (v.records (hash_text (name_of first_line.sig)))
     by (t ∷ ts) some =
         let r = after.flies.runs 0 t (ap (λ (l : List ℕ). slice_get l 0) some) in
         none_runs 1 t r.0 r.1

@@ -52,6 +52,11 @@ returns-then-is_empty-clause-left g t c = left_none c.args.state.tale c.requires
 
 -- ---- each bench has a worker
 
+pub returns-then-len-workers-clause-text : goal.returns-then-len-workers-clause-text
+returns-then-len-workers-clause-text g t c told base printed =
+    let now = c.run_workers-state in
+    subst (λ (p : Plan). Prints base (g.W.Sink.written now.result.0.sink) (tale_text p.tasks now.result.0.tale) now.result.0.sink_failed) now.ensures.same.plan (now.ensures.text told base printed)
+
 pub returns-then-len-workers-clause-left : goal.returns-then-len-workers-clause-left
 returns-then-len-workers-clause-left g t c =
     let now = c.run_workers-state in

@@ -1,4 +1,5 @@
 use Rattle.std.proofs.Common.{sym, refl}
+use Rattle.store_opening.proofs.Clean.{name_slashes}
 use Rattle.build_store.specs.OpenOnes.{items_of, put_by}
 use Rattle.build_store.proofs.going.take_on.Goals as goal
 
@@ -15,3 +16,9 @@ returns-in_err-take_out-clause-opens g c told = λ f is. c.take_out.ensures.open
 
 pub returns-clause-opens : goal.returns-clause-opens
 returns-clause-opens g c told = λ f is. c.take_out.ensures.opens told (put_by c.args.one.now f) (sym c.as_str.ensures) refl (items_of c.args.one.now) is
+
+pub returns-in_err-take_out-clause-brief : goal.returns-in_err-take_out-clause-brief
+returns-in_err-take_out-clause-brief g c told = c.take_out.ensures.brief told (λ unihash some. name_slashes unihash (c.requires.fit.object unihash some))
+
+pub returns-clause-brief : goal.returns-clause-brief
+returns-clause-brief g c told = c.take_out.ensures.brief told (λ unihash some. name_slashes unihash (c.requires.fit.object unihash some))

@@ -1,4 +1,5 @@
-use Rattle.std.proofs.Common.{◌≡◌, ◌∙◌, sym, ap, subst, refl, false, [], List, ℕ}
+use Rattle.store_opening.proofs.Clean.{name_slashes}
+use Rattle.std.proofs.Common.{arith, ◌≡◌, ◌∙◌, sym, ap, subst, refl, false, [], List, ℕ}
 use Rattle.tree_model.specs.declared.entry.Entry.TheVariants.{File}
 use Rattle.outside_traits.specs.Passes.{EachNow}
 use Rattle.outside_traits.specs.Store.{Store}
@@ -16,11 +17,11 @@ use Rattle.build_store.proofs.NotingRuns.{few_items}
 use Rattle.build_store.proofs.opening.open_publication.Goals as goal
 
 pub returns-in_err-extra-clause-opens : goal.returns-in_err-extra-clause-opens
-returns-in_err-extra-clause-opens g c told = λ f. opens_same (put_of c.args.folder c.args.draft.name c.args.tree c.args.object (file_of c.args.draft.new) f) (c.note_few.ensures.same told)
+returns-in_err-extra-clause-opens g c told = λ f. opens_same (put_of c.args.folder c.args.draft.name c.args.tree c.args.object (file_of c.args.draft.new) f c.args.draft.text) (c.note_few.ensures.same told)
 
 pub returns-in_err-extra-clause-publishing : goal.returns-in_err-extra-clause-publishing
 returns-in_err-extra-clause-publishing g c told = λ f.
-    let p = put_of c.args.folder c.args.draft.name c.args.tree c.args.object (file_of c.args.draft.new) f in
+    let p = put_of c.args.folder c.args.draft.name c.args.tree c.args.object (file_of c.args.draft.new) f c.args.draft.text in
     opens_publish p (opens_same p (c.note_few.ensures.same told))
 
 pub returns-in_err-extra-clause-laid_out : goal.returns-in_err-extra-clause-laid_out
@@ -35,22 +36,22 @@ begin-requires-clause-settled g c told =
 
 pub returns-in_err-reached-clause-opens : goal.returns-in_err-reached-clause-opens
 returns-in_err-reached-clause-opens g c told = λ f.
-    let p = put_of c.args.folder c.args.draft.name c.args.tree c.args.object (file_of c.args.draft.new) f in
+    let p = put_of c.args.folder c.args.draft.name c.args.tree c.args.object (file_of c.args.draft.new) f c.args.draft.text in
     opens_behind p (c.note_few.ensures.same told) (c.begin.ensures.opens told p (sym c.as_str-2.ensures) refl)
 
 pub returns-in_err-reached-clause-publishing : goal.returns-in_err-reached-clause-publishing
 returns-in_err-reached-clause-publishing g c told = λ f.
-    let p = put_of c.args.folder c.args.draft.name c.args.tree c.args.object (file_of c.args.draft.new) f in
+    let p = put_of c.args.folder c.args.draft.name c.args.tree c.args.object (file_of c.args.draft.new) f c.args.draft.text in
     opens_publish p (opens_behind p (c.note_few.ensures.same told) (c.begin.ensures.opens told p (sym c.as_str-2.ensures) refl))
 
 pub returns-clause-opens : goal.returns-clause-opens
 returns-clause-opens g c told = λ f.
-    let p = put_of c.args.folder c.args.draft.name c.args.tree c.args.object (file_of c.args.draft.new) f in
+    let p = put_of c.args.folder c.args.draft.name c.args.tree c.args.object (file_of c.args.draft.new) f c.args.draft.text in
     opens_behind p (c.note_few.ensures.same told) (c.begin.ensures.opens told p (sym c.as_str-2.ensures) refl)
 
 pub returns-clause-publishing : goal.returns-clause-publishing
 returns-clause-publishing g c told = λ f.
-    let p = put_of c.args.folder c.args.draft.name c.args.tree c.args.object (file_of c.args.draft.new) f in
+    let p = put_of c.args.folder c.args.draft.name c.args.tree c.args.object (file_of c.args.draft.new) f c.args.draft.text in
     opens_publish p (opens_behind p (c.note_few.ensures.same told) (c.begin.ensures.opens told p (sym c.as_str-2.ensures) refl))
 
 pub returns-clause-parts : goal.returns-clause-parts
@@ -82,9 +83,19 @@ returns-clause-opened g c told = λ f.
 pub returns-clause-swept : goal.returns-clause-swept
 returns-clause-swept g c told =
     let o = (opened_by c.args.folder c.args.object c.args.draft c.args.tree c.in_ok-extra.extra c.in_ok-reached.reached) in
-    let p = (put_of c.args.folder c.args.draft.name c.args.tree c.args.object (file_of c.args.draft.new) (File false [])) in
+    let p = (put_of c.args.folder c.args.draft.name c.args.tree c.args.object (file_of c.args.draft.new) (File false []) c.args.draft.text) in
     let same = (c.note_few.ensures.same told).held in
     subst (λ (o : OpenPublication). AddsOwn o (g.D.Disk.story c.args.disk.now).held (g.D.Disk.story c.begin.new.disk).held) (sym c.opened_by.ensures)
     (opens_own o p (g.D.Disk.story c.args.disk.now).held (g.D.Disk.story c.args.disk.now).held (g.D.Disk.story c.begin.new.disk).held refl
     (opens_behind p (c.note_few.ensures.same told) (c.begin.ensures.opens told p (sym c.as_str-2.ensures) refl)).held
     (λ none. (rw c.as_str-2.ensures at (c.in_ok-reached.ensures.swept told)) (ap (λ (h : Store). h (old_path c.args.folder)) same ∙ none)))
+
+pub returns-in_err-reached-clause-brief : goal.returns-in_err-reached-clause-brief
+returns-in_err-reached-clause-brief g c told =
+    let begun = c.begin.ensures.brief told (λ unihash some. name_slashes unihash (c.requires.object unihash some)) in
+    omega (arith, begun, c.note_few.ensures.brief told)
+
+pub returns-clause-brief : goal.returns-clause-brief
+returns-clause-brief g c told =
+    let begun = c.begin.ensures.brief told (λ unihash some. name_slashes unihash (c.requires.object unihash some)) in
+    omega (arith, begun, c.note_few.ensures.brief told)

@@ -6,11 +6,12 @@ use Rattle.outside_traits.specs.Story.{Story}
 use Rattle.outside_traits.proofs.Images.{held-image}
 use Rattle.outside_traits.proofs.Runs.{passes_so}
 use Rattle.stamp_store.specs.Stamp.{staged_path}
+use Rattle.build_store.specs.Keys.{text_key}
 use Rattle.build_store.specs.Phases.{Lays, Stages, put_of}
 use Rattle.build_store.specs.Publication.{IsPublished}
 use Rattle.store_model.specs.Publication.{stamp_at, stamp_file}
 use Rattle.store_opening.proofs.Areas.{differ, heads_differ}
-use Rattle.build_store.proofs.AroundRestoring.{adds_no_litter, around_aside, around_freeing, around_staging, around_stamp, around_then, around_work, record_stays}
+use Rattle.build_store.proofs.AroundRestoring.{adds_no_litter, around_aside, around_freeing, around_staging, around_stamp, around_then, around_work, key_stays, record_stays}
 use Rattle.build_store.proofs.Free.{free_old}
 use Rattle.build_store.proofs.StampWays.{free_after}
 use Rattle.build_store.proofs.Phasing.{laid_aside, laid_freeing, laid_lays, laid_stamped, lays_by_work, lays_elsewhere, stages_by_stamp}
@@ -72,60 +73,64 @@ returns-clause-laid_out g c told =
     (g.D.Disk.story c.invalidate.new.disk).held c.requires.parts (c.invalidate.ensures.images told).held (c.requires.laid_out told)))))
 
 pub returns-in_err-invalidate-clause-others : goal.returns-in_err-invalidate-clause-others
-returns-in_err-invalidate-clause-others g c told f is =
-    aside_run c.args.folder.now c.args.name.now c.args.tree.now None None f (c.invalidate.ensures.images told)
+returns-in_err-invalidate-clause-others g c told f is text has =
+    aside_run c.args.folder.now c.args.name.now c.args.tree.now None None f text (c.invalidate.ensures.images told)
 
 pub returns-in_err-free_stamp-clause-others : goal.returns-in_err-free_stamp-clause-others
-returns-in_err-free_stamp-clause-others g c told f is =
-    let Quiet : Story → Type 0 = Quiets c.args.folder.now c.args.name.now c.args.tree.now None None f (g.D.Disk.story c.args.disk.now) in
-    let quiet_b : Quiet (g.D.Disk.story c.invalidate.new.disk) = record { run = aside_run c.args.folder.now c.args.name.now c.args.tree.now None None f (c.invalidate.ensures.images told); gone = c.in_ok-invalidate.ensures.gone told } in
-    (freeing_run c.args.folder.now c.args.name.now c.args.tree.now None None f (g.D.Disk.story c.invalidate.new.disk).held (g.met.D.Disk.sound c.invalidate.new.disk told) quiet_b (c.free_stamp.ensures.frees told)).run
+returns-in_err-free_stamp-clause-others g c told f is text has =
+    let Quiet : Story → Type 0 = Quiets c.args.folder.now c.args.name.now c.args.tree.now None None f text (g.D.Disk.story c.args.disk.now) in
+    let quiet_b : Quiet (g.D.Disk.story c.invalidate.new.disk) = record { run = aside_run c.args.folder.now c.args.name.now c.args.tree.now None None f text (c.invalidate.ensures.images told); gone = c.in_ok-invalidate.ensures.gone told } in
+    (freeing_run c.args.folder.now c.args.name.now c.args.tree.now None None f text (g.D.Disk.story c.invalidate.new.disk).held (g.met.D.Disk.sound c.invalidate.new.disk told) quiet_b (c.free_stamp.ensures.frees told)).run
 
 pub returns-in_err-lay_work-clause-others : goal.returns-in_err-lay_work-clause-others
-returns-in_err-lay_work-clause-others g c told f is =
-    let Quiet : Story → Type 0 = Quiets c.args.folder.now c.args.name.now c.args.tree.now None None f (g.D.Disk.story c.args.disk.now) in
-    let quiet_b : Quiet (g.D.Disk.story c.invalidate.new.disk) = record { run = aside_run c.args.folder.now c.args.name.now c.args.tree.now None None f (c.invalidate.ensures.images told); gone = c.in_ok-invalidate.ensures.gone told } in
-    let quiet_m : Quiet (g.D.Disk.story c.free_stamp.new.disk) = freeing_run c.args.folder.now c.args.name.now c.args.tree.now None None f (g.D.Disk.story c.invalidate.new.disk).held (g.met.D.Disk.sound c.invalidate.new.disk told) quiet_b (c.free_stamp.ensures.frees told) in
-    (lays_run c.args.folder.now c.args.name.now c.args.tree.now None None f (g.met.D.Disk.sound c.free_stamp.new.disk told) quiet_m (passes_so (Lays c.args.folder.now None) (c.lay_work.ensures.others told) (λ i j agrees. lays_by_work c.args.folder.now None i j agrees))).run
+returns-in_err-lay_work-clause-others g c told f is text has =
+    let Quiet : Story → Type 0 = Quiets c.args.folder.now c.args.name.now c.args.tree.now None None f text (g.D.Disk.story c.args.disk.now) in
+    let quiet_b : Quiet (g.D.Disk.story c.invalidate.new.disk) = record { run = aside_run c.args.folder.now c.args.name.now c.args.tree.now None None f text (c.invalidate.ensures.images told); gone = c.in_ok-invalidate.ensures.gone told } in
+    let quiet_m : Quiet (g.D.Disk.story c.free_stamp.new.disk) = freeing_run c.args.folder.now c.args.name.now c.args.tree.now None None f text (g.D.Disk.story c.invalidate.new.disk).held (g.met.D.Disk.sound c.invalidate.new.disk told) quiet_b (c.free_stamp.ensures.frees told) in
+    (lays_run c.args.folder.now c.args.name.now c.args.tree.now None None f text (g.met.D.Disk.sound c.free_stamp.new.disk told) quiet_m (passes_so (Lays c.args.folder.now None) (c.lay_work.ensures.others told) (λ i j agrees. lays_by_work c.args.folder.now None i j agrees))).run
 
 pub returns-in_err-stage_synced-clause-others : goal.returns-in_err-stage_synced-clause-others
-returns-in_err-stage_synced-clause-others g c told f is =
-    let Quiet : Story → Type 0 = Quiets c.args.folder.now c.args.name.now c.args.tree.now None None f (g.D.Disk.story c.args.disk.now) in
-    let quiet_b : Quiet (g.D.Disk.story c.invalidate.new.disk) = record { run = aside_run c.args.folder.now c.args.name.now c.args.tree.now None None f (c.invalidate.ensures.images told); gone = c.in_ok-invalidate.ensures.gone told } in
-    let quiet_m : Quiet (g.D.Disk.story c.free_stamp.new.disk) = freeing_run c.args.folder.now c.args.name.now c.args.tree.now None None f (g.D.Disk.story c.invalidate.new.disk).held (g.met.D.Disk.sound c.invalidate.new.disk told) quiet_b (c.free_stamp.ensures.frees told) in
-    let quiet_c : Quiet (g.D.Disk.story c.lay_work.new.disk) = lays_run c.args.folder.now c.args.name.now c.args.tree.now None None f (g.met.D.Disk.sound c.free_stamp.new.disk told) quiet_m (passes_so (Lays c.args.folder.now None) (c.lay_work.ensures.others told) (λ i j agrees. lays_by_work c.args.folder.now None i j agrees)) in
-    (stages_run c.args.folder.now c.args.name.now c.args.tree.now None None f (λ entry some. let k : None ≡ Some entry = some in cc) (g.met.D.Disk.sound c.lay_work.new.disk told) quiet_c (passes_so (Stages c.args.name.now None) (c.stage_synced.ensures.others told) (λ i j change. stages_by_stamp c.args.name.now None c.args.folder.now i j c.requires.parts change))).run
+returns-in_err-stage_synced-clause-others g c told f is text has =
+    let Quiet : Story → Type 0 = Quiets c.args.folder.now c.args.name.now c.args.tree.now None None f text (g.D.Disk.story c.args.disk.now) in
+    let quiet_b : Quiet (g.D.Disk.story c.invalidate.new.disk) = record { run = aside_run c.args.folder.now c.args.name.now c.args.tree.now None None f text (c.invalidate.ensures.images told); gone = c.in_ok-invalidate.ensures.gone told } in
+    let quiet_m : Quiet (g.D.Disk.story c.free_stamp.new.disk) = freeing_run c.args.folder.now c.args.name.now c.args.tree.now None None f text (g.D.Disk.story c.invalidate.new.disk).held (g.met.D.Disk.sound c.invalidate.new.disk told) quiet_b (c.free_stamp.ensures.frees told) in
+    let quiet_c : Quiet (g.D.Disk.story c.lay_work.new.disk) = lays_run c.args.folder.now c.args.name.now c.args.tree.now None None f text (g.met.D.Disk.sound c.free_stamp.new.disk told) quiet_m (passes_so (Lays c.args.folder.now None) (c.lay_work.ensures.others told) (λ i j agrees. lays_by_work c.args.folder.now None i j agrees)) in
+    (stages_run c.args.folder.now c.args.name.now c.args.tree.now None None f text (λ entry some. let k : None ≡ Some entry = some in cc) (g.met.D.Disk.sound c.lay_work.new.disk told) quiet_c (passes_so (Stages c.args.name.now None) (c.stage_synced.ensures.others told) (λ i j change. stages_by_stamp c.args.name.now None c.args.folder.now i j c.requires.parts change))).run
 
 pub returns-clause-others : goal.returns-clause-others
-returns-clause-others g c told f is =
-    let Quiet : Story → Type 0 = Quiets c.args.folder.now c.args.name.now c.args.tree.now None None f (g.D.Disk.story c.args.disk.now) in
-    let quiet_b : Quiet (g.D.Disk.story c.invalidate.new.disk) = record { run = aside_run c.args.folder.now c.args.name.now c.args.tree.now None None f (c.invalidate.ensures.images told); gone = c.in_ok-invalidate.ensures.gone told } in
-    let quiet_m : Quiet (g.D.Disk.story c.free_stamp.new.disk) = freeing_run c.args.folder.now c.args.name.now c.args.tree.now None None f (g.D.Disk.story c.invalidate.new.disk).held (g.met.D.Disk.sound c.invalidate.new.disk told) quiet_b (c.free_stamp.ensures.frees told) in
-    let quiet_c : Quiet (g.D.Disk.story c.lay_work.new.disk) = lays_run c.args.folder.now c.args.name.now c.args.tree.now None None f (g.met.D.Disk.sound c.free_stamp.new.disk told) quiet_m (passes_so (Lays c.args.folder.now None) (c.lay_work.ensures.others told) (λ i j agrees. lays_by_work c.args.folder.now None i j agrees)) in
-    let quiet_d : Quiet (g.D.Disk.story c.stage_synced.new.disk) = stages_run c.args.folder.now c.args.name.now c.args.tree.now None None f (λ entry some. let k : None ≡ Some entry = some in cc) (g.met.D.Disk.sound c.lay_work.new.disk told) quiet_c (passes_so (Stages c.args.name.now None) (c.stage_synced.ensures.others told)
+returns-clause-others g c told f is text has =
+    let Quiet : Story → Type 0 = Quiets c.args.folder.now c.args.name.now c.args.tree.now None None f text (g.D.Disk.story c.args.disk.now) in
+    let quiet_b : Quiet (g.D.Disk.story c.invalidate.new.disk) = record { run = aside_run c.args.folder.now c.args.name.now c.args.tree.now None None f text (c.invalidate.ensures.images told); gone = c.in_ok-invalidate.ensures.gone told } in
+    let quiet_m : Quiet (g.D.Disk.story c.free_stamp.new.disk) = freeing_run c.args.folder.now c.args.name.now c.args.tree.now None None f text (g.D.Disk.story c.invalidate.new.disk).held (g.met.D.Disk.sound c.invalidate.new.disk told) quiet_b (c.free_stamp.ensures.frees told) in
+    let quiet_c : Quiet (g.D.Disk.story c.lay_work.new.disk) = lays_run c.args.folder.now c.args.name.now c.args.tree.now None None f text (g.met.D.Disk.sound c.free_stamp.new.disk told) quiet_m (passes_so (Lays c.args.folder.now None) (c.lay_work.ensures.others told) (λ i j agrees. lays_by_work c.args.folder.now None i j agrees)) in
+    let quiet_d : Quiet (g.D.Disk.story c.stage_synced.new.disk) = stages_run c.args.folder.now c.args.name.now c.args.tree.now None None f text (λ entry some. let k : None ≡ Some entry = some in cc) (g.met.D.Disk.sound c.lay_work.new.disk told) quiet_c (passes_so (Stages c.args.name.now None) (c.stage_synced.ensures.others told)
     (λ i j change. stages_by_stamp c.args.name.now None c.args.folder.now i j c.requires.parts change)) in
-    let ready : IsReady c.args.folder.now c.args.name.now c.args.tree.now None None f (g.D.Disk.story c.stage_synced.new.disk).held = record {
+    let ready : IsReady c.args.folder.now c.args.name.now c.args.tree.now None None f text (g.D.Disk.story c.stage_synced.new.disk).held = record {
       work = ready_stages c.args.folder.now c.args.name.now c.args.tree.now None None f (g.D.Disk.story c.lay_work.new.disk).held (g.D.Disk.story c.stage_synced.new.disk).held (stages_by_stamp c.args.name.now None c.args.folder.now (g.D.Disk.story c.lay_work.new.disk).held
           (g.D.Disk.story c.stage_synced.new.disk).held c.requires.parts (c.stage_synced.ensures.others told).held) (c.in_ok-lay_work.ensures.held told);
       shared = λ unihash some. absurd (no_object unihash some);
       stored = record_stays c.args.folder.now c.args.name.now (g.D.Disk.story c.args.disk.now).held (g.D.Disk.story c.invalidate.new.disk).held (g.D.Disk.story c.free_stamp.new.disk).held (g.D.Disk.story c.lay_work.new.disk).held (g.D.Disk.story c.stage_synced.new.disk).held (c.invalidate.ensures.images told).held
           (c.free_stamp.ensures.frees told).held (c.lay_work.ensures.round told).held (c.stage_synced.ensures.others told).held ∙ is;
+      key = key_stays c.args.folder.now (text_key text) (g.D.Disk.story c.args.disk.now).held (g.D.Disk.story c.invalidate.new.disk).held (g.D.Disk.story c.free_stamp.new.disk).held (g.D.Disk.story c.lay_work.new.disk).held (g.D.Disk.story c.stage_synced.new.disk).held (c.invalidate.ensures.images told).held
+          (c.free_stamp.ensures.frees told).held (c.lay_work.ensures.round told).held (c.stage_synced.ensures.others told).held ∙ has;
     } in
-    last_run c.args.folder.now c.args.name.now c.args.tree.now None None f (g.met.D.Disk.sound c.stage_synced.new.disk told) (c.in_ok-stage_synced.ensures.stamp told) quiet_d (c.in_ok-stage_synced.ensures.synced told) ready (c.stamp.ensures.images told)
+    last_run c.args.folder.now c.args.name.now c.args.tree.now None None f text (g.met.D.Disk.sound c.stage_synced.new.disk told) (c.in_ok-stage_synced.ensures.stamp told) quiet_d (c.in_ok-stage_synced.ensures.synced told) ready (c.stamp.ensures.images told)
 
 pub returns-clause-published : goal.returns-clause-published
 returns-clause-published g c told =
-    on_ok_two c.stamp.result _ _ _ (c.stamp.ensures.stamped told) (c.stamp.ensures.synced told) (λ stamped synced f is image img.
-    let ready : IsReady c.args.folder.now c.args.name.now c.args.tree.now None None f (g.D.Disk.story c.stage_synced.new.disk).held = record {
+    on_ok_two c.stamp.result _ _ _ (c.stamp.ensures.stamped told) (c.stamp.ensures.synced told) (λ stamped synced f is text has image img.
+    let ready : IsReady c.args.folder.now c.args.name.now c.args.tree.now None None f text (g.D.Disk.story c.stage_synced.new.disk).held = record {
       work = ready_stages c.args.folder.now c.args.name.now c.args.tree.now None None f (g.D.Disk.story c.lay_work.new.disk).held (g.D.Disk.story c.stage_synced.new.disk).held (stages_by_stamp c.args.name.now None c.args.folder.now (g.D.Disk.story c.lay_work.new.disk).held
           (g.D.Disk.story c.stage_synced.new.disk).held c.requires.parts (c.stage_synced.ensures.others told).held) (c.in_ok-lay_work.ensures.held told);
       shared = λ unihash some. absurd (no_object unihash some);
       stored = record_stays c.args.folder.now c.args.name.now (g.D.Disk.story c.args.disk.now).held (g.D.Disk.story c.invalidate.new.disk).held (g.D.Disk.story c.free_stamp.new.disk).held (g.D.Disk.story c.lay_work.new.disk).held (g.D.Disk.story c.stage_synced.new.disk).held (c.invalidate.ensures.images told).held
           (c.free_stamp.ensures.frees told).held (c.lay_work.ensures.round told).held (c.stage_synced.ensures.others told).held ∙ is;
+      key = key_stays c.args.folder.now (text_key text) (g.D.Disk.story c.args.disk.now).held (g.D.Disk.story c.invalidate.new.disk).held (g.D.Disk.story c.free_stamp.new.disk).held (g.D.Disk.story c.lay_work.new.disk).held (g.D.Disk.story c.stage_synced.new.disk).held (c.invalidate.ensures.images told).held
+          (c.free_stamp.ensures.frees told).held (c.lay_work.ensures.round told).held (c.stage_synced.ensures.others told).held ∙ has;
     } in
     let same : image ≡ (g.D.Disk.story c.stamp.new.disk).held = synced image img in
     let at : (g.D.Disk.story c.stamp.new.disk).held (stamp_at c.args.folder.now) ≡ Some (stamp_file c.args.name.now) = ap (λ (h : Store). h (stamp_at c.args.folder.now)) (sym same) ∙ stamped image img ∙ c.in_ok-stage_synced.ensures.stamp told in
-    subst (IsPublished (put_of c.args.folder.now c.args.name.now c.args.tree.now None None f)) (sym same) (published_by c.args.folder.now c.args.name.now c.args.tree.now None None f _ (g.D.Disk.story c.stage_synced.new.disk).held (g.D.Disk.story c.stamp.new.disk).held ready (c.stamp.ensures.images told).held at))
+    subst (IsPublished (put_of c.args.folder.now c.args.name.now c.args.tree.now None None f text)) (sym same) (published_by c.args.folder.now c.args.name.now c.args.tree.now None None f text _ (g.D.Disk.story c.stage_synced.new.disk).held (g.D.Disk.story c.stamp.new.disk).held ready (c.stamp.ensures.images told).held at))
 
 pub returns-in_err-invalidate-clause-round : goal.returns-in_err-invalidate-clause-round
 returns-in_err-invalidate-clause-round g c told =

@@ -6,22 +6,22 @@ use Rattle.build_store.proofs.Righting.{copied_back, copied_same}
 use Rattle.build_store.proofs.restoring.restore_by.Goals as goal
 
 pub returns-in_err-put_task-in-Ok-Some-clause-images : goal.returns-in_err-put_task-in-Ok-Some-clause-images
-returns-in_err-put_task-in-Ok-Some-clause-images g c told f at =
+returns-in_err-put_task-in-Ok-Some-clause-images g c told f at has =
     let object = object_is c.args.row.now (g.D.Disk.story c.args.disk.now).held c.in-Ok-Some.tree (rw c.in-Ok-Some.field-0-is at (c.in-Ok-Some.ensures.found told)) in
-    back_run c.args.task.now c.args.row.now (g.D.Disk.story c.args.disk.now) (g.D.Disk.story c.object_of.new.disk) (g.D.Disk.story c.put_task.new.disk) f at (c.object_of.ensures.others told) c.in-Ok-Some.tree object (c.put_task.ensures.others told)
+    back_run c.args.task.now c.args.row.now (g.D.Disk.story c.args.disk.now) (g.D.Disk.story c.object_of.new.disk) (g.D.Disk.story c.put_task.new.disk) f at has (c.object_of.ensures.others told) c.in-Ok-Some.tree object (c.put_task.ensures.others told)
 
 pub returns-in_ok-put_task-in-Ok-Some-clause-images : goal.returns-in_ok-put_task-in-Ok-Some-clause-images
-returns-in_ok-put_task-in-Ok-Some-clause-images g c told f at =
+returns-in_ok-put_task-in-Ok-Some-clause-images g c told f at has =
     let object = object_is c.args.row.now (g.D.Disk.story c.args.disk.now).held c.in-Ok-Some.tree (rw c.in-Ok-Some.field-0-is at (c.in-Ok-Some.ensures.found told)) in
-    back_run c.args.task.now c.args.row.now (g.D.Disk.story c.args.disk.now) (g.D.Disk.story c.object_of.new.disk) (g.D.Disk.story c.put_task.new.disk) f at (c.object_of.ensures.others told) c.in-Ok-Some.tree object (c.put_task.ensures.others told)
+    back_run c.args.task.now c.args.row.now (g.D.Disk.story c.args.disk.now) (g.D.Disk.story c.object_of.new.disk) (g.D.Disk.story c.put_task.new.disk) f at has (c.object_of.ensures.others told) c.in-Ok-Some.tree object (c.put_task.ensures.others told)
 
 pub returns-in_ok-put_task-in-Ok-Some-clause-restored : goal.returns-in_ok-put_task-in-Ok-Some-clause-restored
-returns-in_ok-put_task-in-Ok-Some-clause-restored g c told f at =
+returns-in_ok-put_task-in-Ok-Some-clause-restored g c told f at has =
     let object = object_is c.args.row.now (g.D.Disk.story c.args.disk.now).held c.in-Ok-Some.tree (rw c.in-Ok-Some.field-0-is at (c.in-Ok-Some.ensures.found told)) in
-    back_published c.args.task.now c.args.row.now (g.D.Disk.story c.args.disk.now) (g.D.Disk.story c.object_of.new.disk) (g.D.Disk.story c.put_task.new.disk) f at (c.object_of.ensures.others told) c.in-Ok-Some.tree object (c.in_ok-put_task-in-Ok-Some.ensures.published told)
+    back_published c.args.task.now c.args.row.now (g.D.Disk.story c.args.disk.now) (g.D.Disk.story c.object_of.new.disk) (g.D.Disk.story c.put_task.new.disk) f at has (c.object_of.ensures.others told) c.in-Ok-Some.tree object (c.in_ok-put_task-in-Ok-Some.ensures.published told)
 
 pub returns-in-Ok-None-clause-images : goal.returns-in-Ok-None-clause-images
-returns-in-Ok-None-clause-images g c told f at = back_same c.args.task.now c.args.row.now (g.D.Disk.story c.args.disk.now) (g.D.Disk.story c.object_of.new.disk) f (c.object_of.ensures.others told)
+returns-in-Ok-None-clause-images g c told f at has = back_same c.args.task.now c.args.row.now (g.D.Disk.story c.args.disk.now) (g.D.Disk.story c.object_of.new.disk) f (c.object_of.ensures.others told)
 
 pub returns-in_err-put_task-in-Ok-Some-clause-round : goal.returns-in_err-put_task-in-Ok-Some-clause-round
 returns-in_err-put_task-in-Ok-Some-clause-round g c told =

@@ -1,9 +1,11 @@
-use Rattle.std.proofs.Common.{sym, subst, List}
+use Rattle.std.proofs.Common.{sym, subst, List, ℕ, [], ◌∷◌}
 use Rattle.store_model.specs.Available.{task_folder}
 use Rattle.store_opening.proofs.Clean.{folder_slashes}
 use Rattle.build_store.specs.declared.pieces.OpenPublication.{OpenPublication}
 use Rattle.build_store.specs.Openings.{OpensOne, open_view}
-use Rattle.build_store.specs.Standing.{AreOn, AreOpen, IsTidy}
+use Rattle.store_model.proofs.Ordered.{each_append}
+use Rattle.build_store.specs.Keys.{KnowsKeyOf}
+use Rattle.build_store.specs.Standing.{AreOn, AreOpen, IsTidy, KnowsOpen}
 use Rattle.build_store.specs.View.{open_in, signed_by}
 use Rattle.build_store.proofs.Beside.{free_by, others_stand}
 use Rattle.build_store.proofs.Opened.{on_opened, opens_one, stand_opened, tidy_beside}
@@ -55,3 +57,10 @@ returns-clause-tidy g c told =
     let xs = c.args.open_ones.now.items in
     subst (λ (l : List OpenPublication). IsTidy l (g.D.Disk.story c.open_task.new.disk)) (sym c.push_reserved.ensures.items)
     (tidy_beside c.args.index.now s c.args.tree xs c.in_ok-one.one c.in_ok-one.ensures.of (g.D.Disk.story c.args.disk.now) (g.D.Disk.story c.open_task.new.disk) (c.in_ok-one.ensures.swept told) (c.open_task.ensures.publishing told) (c.requires.tidy told))
+
+pub returns-clause-known : goal.returns-clause-known
+returns-clause-known g c = λ keys all own.
+    let xs = c.args.open_ones.now.items in
+    let one = c.in_ok-one.one in
+    let its : KnowsKeyOf keys one.sig = subst (λ (t : List ℕ). KnowsKeyOf keys t) (sym c.in_ok-one.ensures.of.sig) own in
+    subst (λ (l : List OpenPublication). KnowsOpen keys l) (sym c.push_reserved.ensures.items) (each_append (λ (x : OpenPublication). KnowsKeyOf keys x.sig) xs (one ∷ []) all (its, tt))

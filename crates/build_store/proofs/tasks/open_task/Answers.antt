@@ -3,7 +3,7 @@ use Rattle.std.specs.Prelude.{if◌then◌else◌}
 use Rattle.tree_model.specs.declared.hash.Hash.{Hash}
 use Rattle.outside_traits.specs.Passes.{EachNow}
 use Rattle.stamp_store.specs.Stamp.{IsFolder}
-use Rattle.store_model.specs.Paths.{slashes}
+use Rattle.outside_traits.specs.Store.{slashes}
 use Rattle.store_model.specs.Publication.{stamp_at}
 use Rattle.store_opening.specs.Named.{IsName}
 use Rattle.store_opening.proofs.Clean.{folder_is, folder_slashes, name_is_name}
@@ -39,14 +39,14 @@ returns-clause-of g c =
     let s = signed_by c.args.task.now c.args.sig.now in
     let d = c.requires.draft in
     let obj : c.object_of-object.result ≡ object_for c.args.index.now s c.args.tree = c.object_of-object.ensures ∙ ap (λ (u : Hash). if c.args.task.now.sstate then Some u else None) d.unihash in
-    opened_of c.args.index.now s c.args.tree c.in_ok-folder.folder c.object_of-object.result c.args.draft c.in_ok-folder.ensures obj d c.requires.bytes c.in_ok-open_publication.field-0 c.in_ok-open_publication.ensures.parts c.in_ok-open_publication.ensures.fit
+    opened_of c.args.index.now s c.args.tree c.in_ok-folder.folder c.object_of-object.result c.args.draft c.in_ok-folder.ensures obj d c.requires.text c.in_ok-open_publication.field-0 c.in_ok-open_publication.ensures.parts c.in_ok-open_publication.ensures.fit
 
 pub returns-clause-opened : goal.returns-clause-opened
 returns-clause-opened g c told =
     let s = signed_by c.args.task.now c.args.sig.now in
     let d = c.requires.draft in
     let obj : c.object_of-object.result ≡ object_for c.args.index.now s c.args.tree = c.object_of-object.ensures ∙ ap (λ (u : Hash). if c.args.task.now.sstate then Some u else None) d.unihash in
-    let is = opened_of c.args.index.now s c.args.tree c.in_ok-folder.folder c.object_of-object.result c.args.draft c.in_ok-folder.ensures obj d c.requires.bytes c.in_ok-open_publication.field-0 c.in_ok-open_publication.ensures.parts c.in_ok-open_publication.ensures.fit in
+    let is = opened_of c.args.index.now s c.args.tree c.in_ok-folder.folder c.object_of-object.result c.args.draft c.in_ok-folder.ensures obj d c.requires.text c.in_ok-open_publication.field-0 c.in_ok-open_publication.ensures.parts c.in_ok-open_publication.ensures.fit in
     opened_on c.args.index.now s c.args.tree c.in_ok-open_publication.field-0 is (g.D.Disk.story c.open_publication.new.disk) (c.in_ok-open_publication.ensures.opened told)
 
 pub returns-clause-publishing : goal.returns-clause-publishing
@@ -54,21 +54,21 @@ returns-clause-publishing g c told =
     let s = signed_by c.args.task.now c.args.sig.now in
     let d = c.requires.draft in
     let obj : c.object_of-object.result ≡ object_for c.args.index.now s c.args.tree = c.object_of-object.ensures ∙ ap (λ (u : Hash). if c.args.task.now.sstate then Some u else None) d.unihash in
-    drafted_run c.args.index.now s c.args.tree c.in_ok-folder.folder c.object_of-object.result c.args.draft c.in_ok-folder.ensures obj d (g.D.Disk.story c.args.disk.now) (g.D.Disk.story c.open_publication.new.disk) (c.open_publication.ensures.publishing told)
+    drafted_run c.args.index.now s c.args.tree c.in_ok-folder.folder c.object_of-object.result c.args.draft c.in_ok-folder.ensures obj d c.requires.text (g.D.Disk.story c.args.disk.now) (g.D.Disk.story c.open_publication.new.disk) (c.open_publication.ensures.publishing told)
 
 pub returns-in_err-open_publication-clause-publishing : goal.returns-in_err-open_publication-clause-publishing
 returns-in_err-open_publication-clause-publishing g c told =
     let s = signed_by c.args.task.now c.args.sig.now in
     let d = c.requires.draft in
     let obj : c.object_of-object.result ≡ object_for c.args.index.now s c.args.tree = c.object_of-object.ensures ∙ ap (λ (u : Hash). if c.args.task.now.sstate then Some u else None) d.unihash in
-    drafted_run c.args.index.now s c.args.tree c.in_ok-folder.folder c.object_of-object.result c.args.draft c.in_ok-folder.ensures obj d (g.D.Disk.story c.args.disk.now) (g.D.Disk.story c.open_publication.new.disk) (c.open_publication.ensures.publishing told)
+    drafted_run c.args.index.now s c.args.tree c.in_ok-folder.folder c.object_of-object.result c.args.draft c.in_ok-folder.ensures obj d c.requires.text (g.D.Disk.story c.args.disk.now) (g.D.Disk.story c.open_publication.new.disk) (c.open_publication.ensures.publishing told)
 
 pub returns-clause-keeps : goal.returns-clause-keeps
 returns-clause-keeps g c told =
     let s = signed_by c.args.task.now c.args.sig.now in
     let d = c.requires.draft in
     let obj : c.object_of-object.result ≡ object_for c.args.index.now s c.args.tree = c.object_of-object.ensures ∙ ap (λ (u : Hash). if c.args.task.now.sstate then Some u else None) d.unihash in
-    let run = drafted_run c.args.index.now s c.args.tree c.in_ok-folder.folder c.object_of-object.result c.args.draft c.in_ok-folder.ensures obj d (g.D.Disk.story c.args.disk.now) (g.D.Disk.story c.open_publication.new.disk) (c.open_publication.ensures.publishing told) in
+    let run = drafted_run c.args.index.now s c.args.tree c.in_ok-folder.folder c.object_of-object.result c.args.draft c.in_ok-folder.ensures obj d c.requires.text (g.D.Disk.story c.args.disk.now) (g.D.Disk.story c.open_publication.new.disk) (c.open_publication.ensures.publishing told) in
     kept_still c.args.index.now s c.args.tree c.requires.rows (g.D.Disk.story c.args.disk.now) (g.D.Disk.story c.open_publication.new.disk) (c.requires.keeps told) run (c.open_publication.ensures.laid_out told)
 
 pub returns-in_err-open_publication-clause-keeps : goal.returns-in_err-open_publication-clause-keeps
@@ -76,7 +76,7 @@ returns-in_err-open_publication-clause-keeps g c told =
     let s = signed_by c.args.task.now c.args.sig.now in
     let d = c.requires.draft in
     let obj : c.object_of-object.result ≡ object_for c.args.index.now s c.args.tree = c.object_of-object.ensures ∙ ap (λ (u : Hash). if c.args.task.now.sstate then Some u else None) d.unihash in
-    let run = drafted_run c.args.index.now s c.args.tree c.in_ok-folder.folder c.object_of-object.result c.args.draft c.in_ok-folder.ensures obj d (g.D.Disk.story c.args.disk.now) (g.D.Disk.story c.open_publication.new.disk) (c.open_publication.ensures.publishing told) in
+    let run = drafted_run c.args.index.now s c.args.tree c.in_ok-folder.folder c.object_of-object.result c.args.draft c.in_ok-folder.ensures obj d c.requires.text (g.D.Disk.story c.args.disk.now) (g.D.Disk.story c.open_publication.new.disk) (c.open_publication.ensures.publishing told) in
     kept_still c.args.index.now s c.args.tree c.requires.rows (g.D.Disk.story c.args.disk.now) (g.D.Disk.story c.open_publication.new.disk) (c.requires.keeps told) run (c.open_publication.ensures.laid_out told)
 
 pub returns-clause-readable : goal.returns-clause-readable

@@ -1,11 +1,15 @@
-use Rattle.std.proofs.Common.{sym, ap, subst, refl}
+use Rattle.std.proofs.Common.{sym, ap, subst, refl, List}
 use Rattle.outside_traits.specs.Passes.{EachNow}
 use Rattle.meta_model.specs.CleanBuild.{Entries}
 use Rattle.store_opening.specs.Sound.{IsKept}
 use Rattle.build_store.specs.Publication.{IsPublished, publication}
-use Rattle.build_store.specs.Standing.{AreOn, AreOpen}
+use Rattle.store_model.specs.declared.signature.EquivRow.{EquivRow}
+use Rattle.build_store.specs.declared.pieces.OpenPublication.{OpenPublication}
+use Rattle.build_store.specs.Keys.{KnowsRows}
+use Rattle.build_store.proofs.KnownSteps.{held_at, known_next, known_rows}
+use Rattle.build_store.specs.Standing.{AreOn, AreOpen, HoldsOpen, KnowsOpen}
 use Rattle.build_store.specs.View.{open_in, opened_at, signed_by}
-use Rattle.build_store.proofs.Stepped.{Here, done_on, done_stand, done_tidy, going, gone_closes, gone_on, gone_others, gone_stand, here, here_entries, here_of, here_on, here_open, here_run, here_tree, left_without, next_on, next_stand, next_tidy, next_view, nothing_landed}
+use Rattle.build_store.proofs.Stepped.{Here, done_on, done_stand, done_tidy, going, gone_closes, gone_known, gone_on, gone_others, gone_stand, here, here_brief, here_entries, here_of, here_on, here_open, here_run, here_tree, left_without, next_on, next_stand, next_tidy, next_view, nothing_landed}
 use Rattle.build_store.proofs.tasks.step_at.Goals as goal
 
 pub step_task-requires-clause-of : goal.step_task-requires-clause-of
@@ -29,7 +33,7 @@ step_task-requires-clause-on g c told =
     here_on rows s c.requires.spells c.requires.named xs c.args.place x h stand c.requires.rows (g.D.Disk.story c.args.disk.now) (c.requires.on told)
 
 pub returns-in-Ok-Some-clause-steps : goal.returns-in-Ok-Some-clause-steps
-returns-in-Ok-Some-clause-steps g c faultless =
+returns-in-Ok-Some-clause-steps g c keys faultless =
     let s = signed_by c.args.task.now c.args.sig.now in
     let rows = c.args.index.now in
     let xs = c.args.open_ones.now.items in
@@ -42,7 +46,7 @@ returns-in-Ok-Some-clause-steps g c faultless =
     going _ _ s c.step_of.result c.step_of.ensures (record {
       tree = x.tree;
       was_open = here_open rows s c.requires.spells c.requires.named xs c.args.place x h stand c.requires.rows;
-      books = record { rows = refl; kept = refl; opened = next_view rows s c.requires.spells c.requires.named xs c.args.place x h stand c.requires.rows c.in-Ok-Some.next ys are; faultless = refl };
+      books = record { rows = refl; keys = refl; kept = refl; opened = next_view rows s c.requires.spells c.requires.named xs c.args.place x h stand c.requires.rows c.in-Ok-Some.next ys are; faultless = refl };
     })
 
 pub returns-in-Ok-Some-clause-published : goal.returns-in-Ok-Some-clause-published
@@ -140,7 +144,7 @@ close_task-requires-clause-of g c =
     here_of rows s c.requires.spells c.requires.named xs c.args.place y k stand c.requires.rows
 
 pub returns-in_ok-close_task-in-Ok-None-clause-steps : goal.returns-in_ok-close_task-in-Ok-None-clause-steps
-returns-in_ok-close_task-in-Ok-None-clause-steps g c faultless =
+returns-in_ok-close_task-in-Ok-None-clause-steps g c keys faultless =
     let s = signed_by c.args.task.now c.args.sig.now in
     let rows = c.args.index.now in
     let xs = c.args.open_ones.now.items in
@@ -158,6 +162,7 @@ returns-in_ok-close_task-in-Ok-None-clause-steps g c faultless =
       unihash_is = c.in_ok-close_task-in-Ok-None.ensures.unihash;
       rows = c.in_ok-close_task-in-Ok-None.ensures.rows;
       kept = c.in_ok-close_task-in-Ok-None.ensures.kept;
+      keys = refl;
       opened = gone_closes rows s c.requires.spells c.requires.named xs c.args.place y k stand c.requires.rows ys are_k;
       faultless = refl;
       agrees = (here_of rows s c.requires.spells c.requires.named xs c.args.place y k stand c.requires.rows).agrees;
@@ -437,3 +442,52 @@ returns-in-Err-clause-entries g c told tree at =
     let h : Here s xs c.args.place x = here s xs c.args.place c.requires.stands x c.index.ensures in
     let stand = c.requires.stand in
     here_entries rows s c.requires.spells c.requires.named xs c.args.place x h stand c.requires.rows (g.D.Disk.story c.args.disk.now) (g.D.Disk.story c.step_task.new.disk) (c.step_task.ensures.entries told) tree at
+
+pub step_task-requires-clause-key : goal.step_task-requires-clause-key
+step_task-requires-clause-key g c told =
+    let s = signed_by c.args.task.now c.args.sig.now in
+    let xs = c.args.open_ones.now.items in
+    let x = c.index.result.now in
+    let h : Here s xs c.args.place x = here s xs c.args.place c.requires.stands x c.index.ensures in
+    let held = (g.D.Disk.story c.args.disk.now).held in
+    held_at held h.before x h.after (subst (λ (l : List OpenPublication). HoldsOpen l held) h.is (c.requires.keyed told))
+
+pub returns-in-Ok-Some-clause-brief : goal.returns-in-Ok-Some-clause-brief
+returns-in-Ok-Some-clause-brief g c told =
+    here_brief (signed_by c.args.task.now c.args.sig.now) c.args.open_ones.now.items c.args.place c.requires.stands c.index.result.now c.index.ensures (g.D.Disk.story c.args.disk.now) (g.D.Disk.story c.step_task.new.disk) (c.step_task.ensures.brief told)
+
+pub returns-in_err-close_task-in-Ok-None-clause-brief : goal.returns-in_err-close_task-in-Ok-None-clause-brief
+returns-in_err-close_task-in-Ok-None-clause-brief g c told =
+    here_brief (signed_by c.args.task.now c.args.sig.now) c.args.open_ones.now.items c.args.place c.requires.stands c.index.result.now c.index.ensures (g.D.Disk.story c.args.disk.now) (g.D.Disk.story c.step_task.new.disk) (c.step_task.ensures.brief told)
+
+pub returns-in_ok-close_task-in-Ok-None-clause-brief : goal.returns-in_ok-close_task-in-Ok-None-clause-brief
+returns-in_ok-close_task-in-Ok-None-clause-brief g c told =
+    here_brief (signed_by c.args.task.now c.args.sig.now) c.args.open_ones.now.items c.args.place c.requires.stands c.index.result.now c.index.ensures (g.D.Disk.story c.args.disk.now) (g.D.Disk.story c.step_task.new.disk) (c.step_task.ensures.brief told)
+
+pub returns-in-Err-clause-brief : goal.returns-in-Err-clause-brief
+returns-in-Err-clause-brief g c told =
+    here_brief (signed_by c.args.task.now c.args.sig.now) c.args.open_ones.now.items c.args.place c.requires.stands c.index.result.now c.index.ensures (g.D.Disk.story c.args.disk.now) (g.D.Disk.story c.step_task.new.disk) (c.step_task.ensures.brief told)
+
+pub returns-in-Ok-Some-clause-knows : goal.returns-in-Ok-Some-clause-knows
+returns-in-Ok-Some-clause-knows g c = λ keys rows opened.
+    let s = signed_by c.args.task.now c.args.sig.now in
+    let xs = c.args.open_ones.now.items in
+    let x = c.index.result.now in
+    let h : Here s xs c.args.place x = here s xs c.args.place c.requires.stands x c.index.ensures in
+    let are = c.lead_on.ensures h.before x h.after h.is h.place_is in
+    (rows, subst (λ (l : List OpenPublication). KnowsOpen keys l) (sym are) (known_next keys h.before x h.after c.in-Ok-Some.next (subst (λ (l : List OpenPublication). KnowsOpen keys l) h.is opened)))
+
+pub returns-in_ok-close_task-in-Ok-None-clause-knows : goal.returns-in_ok-close_task-in-Ok-None-clause-knows
+returns-in_ok-close_task-in-Ok-None-clause-knows g c = λ keys rows opened.
+    let s = signed_by c.args.task.now c.args.sig.now in
+    let gone = gone_known s c.args.open_ones.now.items c.args.place c.requires.stands c.remove-one.result c.remove-one.ensures.value c.remove-one.new.self.items c.remove-one.ensures.by_index.2 keys opened in
+    (subst (λ (r : List EquivRow). KnowsRows keys r) (sym c.in_ok-close_task-in-Ok-None.ensures.rows) (known_rows keys c.args.index.now s c.remove-one.result.tree rows gone.0), gone.1)
+
+pub returns-in_err-close_task-in-Ok-None-clause-knows : goal.returns-in_err-close_task-in-Ok-None-clause-knows
+returns-in_err-close_task-in-Ok-None-clause-knows g c = λ keys rows opened.
+    let gone = gone_known (signed_by c.args.task.now c.args.sig.now) c.args.open_ones.now.items c.args.place c.requires.stands c.remove-one.result c.remove-one.ensures.value c.remove-one.new.self.items c.remove-one.ensures.by_index.2 keys opened in
+    (subst (λ (r : List EquivRow). KnowsRows keys r) (sym c.in_err-close_task-in-Ok-None.ensures.same.0) rows, gone.1)
+
+pub returns-in-Err-clause-knows : goal.returns-in-Err-clause-knows
+returns-in-Err-clause-knows g c = λ keys rows opened.
+    (rows, (gone_known (signed_by c.args.task.now c.args.sig.now) c.args.open_ones.now.items c.args.place c.requires.stands c.index.result.now c.index.ensures c.remove.new.self.items c.remove.ensures.by_index.2 keys opened).1)

@@ -16,7 +16,7 @@ returns-clause-on g c told =
     let o = c.args.one.now in
     let a = g.D.Disk.story c.args.disk.now in
     own_done c.args.index.now s o.tree o c.requires.of _ (items_of o) (g.D.Disk.story c.go_on.new.disk)
-    (c.in_ok-go_on.ensures.on told (File c.args.index.now s o.tree) (own_file c.args.index.now s o.tree o c.requires.of a (g.met.D.Disk.sound c.args.disk.now told) (c.requires.keeps told)) (own_on c.args.index.now s o.tree o c.requires.of (progress_of o) a (c.requires.on told)))
+    (c.in_ok-go_on.ensures.on told (File c.args.index.now s o.tree) (own_file c.args.index.now s o.tree o c.requires.of a (g.met.D.Disk.sound c.args.disk.now told) (c.requires.keeps told) (c.requires.key told)) (own_on c.args.index.now s o.tree o c.requires.of (progress_of o) a (c.requires.on told)))
 
 pub returns-clause-publishing : goal.returns-clause-publishing
 returns-clause-publishing g c told =

@@ -5,7 +5,7 @@ use Rattle.build_store.proofs.StepRuns.{keeps_then}
 use Rattle.build_store.proofs.working.step.Goals as goal
 
 pub loop-item-init : goal.loop-item-init
-loop-item-init g c = record { faults = refl; stepping = λ told. stepping_start c.args.one.now c.args.done (g.D.Disk.story c.args.disk.now) (c.requires.half told) }
+loop-item-init g c = record { faults = refl; brief = λ told. omega arith; stepping = λ told. stepping_start c.args.one.now c.args.done (g.D.Disk.story c.args.disk.now) (c.requires.half told) }
 
 pub do_item-requires-clause-half : goal.do_item-requires-clause-half
 do_item-requires-clause-half g c told = (c.loop-item.invariant.stepping told).half
@@ -13,6 +13,7 @@ do_item-requires-clause-half g c told = (c.loop-item.invariant.stepping told).ha
 pub loop-item-preserved : goal.loop-item-preserved
 loop-item-preserved g c = record {
   faults = c.in_ok-do_item.ensures.cause.stayed ∙ c.loop-item.invariant.faults;
+  brief = λ told. omega (arith, c.loop-item.invariant.brief told, c.do_item.ensures.brief told);
   stepping = λ told. stepping_more c.args.one.now c.args.done c.loop-item.item (g.D.Disk.story c.args.disk.now) (g.D.Disk.story c.loop-item.disk) (g.D.Disk.story c.do_item.new.disk) (c.loop-item.invariant.stepping told) (c.do_item.ensures.works told) (c.in_ok-do_item.ensures.half told) (c.do_item.ensures.keeps told);
 }
 
@@ -60,3 +61,9 @@ returns-clause-laid_out g c told =
     let le : c.loop-item.item ≤ c.args.done + 64 = omega arith in
     let works = stepping_works c.args.one.now c.args.done c.loop-item.item (g.D.Disk.story c.args.disk.now) (g.D.Disk.story c.loop-item.disk) le (c.loop-item.invariant.stepping told) in
     step_laid c.args.one.now c.args.done (g.D.Disk.story c.args.disk.now) (g.D.Disk.story c.loop-item.disk) (c.requires.half told) works
+
+pub returns-in_err-do_item-clause-brief : goal.returns-in_err-do_item-clause-brief
+returns-in_err-do_item-clause-brief g c told = omega (arith, c.loop-item.invariant.brief told, c.do_item.ensures.brief told)
+
+pub returns-clause-brief : goal.returns-clause-brief
+returns-clause-brief g c told = omega (arith, c.loop-item.invariant.brief told)

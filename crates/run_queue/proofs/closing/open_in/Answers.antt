@@ -1,4 +1,4 @@
-use Rattle.std.proofs.Common.{◌≡◌, ◌∙◌, sym, subst, Bool, List, inr}
+use Rattle.std.proofs.Common.{◌≡◌, ◌∙◌, sym, subst, Bool, true, List, inr}
 use Rattle.std.specs.Prelude.{Result}
 use Rattle.std.specs.Bool.{OnTrue}
 use Rattle.outside_traits.specs.Fault.{Counts}
@@ -13,7 +13,8 @@ use Rattle.store_model.specs.Available.{task_folder}
 use Rattle.store_model.specs.Signatures.{Signed}
 use Rattle.build_store.specs.Openings.{OpensTask}
 use Rattle.build_store.specs.Pieces.{IsPublishing}
-use Rattle.build_store.specs.Publication.{IsAgreed, publication}
+use Rattle.build_store.specs.Keys.{HasNewKey, is_new_key}
+use Rattle.build_store.specs.Publication.{IsAgreed, first_publication}
 use Rattle.build_store.specs.View.{opened_at, signed_by}
 use Rattle.run_queue.specs.Puts.{IsSignedAt, MayOpen}
 use Rattle.run_queue.proofs.Causing.{refusal_given, store_cause}
@@ -58,7 +59,7 @@ returns-in_err-publish_open-clause-cause g c =
     let counts = subst (λ (r : Result Bool StoreFault). Counts (g.D.Disk.faults c.args.store.now.disk) count (store_failed r)) c.in_err-publish_open.was c.publish_open.ensures.cause in
     handed_on c.from_residual-in_err-publish_open.result f (IsStoreCause count plan c.publish_open.new.self.rows) c.from_residual-in_err-publish_open.ensures.1
     (subst (λ (l : List EquivRow). IsStoreCause count plan l f) (sym c.in_err-publish_open.ensures.rows)
-    (store_cause (g.D.Disk.faults c.args.store.now.disk) count plan rows c.args.task (signed_by task c.in_ok-sig.sig) c.args.tree f signed c.requires.unharmed counts c.in_err-publish_open.ensures.refused))
+    (store_cause (g.D.Disk.faults c.args.store.now.disk) count plan rows c.args.store.now.keys c.args.task (signed_by task c.in_ok-sig.sig) c.args.tree f signed c.requires.unharmed counts c.in_err-publish_open.ensures.refused))
 
 pub returns-in_err-publish_open-clause-given : goal.returns-in_err-publish_open-clause-given
 returns-in_err-publish_open-clause-given g c =
@@ -67,7 +68,7 @@ returns-in_err-publish_open-clause-given g c =
     let at = indexed tasks c.as_slice.result.now c.args.task task c.as_slice.ensures c.requires.task c.index-as_slice-task.is in
     let f = c.in_err-publish_open.field-0.0 in
     handed_on c.from_residual-in_err-publish_open.result f (IsStoreOfGiven tasks c.args.task (givens.Tree c.args.tree c.args.manifest.now)) c.from_residual-in_err-publish_open.ensures.1
-    (refusal_given tasks c.args.store.now.rows c.args.task (signed_by task c.in_ok-sig.sig) c.args.tree c.args.manifest.now f at c.requires.listed c.in_err-publish_open.ensures.refused)
+    (refusal_given tasks c.args.store.now.rows c.args.store.now.keys c.args.task (signed_by task c.in_ok-sig.sig) c.args.tree c.args.manifest.now f at c.requires.listed c.in_err-publish_open.ensures.refused)
 
 pub returns-in_err-publish_open-clause-steady : goal.returns-in_err-publish_open-clause-steady
 returns-in_err-publish_open-clause-steady g c agrees =
@@ -79,7 +80,7 @@ returns-in_err-publish_open-clause-steady g c agrees =
     let agreed = subst (λ (y : Signed). IsAgreed c.args.store.now.rows y c.args.tree) same (agrees c.in_ok-sig.ensures.known x.0 x.1) in
     let f = c.in_err-publish_open.field-0.0 in
     handed_on c.from_residual-in_err-publish_open.result f IsSteadyAnswer c.from_residual-in_err-publish_open.ensures.1
-    (refusal_steady c.args.store.now.rows (signed_by task c.in_ok-sig.sig) c.args.tree f agreed c.in_err-publish_open.ensures.refused)
+    (refusal_steady c.args.store.now.rows c.args.store.now.keys (signed_by task c.in_ok-sig.sig) c.args.tree f agreed c.in_err-publish_open.ensures.refused)
 
 pub returns-in_err-publish_open-clause-may : goal.returns-in_err-publish_open-clause-may
 returns-in_err-publish_open-clause-may g c =
@@ -96,7 +97,7 @@ returns-in_err-publish_open-clause-publishing g c tells s is =
     let tasks = c.args.plan.now.tasks in
     let task = c.index-as_slice-task.result in
     let at = indexed tasks c.as_slice.result.now c.args.task task c.as_slice.ensures c.requires.task c.index-as_slice-task.is in
-    subst (λ (x : Signed). Passes (g.D.Disk.story c.args.store.now.disk) (g.D.Disk.story c.publish_open.new.self.disk) (IsPublishing (publication c.args.store.now.rows x c.args.tree) (g.D.Disk.story c.args.store.now.disk).held)) (sym (known_signature c.args.plan.now c.args.store.now.rows c.args.replan.now c.args.task task c.in_ok-sig.sig s c.requires.sound
+    subst (λ (x : Signed). Passes (g.D.Disk.story c.args.store.now.disk) (g.D.Disk.story c.publish_open.new.self.disk) (IsPublishing (first_publication c.args.store.now.keys c.args.store.now.rows x c.args.tree) (g.D.Disk.story c.args.store.now.disk).held)) (sym (known_signature c.args.plan.now c.args.store.now.rows c.args.replan.now c.args.task task c.in_ok-sig.sig s c.requires.sound
     at c.requires.current c.in_ok-sig.ensures.known c.in_ok-sig.ensures.is is))
     (c.publish_open.ensures.publishing tells)
 
@@ -124,6 +125,26 @@ returns-then-branch-clause-publishing g c tells s is =
     let tasks = c.args.plan.now.tasks in
     let task = c.index-as_slice-task.result in
     let at = indexed tasks c.as_slice.result.now c.args.task task c.as_slice.ensures c.requires.task c.index-as_slice-task.is in
-    subst (λ (x : Signed). Passes (g.D.Disk.story c.args.store.now.disk) (g.D.Disk.story c.publish_open.new.self.disk) (IsPublishing (publication c.args.store.now.rows x c.args.tree) (g.D.Disk.story c.args.store.now.disk).held)) (sym (known_signature c.args.plan.now c.args.store.now.rows c.args.replan.now c.args.task task c.in_ok-sig.sig s c.requires.sound
+    subst (λ (x : Signed). Passes (g.D.Disk.story c.args.store.now.disk) (g.D.Disk.story c.publish_open.new.self.disk) (IsPublishing (first_publication c.args.store.now.keys c.args.store.now.rows x c.args.tree) (g.D.Disk.story c.args.store.now.disk).held)) (sym (known_signature c.args.plan.now c.args.store.now.rows c.args.replan.now c.args.task task c.in_ok-sig.sig s c.requires.sound
     at c.requires.current c.in_ok-sig.ensures.known c.in_ok-sig.ensures.is is))
     (c.publish_open.ensures.publishing tells)
+
+pub returns-in_err-publish_open-clause-new_key : goal.returns-in_err-publish_open-clause-new_key
+returns-in_err-publish_open-clause-new_key g c =
+    let tasks = c.args.plan.now.tasks in
+    let task = c.index-as_slice-task.result in
+    let at = indexed tasks c.as_slice.result.now c.args.task task c.as_slice.ensures c.requires.task c.index-as_slice-task.is in
+    inr (λ s is new. subst (λ (x : Signed). HasNewKey c.args.store.now.rows c.args.store.now.opened x.sig)
+    (sym (known_signature c.args.plan.now c.args.store.now.rows c.args.replan.now c.args.task task c.in_ok-sig.sig s c.requires.sound at c.requires.current c.in_ok-sig.ensures.known c.in_ok-sig.ensures.is is))
+    (c.publish_open.ensures.new_key (subst (λ (x : Signed). is_new_key c.args.store.now.keys x.sig ≡ true)
+    (known_signature c.args.plan.now c.args.store.now.rows c.args.replan.now c.args.task task c.in_ok-sig.sig s c.requires.sound at c.requires.current c.in_ok-sig.ensures.known c.in_ok-sig.ensures.is is) new)))
+
+pub returns-then-branch-clause-new_key : goal.returns-then-branch-clause-new_key
+returns-then-branch-clause-new_key g c =
+    let tasks = c.args.plan.now.tasks in
+    let task = c.index-as_slice-task.result in
+    let at = indexed tasks c.as_slice.result.now c.args.task task c.as_slice.ensures c.requires.task c.index-as_slice-task.is in
+    inr (λ s is new. subst (λ (x : Signed). HasNewKey c.args.store.now.rows c.args.store.now.opened x.sig)
+    (sym (known_signature c.args.plan.now c.args.store.now.rows c.args.replan.now c.args.task task c.in_ok-sig.sig s c.requires.sound at c.requires.current c.in_ok-sig.ensures.known c.in_ok-sig.ensures.is is))
+    (c.publish_open.ensures.new_key (subst (λ (x : Signed). is_new_key c.args.store.now.keys x.sig ≡ true)
+    (known_signature c.args.plan.now c.args.store.now.rows c.args.replan.now c.args.task task c.in_ok-sig.sig s c.requires.sound at c.requires.current c.in_ok-sig.ensures.known c.in_ok-sig.ensures.is is) new)))

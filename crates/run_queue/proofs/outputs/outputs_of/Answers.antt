@@ -13,7 +13,13 @@ use Rattle.run_queue.proofs.outputs.outputs_of.Goals as goal
 pub loop-number-preserved : goal.loop-number-preserved
 loop-number-preserved g c = record {
   faults = c.in_ok-output.ensures.cause.stayed ∙ c.loop-number.invariant.faults;
-  books = record { rows = c.in_ok-output.ensures.same.rows ∙ c.loop-number.invariant.books.rows; kept = c.in_ok-output.ensures.same.kept ∙ c.loop-number.invariant.books.kept; opened = c.in_ok-output.ensures.same.opened ∙ c.loop-number.invariant.books.opened; faultless = c.in_ok-output.ensures.same.faultless ∙ c.loop-number.invariant.books.faultless };
+  books = record {
+    rows = c.in_ok-output.ensures.same.rows ∙ c.loop-number.invariant.books.rows;
+    keys = c.in_ok-output.ensures.same.keys ∙ c.loop-number.invariant.books.keys;
+    kept = c.in_ok-output.ensures.same.kept ∙ c.loop-number.invariant.books.kept;
+    opened = c.in_ok-output.ensures.same.opened ∙ c.loop-number.invariant.books.opened;
+    faultless = c.in_ok-output.ensures.same.faultless ∙ c.loop-number.invariant.books.faultless;
+  };
   same = λ told. then_same (c.loop-number.invariant.same told) (c.in_ok-output.ensures.images told);
   numbers = numbers_more c.loop-number.outputs.items c.push.new.self.items c.args.numbers.now c.loop-number.number-index 0 c.in-Some.output c.in_ok-push-in-Some.ensures.items c.loop-number.invariant.numbers c.loop-number-test.true;
   each = λ told.

@@ -8,7 +8,7 @@ use Rattle.run_tests.proofs.playing.record.Goals as goal
 pub returns-clause-settled : goal.returns-clause-settled
 returns-clause-settled c =
     let tasks = c.args.index.now.plan.now.tasks in
-    recorded c.args.index.now c.put.new.self c.args.replan.now c.args.task c.in_ok-name.name c.in_ok-name.bytes c.requires.task c.requires.current
+    recorded c.args.index.now c.put.new.self c.args.replan.now c.args.task c.in_ok-name.name c.in_ok-name.text c.requires.task c.requires.current
     (subst (λ (us : List Hash). IfSome (slice_get tasks c.args.task) (λ own. c.in_ok-name.name ≡ name_of (signature_by tasks us own))) c.unihashes.ensures c.in_ok-name.ensures.name)
-    (subst (λ (us : List Hash). IfSome (slice_get tasks c.args.task) (λ own. c.in_ok-name.bytes ≡ signature_bytes (signature_by tasks us own))) c.unihashes.ensures c.in_ok-name.ensures.bytes)
+    (subst (λ (us : List Hash). IfSome (slice_get tasks c.args.task) (λ own. c.in_ok-name.text ≡ signature_bytes (signature_by tasks us own))) c.unihashes.ensures c.in_ok-name.ensures.bytes)
     c.put.ensures.plan c.in_ok-put.ensures.puts

@@ -16,10 +16,13 @@ returns-clause-dooms g c told =
     let e3 = (c.in_ok-survey_at.ensures.others told).held ∙ e2 in
     let e4 = (c.in_ok-survey_at-2.ensures.others told).held ∙ e3 in
     let e5 = (c.in_ok-survey_at-3.ensures.others told).held ∙ e4 in
-    on_ok_weaker c.survey_at-4.result (λ last. dooms_areas held c.args.doomed.now.items c.survey_blocked.new.doomed.items c.survey_temporary.new.doomed.items c.survey_at.new.doomed.items c.survey_at-2.new.doomed.items c.survey_at-3.new.doomed.items c.survey_at-4.new.doomed.items
+    let e6 = (c.in_ok-survey_at-4.ensures.others told).held ∙ e5 in
+    on_ok_weaker c.survey_at-5.result (λ last. dooms_areas held c.args.doomed.now.items c.survey_blocked.new.doomed.items c.survey_temporary.new.doomed.items c.survey_at.new.doomed.items c.survey_at-2.new.doomed.items c.survey_at-3.new.doomed.items c.survey_at-4.new.doomed.items
+    c.survey_at-5.new.doomed.items
     (dooms_blocked held c.args.bare.now c.args.doomed.now.items c.survey_blocked.new.doomed.items (c.requires told) (c.in_ok-survey_blocked.ensures.dooms told))
     (subst (λ (h : Store). Dooms h (BeginsWith (codes "tmp/")) c.survey_blocked.new.doomed.items c.survey_temporary.new.doomed.items) e1 (c.in_ok-survey_temporary.ensures.dooms told))
-    (subst (λ (h : Store). Dooms h (IsAt (codes "rec")) c.survey_temporary.new.doomed.items c.survey_at.new.doomed.items) e2 (c.in_ok-survey_at.ensures.dooms told))
-    (subst (λ (h : Store). Dooms h (IsAt (codes "stamp")) c.survey_at.new.doomed.items c.survey_at-2.new.doomed.items) e3 (c.in_ok-survey_at-2.ensures.dooms told))
-    (subst (λ (h : Store). Dooms h (IsAt (codes "tmp")) c.survey_at-2.new.doomed.items c.survey_at-3.new.doomed.items) e4 (c.in_ok-survey_at-3.ensures.dooms told))
-    (subst (λ (h : Store). Dooms h (IsAt (codes "obj")) c.survey_at-3.new.doomed.items c.survey_at-4.new.doomed.items) e5 last)) (c.survey_at-4.ensures.dooms told)
+    (subst (λ (h : Store). Dooms h (IsAt (codes "rec2")) c.survey_temporary.new.doomed.items c.survey_at.new.doomed.items) e2 (c.in_ok-survey_at.ensures.dooms told))
+    (subst (λ (h : Store). Dooms h (IsAt (codes "key")) c.survey_at.new.doomed.items c.survey_at-2.new.doomed.items) e3 (c.in_ok-survey_at-2.ensures.dooms told))
+    (subst (λ (h : Store). Dooms h (IsAt (codes "stamp")) c.survey_at-2.new.doomed.items c.survey_at-3.new.doomed.items) e4 (c.in_ok-survey_at-3.ensures.dooms told))
+    (subst (λ (h : Store). Dooms h (IsAt (codes "tmp")) c.survey_at-3.new.doomed.items c.survey_at-4.new.doomed.items) e5 (c.in_ok-survey_at-4.ensures.dooms told))
+    (subst (λ (h : Store). Dooms h (IsAt (codes "obj")) c.survey_at-4.new.doomed.items c.survey_at-5.new.doomed.items) e6 last)) (c.survey_at-5.ensures.dooms told)

@@ -23,7 +23,7 @@ pub returns-clause-held : goal.returns-clause-held
 returns-clause-held c = record { row = one_row; place = 0; stands = refl; signed = refl; named = refl }
 
 pub returns-clause-other_name : goal.returns-clause-other_name
-returns-clause-other_name c is = let first : 238 ≡ 88 = ap (λ (h : Hash). get_or h.bytes 0 0) (row_of (codes "sig") hello_hash is).1 in omega (arith, first)
+returns-clause-other_name c is = let first : 97 ≡ 88 = ap (λ (h : Hash). get_or h.bytes 0 0) (row_of (codes "sig") hello_hash is).1 in omega (arith, first)
 
 pub returns-clause-other_bytes : goal.returns-clause-other_bytes
 returns-clause-other_bytes c is = let same : codes "sig" ≡ codes "other" = (row_of (codes "other") hello_name is).0 in cc

@@ -1,17 +1,9 @@
 use Rattle.std.proofs.Common.{◌∙◌, sym, subst, Bool, true, false, IfErr}
-use Rattle.plan_model.proofs.Reached.{graph_is_over}
 use Rattle.task_plan.specs.Faults.{IsPlanFault}
-use Rattle.target_graph.specs.Meaning.{asked_meant}
 use Rattle.answer_model.specs.Plans.{plan_under}
 use Rattle.target_plan.proofs.Planned.{status_told}
 use Rattle.target_plan.proofs.plan.plan_of.Goals.{then-force, else-force}
 use Rattle.target_plan.proofs.plan.plan_of.Goals as goal
-
-pub forced_plan-made-requires : goal.forced_plan-made-requires
-forced_plan-made-requires g c = graph_is_over c.args.found.now.asked.set.facts (asked_meant c.args.found.now.asked).targets c.args.found.now.graph c.requires.graph.graph
-
-pub plan-made-requires : goal.plan-made-requires
-plan-made-requires g c = graph_is_over c.args.found.now.asked.set.facts (asked_meant c.args.found.now.asked).targets c.args.found.now.graph c.requires.graph.graph
 
 pub returns-in-Err-clause-err : goal.returns-in-Err-clause-err
 returns-in-Err-clause-err g c = λ told.

@@ -1,5 +1,5 @@
 use Rattle.build_store.proofs.Closing.{same_stand}
-use Rattle.build_store.proofs.Invariant.{kept_looked}
+use Rattle.build_store.proofs.Invariant.{keys_looked, kept_looked}
 use Rattle.build_store.proofs.Tidy.{tidy_same}
 use Rattle.build_store.proofs.store.Store.output.Goals as goal
 
@@ -14,4 +14,7 @@ invariant_of-self g c =
       c.self.invariant.2,
       λ told. same_stand rows a b (c.output.ensures.others told) xs (c.self.invariant.3 told),
       λ told faultless. tidy_same xs a b (c.self.invariant.4 told faultless) (c.output.ensures.others told),
+      c.self.invariant.5,
+      c.self.invariant.6,
+      λ told. keys_looked c.self.inside.keys a b (c.output.ensures.others told) (c.self.invariant.7 told),
     )

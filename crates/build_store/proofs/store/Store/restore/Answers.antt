@@ -6,7 +6,7 @@ use Rattle.store_opening.proofs.Clean.{folder_slashes}
 use Rattle.build_store.specs.Publication.{KeepsOthers}
 use Rattle.build_store.specs.View.{signed_by}
 use Rattle.build_store.proofs.Closing.{restored_stand}
-use Rattle.build_store.proofs.Invariant.{restored_tidy}
+use Rattle.build_store.proofs.Invariant.{keys_around, restored_tidy}
 use Rattle.build_store.proofs.Several.{view_others}
 use Rattle.build_store.proofs.store.Store.restore.Goals as goal
 
@@ -24,6 +24,9 @@ invariant_of-self g c =
       λ told. restored_stand rows folder a b (g.met.D.Disk.sound c.self.inside.disk told) (folder_slashes c.args.task.now c.requires.place) (c.restore.ensures.round told) xs (view_others folder xs closed) (c.self.invariant.3 told),
       λ told faultless. restored_tidy rows (signed_by c.args.task.now c.args.sig.now) a.held xs a b c.in-Ok.found (folder_slashes c.args.task.now c.requires.place) (g.met.D.Disk.sound c.restore.new.disk told) (c.self.invariant.4 told faultless) (c.in-Ok.ensures.swept told) (c.restore.ensures.round told)
           (c.in-Ok.ensures.restored told) (c.in-Ok.ensures.unchanged told),
+      c.self.invariant.5,
+      c.self.invariant.6,
+      λ told. keys_around c.self.inside.keys folder a b (c.restore.ensures.round told) (c.self.invariant.7 told),
     )
 
 pub invariant_of-self-in-Err : goal.invariant_of-self-in-Err
@@ -39,6 +42,9 @@ invariant_of-self-in-Err g c =
       c.self.invariant.2,
       λ told. restored_stand rows folder a b (g.met.D.Disk.sound c.self.inside.disk told) (folder_slashes c.args.task.now c.requires.place) (c.restore.ensures.round told) xs (view_others folder xs closed) (c.self.invariant.3 told),
       λ told faultless. absurd (false≢true faultless),
+      c.self.invariant.5,
+      c.self.invariant.6,
+      λ told. keys_around c.self.inside.keys folder a b (c.restore.ensures.round told) (c.self.invariant.7 told),
     )
 
 pub returns-in-Ok-clause-restored : goal.returns-in-Ok-clause-restored

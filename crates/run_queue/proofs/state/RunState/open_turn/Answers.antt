@@ -82,7 +82,7 @@ returns-in-Ok-clause-run g c tells o run output =
     (g.met.D.Disk.sound i.store.disk tells)
     (begins_at i.begun.items begun c.args.task Missing (omega (arith, lt, long)) refl)
     (set_here i.begun.items c.args.task (Some Missing) (omega (arith, lt, long)))
-    c.in-Ok.ensures.rows k.0 k.1 c.in-Ok.ensures.opens (c.in-Ok.ensures.publishing tells)
+    c.in-Ok.ensures.rows k.0 k.1 c.in-Ok.ensures.opens c.in-Ok.ensures.new_key (c.in-Ok.ensures.publishing tells)
 
 pub returns-in-Err-Memory-clause-run : goal.returns-in-Err-Memory-clause-run
 returns-in-Err-Memory-clause-run g c tells o run output =
@@ -108,7 +108,7 @@ returns-in-Err-Memory-clause-run g c tells o run output =
     (begins_at i.begun.items begun c.args.task Missing (omega (arith, lt, long)) refl)
     (set_here i.begun.items c.args.task (Some Missing) (omega (arith, lt, long)))
     c.in-Err-Memory.ensures.rows
-    (ends.Store fault_of.Memory) c.self.invariant.3.current (λ n. c.in-Err-Memory.ensures.unlooked (none_known i.replan n)) c.in-Err-Memory.ensures.may (c.in-Err-Memory.ensures.publishing tells) in
+    (ends.Store fault_of.Memory) c.self.invariant.3.current (λ n. c.in-Err-Memory.ensures.unlooked (none_known i.replan n)) c.in-Err-Memory.ensures.may c.in-Err-Memory.ensures.new_key (c.in-Err-Memory.ensures.publishing tells) in
     broken_seen g.D.Disk.story g.W.Sink.written o mid c.note.new.self c.args.task c.args.number cuts.Memory c.note.ensures.notes (c.note.ensures.moment tells) c.note.ensures.fault runs
     (spared_by (seen g.D.Disk.story g.W.Sink.written mid) c.args.number c.args.task cuts.Memory (λ e. cc) some)
     (subst (λ (f : Option RunFault). IsRun o (seen g.D.Disk.story g.W.Sink.written (record old { store = store; begun = begun; fault = f }))) (sym kept) made)
@@ -137,7 +137,7 @@ returns-in-Err-clause-run g c tells o run output =
     (begins_at i.begun.items begun c.args.task Missing (omega (arith, lt, long)) refl)
     (set_here i.begun.items c.args.task (Some Missing) (omega (arith, lt, long)))
     c.in-Err.ensures.rows
-    (ends.Store c.in-Err.fault) c.self.invariant.3.current (λ n. c.in-Err.ensures.unlooked (none_known i.replan n)) c.in-Err.ensures.may (c.in-Err.ensures.publishing tells) in
+    (ends.Store c.in-Err.fault) c.self.invariant.3.current (λ n. c.in-Err.ensures.unlooked (none_known i.replan n)) c.in-Err.ensures.may c.in-Err.ensures.new_key (c.in-Err.ensures.publishing tells) in
     broken_seen g.D.Disk.story g.W.Sink.written o mid c.note-in-Err.new.self c.args.task c.args.number cuts.Fault c.note-in-Err.ensures.notes (c.note-in-Err.ensures.moment tells) c.note-in-Err.ensures.fault runs
     (spared_by (seen g.D.Disk.story g.W.Sink.written mid) c.args.number c.args.task cuts.Fault (λ e. cc) some)
     (subst (λ (f : Option RunFault). IsRun o (seen g.D.Disk.story g.W.Sink.written (record old { store = store; begun = begun; fault = f }))) (sym kept) made)

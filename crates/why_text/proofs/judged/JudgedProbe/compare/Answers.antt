@@ -2,8 +2,11 @@ use Rattle.std.proofs.Common.{◌∙◌, List, sym, subst, refl}
 use Rattle.store_model.specs.declared.signature.EquivRow.{EquivRow}
 use Rattle.build_store.specs.Faults.{IsClash}
 use Rattle.why_text.specs.LookLaws.{same_story}
-use Rattle.why_text.proofs.Looking.{clash_met, counts_none, looks_met, none_kept}
+use Rattle.why_text.proofs.Looking.{clash_met, counts_none, looks_met, named_text, none_kept}
 use Rattle.why_text.proofs.judged.JudgedProbe.compare.Goals as goal
+
+pub compare_at-requires-clause-named : goal.compare_at-requires-clause-named
+compare_at-requires-clause-named g c = named_text c.args.self.now.plan.now c.args.self.now.rows c.args.name.now c.args.sig.now c.requires
 
 pub returns-in-Err-clause-stays : goal.returns-in-Err-clause-stays
 returns-in-Err-clause-stays g c =

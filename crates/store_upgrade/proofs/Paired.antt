@@ -1,0 +1,182 @@
+-- What is told of each record that was moved, by the pairs of the move.
+use Rattle.std.proofs.Common.{◌≡◌, ◌≢◌, ◌∙◌, sym, ap, subst, refl, zero, suc, ◌⊎◌, inl, inr, Bool, true, false, List, [], ◌∷◌, map, Some, arith}
+use Rattle.std.specs.Prelude.{Contains, find}
+use Rattle.std.specs.List.{AllZip}
+use Rattle.std.proofs.lemmas.List.Elements.{Contains-append_right}
+use Rattle.tree_model.specs.declared.hash.Hash.{Hash}
+use Rattle.tree_model.specs.Hash.{IsHash}
+use Rattle.meta_model.specs.CleanBuild.{Gives}
+use Rattle.store_model.specs.declared.signature.EquivRow.{EquivRow}
+use Rattle.store_model.specs.declared.signature.SigRecord.{SigRecord}
+use Rattle.store_model.specs.Origins.{Book, Line, Reading}
+use Rattle.store_model.specs.Rows.{hash_eq, row_at}
+use Rattle.store_model.specs.Spelling.{name_of}
+use Rattle.store_model.specs.Valid.{StandsIn}
+use Rattle.store_model.proofs.Digests.{digest_is_hash}
+use Rattle.store_model.proofs.Listing.{find_splits, hash_itself, hash_other}
+use Rattle.store_model.proofs.Standing.{stands_earlier}
+use Rattle.store_move.specs.First.{first, first_bytes, first_name}
+use Rattle.store_move.specs.Formats.{Format, IsNamedAlike, IsValidBook, row_of}
+use Rattle.store_move.specs.Moves.{MayMove, Pair, is_named, present}
+use Rattle.store_move.proofs.Places.{AllNew, one_place, row_of_line}
+use Rattle.store_move.proofs.Steps.{Carried}
+use Rattle.store_move.proofs.Whole.{Known, at_end}
+use Rattle.store_opening.proofs.StillThere.{name_is_hash}
+use Rattle.store_opening.proofs.Surveyed.{each_of}
+use Rattle.record_move.specs.declared.moving.Moved.{Moved}
+use Rattle.record_move.specs.declared.records.MovedRecord.{MovedRecord}
+use Rattle.record_move.specs.Moved.{IsMoveOf, IsPairOf}
+use Rattle.store_upgrade.specs.Halfway.{whole_move}
+use Rattle.store_upgrade.specs.Stamps.{renewed}
+use Rattle.store_upgrade.specs.Steps.{AreNoneInTheWay}
+use Rattle.store_upgrade.specs.Upgraded.{AreUnihashesApart}
+use Rattle.store_upgrade.proofs.Zipped.{Distinct, beside_for, beside_of, distinct_of}
+
+among_map : {A B : Type 0} (f : A → B) (xs : List A) (x : A) → Contains xs x → Contains (map f xs) (f x)
+among_map f [] x has = absurd (let lt = has.1 in omega (arith, lt))
+among_map f (y ∷ ys) x (zero, lt, e) = (0, omega arith, ap f e)
+among_map f (y ∷ ys) x (suc k, lt, e) = let w = among_map f ys x (k, omega (arith, lt), e) in (suc w.0, (let m = w.1 in omega (arith, m)), w.2)
+
+-- a pair is found by the name of its old record
+found_of : (form : Format) (pairs : List Pair) (p : Pair) → Distinct form (map (λ (q : Pair). q.old) pairs) → Contains pairs p → find (is_named form (form.name_of p.old.sig)) pairs ≡ Some p
+found_of form [] p distinct has = absurd (let lt = has.1 in omega (arith, lt))
+found_of form (q ∷ qs) p distinct (zero, lt, e) =
+    rw (hash_itself (form.name_of q.old.sig) (form.name_of p.old.sig) (ap (λ (x : Pair). form.name_of x.old.sig) e)) (ap (λ (x : Pair). Some x) e)
+found_of form (q ∷ qs) p distinct (suc k, lt, e) =
+    let has : Contains qs p = (k, omega (arith, lt), e) in
+    let among = among_map (λ (x : Pair). x.old) qs p has in
+    let ne = each_of (λ (l : Line). form.name_of q.old.sig ≢ form.name_of l.sig) (map (λ (x : Pair). x.old) qs) p.old distinct.0 among in
+    rw (hash_other (form.name_of q.old.sig) (form.name_of p.old.sig) ne) (found_of form qs p distinct.1 has)
+
+found_among : (form : Format) (pairs : List Pair) (name : Hash) (p : Pair) → find (is_named form name) pairs ≡ Some p → Contains pairs p
+found_among form pairs name p found =
+    let s = find_splits (is_named form name) pairs p found in
+    subst (λ (l : List Pair). Contains l p) (sym s.0.is) (Contains-append_right s.0.front (p ∷ s.0.rest) p (0, omega arith, refl))
+
+-- a stamp that says an old name is to say the new one of its pair
+pub renewed_is : (pairs : List Pair) (records : List MovedRecord) (name : Hash) (p : Pair) → AllZip (IsPairOf first) pairs records → find (is_named first name) pairs ≡ Some p
+    → renewed records name ≡ Some (name_of p.new.sig)
+renewed_is [] [] name p all found = absurd (cc)
+renewed_is [] (m ∷ ms) name p all found = absurd all
+renewed_is (q ∷ qs) [] name p all found = absurd all
+renewed_is (q ∷ qs) (m ∷ ms) name p all found = by (hash_eq (first_name q.old.sig) name) refl (renewed_is qs ms name p all.1)
+  where
+    same : hash_eq m.old_name name ≡ hash_eq (first_name q.old.sig) name
+    same = ap (λ (h : Hash). hash_eq h name) all.0.old_name
+
+    by : (b : Bool) → hash_eq (first_name q.old.sig) name ≡ b → (find (is_named first name) qs ≡ Some p → renewed ms name ≡ Some (name_of p.new.sig)) → renewed (m ∷ ms) name ≡ Some (name_of p.new.sig)
+    by true t later =
+        let e : Some q ≡ Some p = rw t at found in
+        let one : q ≡ p = cc in
+        rw (same ∙ t) (ap (λ (h : Hash). Some h) (all.0.name ∙ ap (λ (x : Pair). name_of x.new.sig) one))
+    by false f later = rw (same ∙ f) (later (rw f at found))
+
+-- ---- unihashes of a valid book
+
+pub first_name_is_hash : (sig : SigRecord) → IsHash (first_name sig)
+unfolding first_name
+first_name_is_hash sig = digest_is_hash (first_bytes sig)
+
+module _ (form : Format) (gives : Gives) (reading : Reading) (book : Book) (valid : IsValidBook form gives reading book) where
+  all_new : AllNew form book
+  all_new before line s = let v = valid before line s in v.new
+
+  unihash_is_hash : ((sig : SigRecord) → IsHash (form.name_of sig)) → (before : Book) (line : Line) → StandsIn book before line → IsHash line.unihash
+  unihash_is_hash name_hash before line s = by (let v = valid before line s in v.named)
+    where
+      by : (line.unihash ≡ form.name_of line.sig) ⊎ IsNamedAlike form before line → IsHash line.unihash
+      by (inl own) = subst IsHash (sym own) (name_hash line.sig)
+      by (inr f) = subst IsHash (sym f.name) (name_hash f.first.sig)
+
+  -- the line whose name a unihash is, which has the same manifest
+  pub record IsUnihashOf (line : Line) : Type 0 where
+    pub before : Book
+    pub named : Line
+    pub stands : StandsIn book before named
+    pub is : line.unihash ≡ form.name_of named.sig
+    pub manifest : named.manifest ≡ line.manifest
+
+  unihash_of : (before : Book) (line : Line) → StandsIn book before line → IsUnihashOf line
+  unihash_of before line s = by (let v = valid before line s in v.named)
+    where
+      by : (line.unihash ≡ form.name_of line.sig) ⊎ IsNamedAlike form before line → IsUnihashOf line
+      by (inl own) = record { before = before; named = line; stands = s; is = own; manifest = refl }
+      by (inr f) = record { before = f.behind; named = f.first; stands = stands_earlier book before f.behind line f.first s f.stands; is = f.name; manifest = f.alike.manifest }
+
+  -- lines with one unihash have one manifest
+  same_manifest : (b c : Book) (k l : Line) → StandsIn book b k → StandsIn book c l → k.unihash ≡ l.unihash → k.manifest ≡ l.manifest
+  same_manifest b c k l s t same =
+      let one = unihash_of b k s in
+      let other = unihash_of c l t in
+      let place = one_place form book one.before other.before one.named other.named all_new one.stands other.stands (sym one.is ∙ same ∙ other.is) in
+      sym one.manifest ∙ ap (λ (x : Line). x.manifest) place.1 ∙ other.manifest
+
+-- ---- the records of a whole move
+
+module _ (gives : Gives) (reading : Reading) (olds again : Book) (may : MayMove first present gives reading olds again) (moved : Moved)
+    (told : IsMoveOf first again (whole_move olds again) moved.rows moved.records.items moved.added.items) where
+  -- A pair of the move, as it is found, with where its lines stand.
+  pub record IsPlaced (pair : Pair) : Type 0 where
+    pub found : find (is_named first (first_name pair.old.sig)) (whole_move olds again).pairs ≡ Some pair
+    pub old_before : Book
+    pub old_stands : StandsIn olds old_before pair.old
+    pub new_before : Book
+    pub new_stands : StandsIn (whole_move olds again).book new_before pair.new
+    pub manifest : pair.new.manifest ≡ pair.old.manifest
+
+  whole_valid : IsValidBook present gives reading (whole_move olds again).book
+  whole_valid = (at_end first present gives reading olds again may).valid
+
+  pub pair_placed : (pair : Pair) → Contains (whole_move olds again).pairs pair → IsPlaced pair
+  pair_placed pair has =
+      let whole = at_end first present gives reading olds again may in
+      let c = each_of (Carried first present gives reading (Known first present gives reading olds again may) may.no_clash olds (whole_move olds again)) (whole_move olds again).pairs pair whole.each has in
+      record {
+        found = found_of first (whole_move olds again).pairs pair (subst (Distinct first) (sym whole.lines) (distinct_of first olds (all_new first gives reading olds may.old))) has;
+        old_before = c.old_before;
+        old_stands = c.old_stands;
+        new_before = c.new_before;
+        new_stands = c.new_stands;
+        manifest = c.manifest;
+      }
+
+  pub found_placed : (pair : Pair) → find (is_named first (first_name pair.old.sig)) (whole_move olds again).pairs ≡ Some pair → IsPlaced pair
+  found_placed pair found = pair_placed pair (found_among first (whole_move olds again).pairs (first_name pair.old.sig) pair found)
+
+  -- the row of a moved record's new name is that of the line that stands for it
+  pub placed_row : (pair : Pair) (m : MovedRecord) → IsPlaced pair → IsPairOf first pair m → row_at moved.rows m.name ≡ Some (row_of present pair.new)
+  placed_row pair m placed is =
+      (λ i. row_at (told.rows_are i) (is.name i))
+      ∙ row_of_line present (whole_move olds again).book placed.new_before pair.new (all_new present gives reading (whole_move olds again).book whole_valid) placed.new_stands
+
+  -- the record of a pair that is found
+  pub record_of : (pair : Pair) → find (is_named first (first_name pair.old.sig)) (whole_move olds again).pairs ≡ Some pair → (m : MovedRecord) × Contains moved.records.items m × IsPairOf first pair m
+  record_of pair found = beside_for (IsPairOf first) (whole_move olds again).pairs moved.records.items pair told.each (found_among first (whole_move olds again).pairs (first_name pair.old.sig) pair found)
+
+  -- ... and the pair of a record
+  pair_of : (m : MovedRecord) → Contains moved.records.items m → (pair : Pair) × IsPlaced pair × IsPairOf first pair m
+  pair_of m has = let w = beside_of (IsPairOf first) (whole_move olds again).pairs moved.records.items m told.each has in (w.0, pair_placed w.0 w.1, w.2)
+
+  row_manifest : (pair : Pair) (m : MovedRecord) (row : EquivRow) → IsPlaced pair → IsPairOf first pair m → row_at moved.rows m.name ≡ Some row → row.manifest ≡ pair.new.manifest
+  row_manifest pair m row placed is at =
+      let e : Some row ≡ Some (row_of present pair.new) = sym at ∙ placed_row pair m placed is in
+      let same : row ≡ row_of present pair.new = cc in
+      ap (λ (r : EquivRow). r.manifest) same
+
+  pub none_in_the_way : AreUnihashesApart (whole_move olds again) → AreNoneInTheWay moved.rows moved.records.items
+  none_in_the_way apart = record {
+    hashes = λ m has. let p = pair_of m has in (
+      subst IsHash (sym p.2.unihash) (unihash_is_hash present gives reading (whole_move olds again).book whole_valid name_is_hash p.1.new_before p.0.new p.1.new_stands),
+      subst IsHash (sym p.2.old_unihash) (unihash_is_hash first gives reading olds may.old first_name_is_hash p.1.old_before p.0.old p.1.old_stands),
+    );
+    apart = λ m n has too e.
+        let p = pair_of m has in
+        let q = pair_of n too in
+        apart p.0 q.0 p.1.found q.1.found (sym p.2.unihash ∙ e ∙ q.2.old_unihash);
+    one = λ m n row other has too e at at'.
+        let p = pair_of m has in
+        let q = pair_of n too in
+        row_manifest p.0 m row p.1 p.2 at
+        ∙ same_manifest present gives reading (whole_move olds again).book whole_valid p.1.new_before q.1.new_before p.0.new q.0.new p.1.new_stands q.1.new_stands (sym p.2.unihash ∙ e ∙ q.2.unihash)
+        ∙ sym (row_manifest q.0 n other q.1 q.2 at');
+  }

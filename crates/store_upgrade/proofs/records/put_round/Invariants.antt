@@ -1,0 +1,15 @@
+use Rattle.std.proofs.Common.{◌≡◌, take}
+use Rattle.outside_traits.specs.Passes.{Passes}
+use Rattle.store_opening.specs.Paths.{IsLaidOut}
+use Rattle.store_upgrade.specs.Steps.{PutsRound, RoundIsPut}
+use Rattle.store_upgrade.proofs.Rounded.{AreGone}
+use Rattle.store_upgrade.proofs.records.put_round.Given as goal
+
+abbrev pub invariant-loop-one : goal.invariant-loop-one
+invariant-loop-one g l = record {
+  faults : g.D.Disk.faults l.disk ≡ g.D.Disk.faults l.fn.disk;
+  run : g.D.Disk.tells → Passes (g.D.Disk.story l.fn.disk) (g.D.Disk.story l.disk) (PutsRound (take l.one-index l.added) l.round (g.D.Disk.story l.fn.disk).held);
+  laid : g.D.Disk.tells → IsLaidOut (g.D.Disk.story l.disk).held;
+  gone : g.D.Disk.tells → AreGone (take l.one-index l.added) l.round (g.D.Disk.story l.disk).held;
+  so_far : g.D.Disk.tells → RoundIsPut (take l.one-index l.added) l.round (g.D.Disk.story l.fn.disk).held (g.D.Disk.story l.disk).held;
+}
