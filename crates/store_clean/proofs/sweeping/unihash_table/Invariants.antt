@@ -1,0 +1,5 @@
+use Rattle.store_clean.proofs.Swept.{KeptTo}
+use Rattle.store_clean.proofs.sweeping.unihash_table.Given as goal
+
+abbrev pub invariant-loop-place : goal.invariant-loop-place
+invariant-loop-place l = KeptTo (λ n. n.unihash) l.nodes l.marks l.place l.table.entries

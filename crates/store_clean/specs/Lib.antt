@@ -1,0 +1,5 @@
+pub mod Naming
+pub mod Deciding
+pub mod Cleared
+pub mod Steps
+pub mod Laws
