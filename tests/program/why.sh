@@ -190,9 +190,9 @@ wants "what is maybe not needed" 0 "lib:do_compile: run: differs in do_compile
 app:do_compile: may run: needs lib:do_compile
 both:do_build: may run: needs lib:do_compile app:do_compile"
 runs "$bitbake" --why both app -n
-wants "no other mode beside it" 2 'usage: bitbake [-c TASK] [-f] [-k] [-n] [-e] [-s] [-p] [--no-setscene] [--sample N] [TARGET..]'
+wants "no other mode beside it" 2 'usage: bitbake [-c TASK] [-f] [-k] [-n] [-e] [-s] [-p] [--no-setscene] [--sample N] [--clean N] [TARGET..]'
 runs "$bitbake" --why
-wants "no target" 2 'usage: bitbake [-c TASK] [-f] [-k] [-n] [-e] [-s] [-p] [--no-setscene] [--sample N] [TARGET..]'
+wants "no target" 2 'usage: bitbake [-c TASK] [-f] [-k] [-n] [-e] [-s] [-p] [--no-setscene] [--sample N] [--clean N] [TARGET..]'
 runs "$bitbake" --why nothing
 wants "a refusal" 3 "fault 3 NothingProvides nothing"
 printf 'SSTATETASKS = "do_share"\ndo_share() {\n    mkdir -p o && echo s > o/s\n}\ndo_share[sstate-inputdirs] = "${WORKDIR}/o"\ndo_share[sstate-outputdirs] = "o"\naddtask share\n' >recipes/shared.bb

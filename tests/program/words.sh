@@ -1,7 +1,7 @@
 # What the words alone decide. A part of tests/program.sh, which has the functions.
 
 # What the words alone decide, in a folder with a file that can't be read.
-usage='usage: bitbake [-c TASK] [-f] [-k] [-n] [-e] [-s] [-p] [--no-setscene] [--sample N] [TARGET..]'
+usage='usage: bitbake [-c TASK] [-f] [-k] [-n] [-e] [-s] [-p] [--no-setscene] [--sample N] [--clean N] [TARGET..]'
 project words
 mkdir conf && ln -s /proc/self/mem conf/bitbake.conf
 for words in '' '--' '--nope' '--nope hello' '-x' '-V hello' '-n' '-k' '-c build' 'hello -c' '-f hello -f' '--force=yes hello' '--sample' '--sample 0' '--sample 1001' '--sample many' '-q -q hello' '-c -q hello' '--cmd --quiet hello'; do

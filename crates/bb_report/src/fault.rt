@@ -9,7 +9,7 @@ use tree_model::{Hash, Mem, Text};
 
 /// The words that the program takes.
 const USAGE: &str =
-    "usage: bitbake [-c TASK] [-f] [-k] [-n] [-e] [-s] [-p] [--no-setscene] [--sample N] [TARGET..]\n";
+    "usage: bitbake [-c TASK] [-f] [-k] [-n] [-e] [-s] [-p] [--no-setscene] [--sample N] [--clean N] [TARGET..]\n";
 
 /// Puts the place of a fault at the end: a file and a line, a file alone where the line is 0, or nothing where the file is
 /// empty.

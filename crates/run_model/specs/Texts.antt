@@ -85,7 +85,7 @@ abbrev pub metadata_line : List ℕ → ℕ → List ℕ → List (List ℕ) →
 metadata_line file line kind detail = codes "fault 3 " ++ (place_text file line ++ (kind ++ (behind_blanks detail ++ codes "\n")))
 
 abbrev pub usage_text : List ℕ
-usage_text = codes "usage: bitbake [-c TASK] [-f] [-k] [-n] [-e] [-s] [-p] [--no-setscene] [--sample N] [TARGET..]\n"
+usage_text = codes "usage: bitbake [-c TASK] [-f] [-k] [-n] [-e] [-s] [-p] [--no-setscene] [--sample N] [--clean N] [TARGET..]\n"
 
 -- two signatures have this name
 abbrev pub collision_line : Hash → List ℕ
