@@ -68,7 +68,7 @@ _bitbake() {
             _bitbake_tasks_for "$target"
             ;;
         *,-*)
-            found='-c -f -k -n -e -s -p -g -q -h --cmd --force --continue --dry-run --environment --show-versions --parse-only --no-setscene --sample --graphviz --why --quiet --help --version --lint'
+            found='-c -f -k -n -e -s -p -g -q -h --cmd --force --continue --dry-run --environment --show-versions --parse-only --no-setscene --sample --clean --graphviz --why --quiet --help --version --lint'
             ;;
         *,mc:*:*:*)
             typed=${word#mc:*:*:}

@@ -5,7 +5,7 @@ Usage: tests/cases.py [--program FILE] [--data FOLDER] [TOPIC[/NAME] ..]
 The program is the one that the gate built. A case for devices in memory alone is passed over, and one with a run whose devices are to fail
 from that run on; both are counted apart.
 Where a run is refused for a fault of the metadata or a limit, standard error has to explain that by the sentence of docs/faults.tsv and
-nothing else but what may stand behind it (tests/sentences.py); where it is Ok, nothing stands there but the number of remarks. The cases of tests/sentences.tsv have to show just the sentences that stand there.
+nothing else but what may stand behind it (tests/sentences.py); where it is Ok, nothing stands there but the number of remarks, and what a clearing freed. The cases of tests/sentences.tsv have to show just the sentences that stand there.
 The last line is 'N passed, M failed'; the status is 0 where M is 0.
 """
 import argparse
@@ -168,7 +168,7 @@ class Case:
 
     def explained(self, status, text, said):
         """Holds what standard error says of a run to the status and the text. What real files tell besides stands in no case."""
-        said = b"".join(it for it in said.splitlines(True) if not it.startswith((b"bitbake: layers: ", b"bitbake: lint: ", b"bitbake: sandbox: ", b"bitbake: why: ")))
+        said = b"".join(it for it in said.splitlines(True) if not it.startswith((b"bitbake: layers: ", b"bitbake: lint: ", b"bitbake: sandbox: ", b"bitbake: why: ", b"bitbake: clean: ")))
         if re.search(rb"^mc ", text, re.M):
             # (tasks of configurations before that of the fault)
             said = b"".join(it for it in said.splitlines(True) if not re.match(rb"bitbake: (try: |[^ ]+ failed )|\| ", it))

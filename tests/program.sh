@@ -93,7 +93,7 @@ found hello:do_build
 ok 1 found, 0 restored, 0 started"
 
 # The parts, each by its topic. They stand on one another where a later one uses a project of an earlier one.
-for part in launcher words modes plans lint runs configs failures devices outputs trace terminal why kills store move software installation apart; do
+for part in launcher words modes plans lint runs configs failures devices outputs trace terminal why kills store move clean software installation apart; do
     . "$top/tests/program/$part.sh"
 done
 

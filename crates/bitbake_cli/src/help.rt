@@ -2,7 +2,7 @@
 
 /// The lines of use, and each option with a sentence.
 pub const HELP: &str = "\
-usage: bitbake [-c TASK] [-f] [-k] [-n] [-e] [-s] [-p] [--no-setscene] [--sample N] [TARGET..]\n\
+usage: bitbake [-c TASK] [-f] [-k] [-n] [-e] [-s] [-p] [--no-setscene] [--sample N] [--clean N] [TARGET..]\n\
 \x20      bitbake -g [-c TASK] TARGET..\n\
 \x20      bitbake --why [-c TASK] [-f] [--no-setscene] TARGET..\n\
 \x20      bitbake --lint [TARGET..]\n\
@@ -17,6 +17,7 @@ usage: bitbake [-c TASK] [-f] [-k] [-n] [-e] [-s] [-p] [--no-setscene] [--sample
 \x20 -p, --parse-only         Read everything, and print how many recipe files there were.\n\
 \x20     --no-setscene        Objects of the shared state don't count as available.\n\
 \x20     --sample N           Build a generated project of N recipes, 1 to 1000, over devices in memory.\n\
+\x20     --clean N            Clear the store: remove what nothing needs of what earlier runs left for later ones.\n\
 \x20 -g, --graphviz           Print the graph of the tasks that the targets need, as DOT.\n\
 \x20     --why                Print for each task that a run would need whether it would be found, restored or run, and why.\n\
 \x20 -q, --quiet              No line on the terminal says what a run is doing.\n\

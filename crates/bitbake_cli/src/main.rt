@@ -7,7 +7,8 @@
 //! Where that is a terminal, one line there says what a run is doing (`progress_line`), unless `--quiet` is among the words.
 //! Before a run the stores that it will open are brought to the present format of records, where they have any of the first one (`upgrading`).
 //! Help, the version, remarks and the graph are modes of this program alone, whose words go to no top call (`own_modes`, `linting` over
-//! `recipe_lint`, `graphing` over `target_graph`).
+//! `recipe_lint`, `graphing` over `target_graph`). What a run would do, and a clearing of the store, are calls of `bitbake_top` of their own (`whying`,
+//! `cleaning`).
 //! `tests/program.sh` tests it by runs.
 #![tactic(auto)]
 
@@ -15,10 +16,13 @@ ghost use Rattle.std.specs.Prelude.{◌≡◌, ◌<◌, IfOk, vec_len};
 
 mod about;
 mod ahead;
+mod cleaning;
 mod failures;
 mod faults;
+mod freeing;
 mod graphing;
 mod help;
+mod leavings;
 mod linting;
 mod own_modes;
 mod places;
@@ -34,6 +38,8 @@ use about::tell_about;
 use ahead::{configs_in, is_forced, is_run, read_ahead, reads_default};
 use bitbake_top::bitbake;
 use build_store::Ahead;
+use clean_words::{Asks, clean_words};
+use cleaning::run_clean;
 use failures::tell_too_large;
 use faults::{tell_fault, tell_passed};
 use graphing::run_graph;
@@ -41,7 +47,7 @@ use host_files::{Syncs, is_memory};
 use linting::{run_lint, tell_count};
 use meta_model::Status;
 use outside_os::{FolderDisk, FolderLayers, ReadAhead, StdSink};
-use own_modes::{OwnMode, other_words, own_mode, run_help, run_version};
+use own_modes::{OwnMode, other_words, own_mode, print_refused, run_help, run_version};
 use progress_line::{Progress, Shown, has_place};
 use recipe_lint::Counted;
 use run_reasons::{Known, Stamped, keep_reasons};
@@ -100,7 +106,7 @@ fn main(rt: HostRuntime) -> ExitCode {
     }
 }
 
-/// The status of the top call over the current folder, or of a mode of this program alone.
+/// The status of a mode of this program alone, or of the call for the words.
 fn run<R: Threads + Wait + Clock + Sync>(rt: &HostRuntime, threads: &R) -> io::Result<u8> {
     let begun = micros_now(rt);
     let all = words_of(rt)?;
@@ -113,10 +119,31 @@ fn run<R: Threads + Wait + Clock + Sync>(rt: &HostRuntime, threads: &R) -> io::R
         None => {}
     }
     let words = other_words(rt.alloc(), &all, QUIET)?;
+    let is_quiet = words.len() != all.len();
+    match clean_words(rt.alloc(), &words)? {
+        Asks::NoClearing => run_words(rt, threads, begun, words, is_quiet),
+        Asks::Sample(others) => run_words(rt, threads, begun, others, is_quiet),
+        Asks::Clearing(asked) => run_clean(rt, threads, &asked, !is_quiet),
+        Asks::Wrong => {
+            let status = print_refused(rt, Status::Usage)?;
+            tell_about(rt, &status);
+            Ok(status.code())
+        }
+    }
+}
+
+/// The status of the top call over the current folder, for these words.
+fn run_words<R: Threads + Wait + Clock + Sync>(
+    rt: &HostRuntime,
+    threads: &R,
+    begun: u64,
+    words: Vec<Text>,
+    is_quiet: bool,
+) -> io::Result<u8> {
     let is_run = is_run(rt, &words);
     let configs = configs_in(rt.alloc(), &words)?;
     if is_run {
-        let status = bring_up(rt, configs.as_slice(), words.len() == all.len())?;
+        let status = bring_up(rt, configs.as_slice(), !is_quiet)?;
         if !matches!(status, Status::Ok) {
             return Ok(status.code());
         }
@@ -126,7 +153,7 @@ fn run<R: Threads + Wait + Clock + Sync>(rt: &HostRuntime, threads: &R) -> io::R
         sandboxes: Sandboxes::unknown(),
         configs: Configs::of(configs),
         progress: Progress::new(rt.alloc(), begun),
-        is_shown: is_run && words.len() == all.len() && has_place(rt),
+        is_shown: is_run && !is_quiet && has_place(rt),
         begun,
         since: SystemTime::now(rt).unwrap_or(SystemTime::UNIX_EPOCH),
     };

@@ -28,7 +28,7 @@ fn stands(rt: &HostRuntime, path: &str) -> bool {
 }
 
 /// Whether the store of a configuration has something of the first format.
-fn is_old(rt: &HostRuntime, config: &str) -> io::Result<bool> {
+pub fn is_old(rt: &HostRuntime, config: &str) -> io::Result<bool> {
     if config.is_empty() {
         return Ok(stands(rt, OLD_RECORDS));
     }

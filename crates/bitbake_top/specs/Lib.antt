@@ -1,4 +1,5 @@
 pub mod Answers
+pub mod Clean
 pub mod Dry
 pub mod Parts
 pub mod Sample

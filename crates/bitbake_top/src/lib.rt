@@ -24,11 +24,17 @@
 //! the disk or a bench, and refused words don't touch the layers. The sample builds a generated project twice, over devices in memory of its
 //! own, and prints how many tasks its runs started and found. Words are refused as `Usage` exactly where they have no reading. Each
 //! refusal's line is printed, and each fault has its cause. Beside these comes want of memory alone.
+//!
+//! Two calls stand beside it. `why` prints what a run of its words would do, and changes nothing. `clean` clears the store: at each moment the disk is on the way
+//! through an opening or through a clearing by the names of the words' plan (`DidClean`), so that a run may begin there, and the plan has what it had
+//! (`plan_clean`, `clearing_leaves`); and it prints the numbers of what was decided.
 #![tactic(auto)]
 
 mod answer;
 mod asked;
 mod asking;
+mod cleaning;
+mod clearing;
 mod dry;
 mod examples;
 mod finish;
@@ -43,7 +49,10 @@ mod top;
 mod whole;
 
 pub use asking::why;
+pub use cleaning::Cleared;
+pub use clearing::clean;
 pub use finish::Finish;
 pub use laws::{begin_laws, era_laws, lasting_law};
 pub use reasons::Told;
+pub use store_clean::Cleaned;
 pub use top::bitbake;

@@ -3,11 +3,12 @@ ghost use Rattle.std.specs.Prelude.{◌<◌, IfOk, vec_len};
 ghost use Rattle.outside_traits.specs.Story.{IsFresh};
 ghost use Rattle.outside_mem.specs.Told.{story_of};
 
-use crate::upgrading::{begins_with_upgrade, bring_up};
+use crate::upgrading::{bring_up, is_old, is_run, left_on, stopped};
 use crate::wrong::Wrong;
 use bb_report::fault_text;
-use bitbake_top::bitbake;
+use bitbake_top::{bitbake, clean};
 use build_store::{Ahead, Known};
+use clean_words::{Asks, CleanWords, clean_words};
 use meta_model::Status;
 use outside_mem::{FaultyDisk, Gate, GateBench, MemDisk, MemLayers, MemSink, Rule, ScriptTable};
 use std::alloc::Global;
@@ -161,9 +162,26 @@ impl Project {
         alloc: Global,
         words: &Vec<Text>,
     ) -> Result<Ran, Wrong> {
-        let status = self.upgrade(alloc, words)?;
-        if !matches!(status, Status::Ok) {
-            return refused(alloc, &status);
+        match clean_words(alloc, words)? {
+            Asks::NoClearing => self.run_words(rt, alloc, words),
+            Asks::Sample(others) => self.run_words(rt, alloc, &others),
+            Asks::Clearing(asked) => self.clear(rt, alloc, &asked),
+            Asks::Wrong => refused(alloc, &Status::Usage),
+        }
+    }
+
+    /// The call for words that ask for no clearing.
+    fn run_words<R: Threads + Wait + Sync>(
+        &mut self,
+        rt: &R,
+        alloc: Global,
+        words: &Vec<Text>,
+    ) -> Result<Ran, Wrong> {
+        if is_run(alloc, words) {
+            let status = self.upgrade(alloc)?;
+            if !matches!(status, Status::Ok) {
+                return refused(alloc, &status);
+            }
         }
         let held = mem::replace(&mut self.held, Vec::new(alloc));
         let disk = MemDisk::new(alloc, held)?;
@@ -177,10 +195,51 @@ impl Project {
         }
     }
 
-    /// Brings the store to the present format of records, where words ask for a run and the disk holds something of the first one. The calls of the disk that it
+    /// Brings the store to the present format of records, and takes away what it had of the first one.
+    fn upgrade_whole(&mut self, alloc: Global) -> Result<Status, Wrong> {
+        match self.upgrade(alloc)? {
+            Status::Ok => self.upgrade(alloc),
+            refused => Ok(refused),
+        }
+    }
+
+    /// Clears the store, or says what a clearing would do.
+    fn clear<R: Threads + Sync>(
+        &mut self,
+        rt: &R,
+        alloc: Global,
+        asked: &CleanWords,
+    ) -> Result<Ran, Wrong> {
+        if !asked.dry {
+            let status = self.upgrade_whole(alloc)?;
+            if !matches!(status, Status::Ok) {
+                return refused(alloc, &status);
+            }
+        }
+        let held = mem::replace(&mut self.held, Vec::new(alloc));
+        let fails = mem::replace(&mut self.fails, NONE_FAILS);
+        let crash = self.crash.take();
+        let mut disk = stopped(MemDisk::new(alloc, held)?, &fails, crash);
+        let mut layers = self.layers(alloc, fails.layers)?;
+        let mut sink = MemSink::new(alloc, numbers(alloc, fails.sink)?)?;
+        let cleared = clean(
+            rt,
+            alloc,
+            &asked.words,
+            asked.limit,
+            asked.dry,
+            &mut layers,
+            &mut disk,
+            &mut sink,
+        );
+        self.held = left_on(alloc, &disk.into_disk(), crash)?;
+        answer(alloc, &cleared.status, &sink)
+    }
+
+    /// Brings the store to the present format of records, where the disk holds something of the first one. The calls of the disk that it
     /// takes are the first ones of the run.
-    fn upgrade(&mut self, alloc: Global, words: &Vec<Text>) -> Result<Status, Wrong> {
-        if !begins_with_upgrade(alloc, words, self.held.as_slice()) {
+    fn upgrade(&mut self, alloc: Global) -> Result<Status, Wrong> {
+        if !is_old(self.held.as_slice()) {
             return Ok(Status::Ok);
         }
         let held = mem::replace(&mut self.held, Vec::new(alloc));

@@ -1,5 +1,4 @@
 // What a run finds on the disk: a store of the present format of records.
-ghost use Rattle.std.specs.Prelude.{IfOk};
 ghost use Rattle.outside_traits.specs.Story.{IsFresh};
 ghost use Rattle.outside_mem.specs.Told.{story_of};
 
@@ -30,13 +29,39 @@ pub struct Brought {
     pub held: Vec<(Text, Entry)>,
 }
 
-/// Whether words ask for a run, and the disk holds something of the first format: then a run begins with bringing the store to the present one.
-pub fn begins_with_upgrade(alloc: Global, words: &[Text], held: &[(Text, Entry)]) -> bool {
-    let is_run = match read_words(alloc, words) {
+/// Whether words ask for a run.
+pub fn is_run(alloc: Global, words: &[Text]) -> bool {
+    match read_words(alloc, words) {
         Ok(request) => mode_of(&request) == Mode::Run,
         Err(_) => false,
-    };
-    is_run && held.iter().any(|it| it.0.as_str() == OLD || it.0.as_str().starts_with("rec/"))
+    }
+}
+
+/// Whether a disk holds something of the first format of records.
+pub fn is_old(held: &[(Text, Entry)]) -> bool {
+    held.iter().any(|it| it.0.as_str() == OLD || it.0.as_str().starts_with("rec/"))
+}
+
+/// A disk on which calls fail, or that a crash ends.
+pub fn stopped(disk: MemDisk, fails: &Fails, crash: Option<Crash>) -> FaultyDisk
+    requires { IsFresh (story_of disk) }
+{
+    match crash {
+        Some(crash) => FaultyDisk::failing_after(disk, crash.calls),
+        None => FaultyDisk::failing_once(disk, fails.disk),
+    }
+}
+
+/// What a disk holds, or a crash leaves.
+pub fn left_on(
+    alloc: Global,
+    disk: &MemDisk,
+    crash: Option<Crash>,
+) -> Result<Vec<(Text, Entry)>, Wrong> {
+    match crash {
+        Some(crash) => copied(alloc, disk.image(crash.image)?.held()),
+        None => copied(alloc, disk.held()),
+    }
 }
 
 /// Brings a store to the present format over a disk on which calls fail, or that a crash ends.
@@ -48,10 +73,7 @@ pub fn bring_up(
 ) -> Result<Brought, Wrong>
     requires { IsFresh (story_of disk) }
 {
-    let disk = match crash {
-        Some(crash) => FaultyDisk::failing_after(disk, crash.calls),
-        None => FaultyDisk::failing_once(disk, fails.disk),
-    };
+    let disk = stopped(disk, fails, crash);
     let Upgraded { done, disk } = upgrade_config(alloc, disk, "");
     let calls = disk.moment();
     let disk = disk.into_disk();

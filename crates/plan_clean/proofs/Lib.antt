@@ -1,0 +1,6 @@
+pub mod Joined
+pub mod Fewer
+pub mod Kept
+pub mod Left
+pub mod Serving
+pub mod Eras
