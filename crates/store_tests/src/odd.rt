@@ -101,7 +101,7 @@ const RECORDS: [Row; 15] = [
     ("rec2", RECORD, "", b"", 0),
 ];
 
-const OTHERS: [Row; 11] = [
+const OTHERS: [Row; 12] = [
     // what is under `stamp/` stays, be it a stamp or not
     ("stamp/p/t", DIGEST, "stamp/p/u", b"hello\n", 2),
     ("stamp/p", DIGEST, "", b"", 1),
