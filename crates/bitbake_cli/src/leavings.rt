@@ -3,7 +3,6 @@ use meta_model::RecipeFacts;
 use outside_os::FolderLayers;
 use project_reading::{read_config, read_recipes};
 use std::alloc::AllocError;
-use std::collections::BTreeMap;
 use std::rt::Files;
 use std::{fs, io};
 
@@ -78,22 +77,37 @@ fn put_tasks(
     Ok(())
 }
 
+/// The recipe with a name.
+fn recipe_of<'r>(recipes: &'r [RecipeFacts], pn: &str) -> Option<&'r RecipeFacts> {
+    for recipe in recipes {
+        if recipe.pn.as_str() == pn {
+            return Some(recipe);
+        }
+    }
+    None
+}
+
+/// Puts the folder of a recipe's name, where no recipe has it, or those in it that are of no task of the recipe.
+fn put_recipe(
+    rt: &HostRuntime,
+    text: &mut String,
+    recipes: &[RecipeFacts],
+    pn: &str,
+) -> io::Result<()> {
+    let folder = format!(in rt.alloc(); "{WORK}/{pn}")?;
+    if let Some(recipe) = recipe_of(recipes, pn) {
+        return put_tasks(rt, text, recipe, folder.as_str());
+    }
+    text.push(' ')?;
+    put_word(text, folder.as_str())?;
+    Ok(())
+}
+
 /// The work folders of tasks that none of these recipes has, each behind a space.
 fn leavings(rt: &HostRuntime, recipes: &[RecipeFacts]) -> io::Result<String> {
-    let mut by_name = BTreeMap::new(rt.alloc());
-    for recipe in recipes {
-        let _ = by_name.insert(recipe.pn.as_str(), recipe)?;
-    }
     let mut text = String::new(rt.alloc());
     for pn in &names_in(rt, WORK)? {
-        let folder = format!(in rt.alloc(); "{WORK}/{pn}")?;
-        match by_name.get(&pn.as_str()) {
-            Some(recipe) => put_tasks(rt, &mut text, recipe, folder.as_str())?,
-            None => {
-                text.push(' ')?;
-                put_word(&mut text, folder.as_str())?;
-            }
-        }
+        put_recipe(rt, &mut text, recipes, pn.as_str())?;
     }
     Ok(text)
 }
