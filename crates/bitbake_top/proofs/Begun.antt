@@ -78,6 +78,7 @@ refusal_cause disk layers bench sink (status.Collision name held given) refusal 
 refusal_cause disk layers bench sink (status.Unsteady pn task held given) refusal read = absurd (false≢true refusal)
 refusal_cause disk layers bench sink (status.Limit kind) refusal read = tt
 refusal_cause disk layers bench sink status.OutOfMemory refusal read = tt
+refusal_cause disk layers bench sink status.MirrorFault refusal read = absurd (false≢true refusal)
 
 -- the cause of the status that is answered of a refusal
 pub refused_cause : (disk before now : ℕ) (bench sink : Type 0) (s t : Status) → is_refusal s ≡ true → (t ≡ s) ⊎ (t ≡ status.OutOfMemory) → Counts before now (is_failed_read s) → HasCause (Rose before now) disk bench sink t
@@ -98,6 +99,7 @@ run_cause layers disk bench sink (status.Collision name held given) cause = caus
 run_cause layers disk bench sink (status.Unsteady pn task held given) cause = cause
 run_cause layers disk bench sink (status.Limit kind) cause = tt
 run_cause layers disk bench sink status.OutOfMemory cause = tt
+run_cause layers disk bench sink status.MirrorFault cause = cause
 
 -- what holds of the one plan holds of all that are handed back
 pub all_of_one : (Z : Type 0) (P : Plan → Type 0) (plan : Plan) (plans : List Plan) → (plans ≡ plan ∷ []) ⊎ ((plans ≡ []) × Z) → P plan → All P plans
@@ -133,6 +135,7 @@ refusal_steady (status.Collision name held given) refusal = refl
 refusal_steady (status.Unsteady pn task held given) refusal = absurd (false≢true refusal)
 refusal_steady (status.Limit kind) refusal = refl
 refusal_steady status.OutOfMemory refusal = refl
+refusal_steady status.MirrorFault refusal = refl
 
 pub refused_steady : (s t : Status) → is_refusal s ≡ true → (t ≡ s) ⊎ (t ≡ status.OutOfMemory) → is_unsteady t ≡ false
 refused_steady s t refusal (inl same) = subst (λ (x : Status). is_unsteady x ≡ false) (sym same) (refusal_steady s refusal)
@@ -155,6 +158,7 @@ certain_apart (status.Collision name held given) certain = absurd certain
 certain_apart (status.Unsteady pn task held given) certain = refl
 certain_apart (status.Limit kind) certain = refl
 certain_apart status.OutOfMemory certain = absurd certain
+certain_apart status.MirrorFault certain = refl
 
 -- a run doesn't end with a refusal
 pub run_is_built : (disk : ℕ) (bench sink : Type 0) (s : Status) → MayEndSo disk bench sink s → s ≡ not_built → ⊥
@@ -196,3 +200,4 @@ words_steady (status.Collision name held given) refusal = refl
 words_steady (status.Unsteady pn task held given) refusal = absurd (false≢true refusal)
 words_steady (status.Limit kind) refusal = refl
 words_steady status.OutOfMemory refusal = refl
+words_steady status.MirrorFault refusal = refl

@@ -68,6 +68,7 @@ planned_status status.TaskFailed files paths request is planned = absurd is
 planned_status status.Usage files paths request is planned = absurd is
 planned_status status.BenchFault files paths request is planned = absurd is
 planned_status (status.Unsteady pn task held given) files paths request is planned = absurd is
+planned_status status.MirrorFault files paths request is planned = absurd is
 
 refusal_status : (s : Status) (files : Files) (paths : List (List ℕ)) (request : RunRequest) → is_refusal s ≡ true → IsUnrun files paths request s → HasClean s files paths request
 refusal_status status.ReadFault files paths request refusal unrun = tt
@@ -86,6 +87,7 @@ refusal_status status.DiskFault files paths request refusal unrun = absurd (fals
 refusal_status status.BenchFault files paths request refusal unrun = absurd (false≢true refusal)
 refusal_status (status.Collision name held given) files paths request refusal unrun = absurd (false≢true refusal)
 refusal_status (status.Unsteady pn task held given) files paths request refusal unrun = absurd (false≢true refusal)
+refusal_status status.MirrorFault files paths request refusal unrun = absurd (false≢true refusal)
 
 pub refused_status : (s t : Status) (files : Files) (paths : List (List ℕ)) (request : RunRequest) → is_refusal s ≡ true → IsUnrun files paths request s → (t ≡ s) ⊎ (t ≡ status.OutOfMemory) → HasClean t files paths request
 refused_status s t files paths request refusal unrun (inl same) = subst (λ (x : Status). HasClean x files paths request) (sym same) (refusal_status s files paths request refusal unrun)

@@ -59,6 +59,7 @@ refused_dry status.DiskFault files paths request refusal r = absurd (false≢tru
 refused_dry status.BenchFault files paths request refusal r = absurd (false≢true refusal)
 refused_dry (status.Collision name held given) files paths request refusal r = absurd (false≢true refusal)
 refused_dry (status.Unsteady pn task held given) files paths request refusal r = absurd (false≢true refusal)
+refused_dry status.MirrorFault files paths request refusal r = absurd (false≢true refusal)
 
 pub dry_refused : (s t : Status) (files : Files) (paths : List (List ℕ)) (request : DryRequest) → is_refusal s ≡ true → IsNoPlan files paths request.targets request.task false s → (t ≡ s) ⊎ (t ≡ status.OutOfMemory) → HasDry t files paths request
 dry_refused s t files paths request refusal none (inr memory) = subst (λ (x : Status). HasDry x files paths request) (sym memory) tt
@@ -95,3 +96,4 @@ dry_exactly status.DiskFault files paths request l has no_read no_write no_memor
 dry_exactly status.BenchFault files paths request l has no_read no_write no_memory = absurd has
 dry_exactly (status.Collision name held given) files paths request l has no_read no_write no_memory = absurd has
 dry_exactly (status.Unsteady pn task held given) files paths request l has no_read no_write no_memory = absurd has
+dry_exactly status.MirrorFault files paths request l has no_read no_write no_memory = absurd has

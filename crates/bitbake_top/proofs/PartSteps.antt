@@ -34,6 +34,7 @@ status_behind keep (status.Collision name held given) rest e = absurd cc
 status_behind keep (status.Unsteady pn task held given) rest e = absurd cc
 status_behind keep (status.Limit kind) rest e = absurd cc
 status_behind keep status.OutOfMemory rest e = absurd cc
+status_behind keep status.MirrorFault rest e = absurd cc
 
 -- ... and where it doesn't go on
 pub status_last : (keep : Bool) (s : Status) → goes_on keep s ≡ false → status_of keep (s ∷ []) ≡ s
@@ -50,6 +51,7 @@ status_last keep (status.Collision name held given) e = refl
 status_last keep (status.Unsteady pn task held given) e = refl
 status_last keep (status.Limit kind) e = refl
 status_last keep status.OutOfMemory e = refl
+status_last keep status.MirrorFault e = refl
 
 module _ (layers disk bench sink : Type 0) (files : Files) (request : RunRequest) where
   -- no part is left
@@ -104,6 +106,7 @@ module _ (layers disk bench sink : Type 0) (files : Files) (request : RunRequest
   widened (status.Unsteady pn task held given) l m d b c k n f g h cause = cause
   widened (status.Limit kind) l m d b c k n f g h cause = cause
   widened status.OutOfMemory l m d b c k n f g h cause = cause
+  widened status.MirrorFault l m d b c k n f g h cause = cause
 
   rose_before : (before mid now : ℕ) → before ≤ mid → Rose mid now → Rose before now
   rose_before before mid now lt rose = omega (arith, lt, rose)
@@ -138,6 +141,7 @@ module _ (layers disk bench sink : Type 0) (files : Files) (request : RunRequest
       by (status.Unsteady pn task held given) c = c
       by (status.Limit kind) c = c
       by status.OutOfMemory c = c
+      by status.MirrorFault c = c
   behind_cause status.Ok t l d b k cause = cause
   behind_cause status.Usage t l d b k cause = cause
   behind_cause (status.Metadata file line kind detail) t l d b k cause = cause
@@ -149,6 +153,7 @@ module _ (layers disk bench sink : Type 0) (files : Files) (request : RunRequest
   behind_cause (status.Unsteady pn task held given) t l d b k cause = cause
   behind_cause (status.Limit kind) t l d b k cause = cause
   behind_cause status.OutOfMemory t l d b k cause = cause
+  behind_cause status.MirrorFault t l d b k cause = cause
 
   abbrev Caused : Standing → Standing → Status → Type 0
   Caused before now s = HasCause (Rose before.layers now.layers) now.disk (SomeRose before.benches now.benches) (Rose before.sink now.sink) s
@@ -203,6 +208,7 @@ module _ (layers disk bench sink : Type 0) (files : Files) (request : RunRequest
       by (status.Unsteady pn task held given) n e = n e
       by (status.Limit kind) n e = n e
       by status.OutOfMemory n e = n e
+      by status.MirrorFault n e = n e
   behind_read status.Ok t not = not
   behind_read status.Usage t not = not
   behind_read (status.Metadata file line kind detail) t not = not
@@ -214,6 +220,7 @@ module _ (layers disk bench sink : Type 0) (files : Files) (request : RunRequest
   behind_read (status.Unsteady pn task held given) t not = not
   behind_read (status.Limit kind) t not = not
   behind_read status.OutOfMemory t not = not
+  behind_read status.MirrorFault t not = not
 
   pub parts_read : (parts : List ConfigTargets) (ends : List PartEnd) (before now : Standing) → AreReached request.options.keep_going parts ends → AreParts layers disk bench sink files request ends before now → status_of request.options.keep_going (map (λ (e : PartEnd). e.status) ends) ≢ status.Usage
   parts_read parts [] before now reached each = λ e. (let h : status.Ok ≡ status.Usage = e in cc)

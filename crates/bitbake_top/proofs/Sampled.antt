@@ -48,6 +48,7 @@ alone layers bench sink no_layers no_bench no_sink (status.Collision name held g
 alone layers bench sink no_layers no_bench no_sink (status.Unsteady pn task held given) c = c
 alone layers bench sink no_layers no_bench no_sink (status.Limit kind) c = c
 alone layers bench sink no_layers no_bench no_sink status.OutOfMemory c = c
+alone layers bench sink no_layers no_bench no_sink status.MirrorFault c = absurd c
 
 pub may_end : {A : Type 0} (xs ys : List A) (s : Status) → HasCause (Rose 0 0) 0 (SomeRose (map nought xs) (map nought ys)) (Rose 0 0) s → s ≢ status.Usage → MayEnd s
 may_end xs ys s cause read = record { cause = alone (Rose 0 0) (SomeRose (map nought xs) (map nought ys)) (Rose 0 0) no_rise (none_of xs ys) no_rise s cause; read = read }
@@ -66,6 +67,7 @@ weaker layers bench sink disk (status.Collision name held given) c = c
 weaker layers bench sink disk (status.Unsteady pn task held given) c = c
 weaker layers bench sink disk (status.Limit kind) c = c
 weaker layers bench sink disk status.OutOfMemory c = c
+weaker layers bench sink disk status.MirrorFault c = absurd c
 
 -- ---- the line of a run that wasn't well
 
@@ -83,6 +85,7 @@ line_behind size p q t u (status.Collision name held given) text other l = l
 line_behind size p q t u (status.Unsteady pn task held given) text other l = l
 line_behind size p q t u (status.Limit kind) text other l = l
 line_behind size p q t u status.OutOfMemory text other l = l
+line_behind size p q t u status.MirrorFault text other l = l
 
 -- ---- what is written
 
@@ -108,6 +111,7 @@ said_failed size plans tales (status.Collision name held given) text base now be
 said_failed size plans tales (status.Unsteady pn task held given) text base now before after line c rose says front = (text, line, says)
 said_failed size plans tales (status.Limit kind) text base now before after line c rose says front = (text, line, says)
 said_failed size plans tales status.OutOfMemory text base now before after line c rose says front = (text, line, says)
+said_failed size plans tales status.MirrorFault text base now before after line c rose says front = (text, line, says)
 
 said_well : (size : ℕ) (plans : List Plan) (tales : List (List Logged)) (s : Status) (text base now : List ℕ) (before after : ℕ) → IsLine size plans tales s text → HasCause ⊥ 0 ⊥ ⊥ s → now ≡ base ++ text → SaysSample size plans tales (answered status.Ok s) base now before after
 said_well size plans tales status.Ok text base now before after line c whole = (text, line, whole)
@@ -122,6 +126,7 @@ said_well size plans tales (status.Collision name held given) text base now befo
 said_well size plans tales (status.Unsteady pn task held given) text base now before after line c whole = (text, line, inl whole)
 said_well size plans tales (status.Limit kind) text base now before after line c whole = (text, line, inl whole)
 said_well size plans tales status.OutOfMemory text base now before after line c whole = (text, line, inl whole)
+said_well size plans tales status.MirrorFault text base now before after line c whole = (text, line, inl whole)
 
 pub said_sample : (size : ℕ) (plans : List Plan) (tales : List (List Logged)) (s : Status) (text base now : List ℕ) (before after : ℕ) (printed : Status) → IsLine size plans tales s text → MayEnd s → Printed text base now before after printed
     → SaysSample size plans tales (answered printed s) base now before after
@@ -143,6 +148,7 @@ read_failed (status.Collision name held given) read e = read e
 read_failed (status.Unsteady pn task held given) read e = read e
 read_failed (status.Limit kind) read e = read e
 read_failed status.OutOfMemory read e = read e
+read_failed status.MirrorFault read e = read e
 
 -- the status is this one either way
 pub either_way : (s t : Status) → (s ≡ t) ⊎ (s ≡ t) → s ≡ t

@@ -42,6 +42,7 @@ reads status.DiskFault e = absurd (false≢true e)
 reads status.BenchFault e = absurd (false≢true e)
 reads (status.Collision name held given) e = absurd (false≢true e)
 reads (status.Unsteady pn task held given) e = absurd (false≢true e)
+reads status.MirrorFault e = absurd (false≢true e)
 
 no_write : (s : Status) → is_refusal s ≡ true → s ≡ status.WriteFault → ⊥
 no_write s refusal e = false≢true (subst (λ (x : Status). is_refusal x ≡ true) e refusal)
@@ -59,6 +60,7 @@ only_ok (status.Collision name held given) e = absurd (false≢true e)
 only_ok (status.Unsteady pn task held given) e = absurd (false≢true e)
 only_ok (status.Limit kind) e = absurd (false≢true e)
 only_ok status.OutOfMemory e = absurd (false≢true e)
+only_ok status.MirrorFault e = absurd (false≢true e)
 
 module _ (layers sink : Type 0) (what : ShowMode) (files : Files) (part : ConfigTargets) where
   abbrev Is : Status → Standing → Standing → Type 0

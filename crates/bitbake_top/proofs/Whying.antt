@@ -31,6 +31,7 @@ planned_why status.TaskFailed files paths request is planned = absurd is
 planned_why status.Usage files paths request is planned = absurd is
 planned_why status.BenchFault files paths request is planned = absurd is
 planned_why (status.Unsteady pn task held given) files paths request is planned = absurd is
+planned_why status.MirrorFault files paths request is planned = absurd is
 
 -- a refusal is answered as it is
 refusal_why : (s : Status) (files : Files) (paths : List (List ℕ)) (request : RunRequest) → is_refusal s ≡ true → IsUnrun files paths request s → HasWhy s files paths request
@@ -50,6 +51,7 @@ refusal_why status.DiskFault files paths request refusal unrun = absurd (false�
 refusal_why status.BenchFault files paths request refusal unrun = absurd (false≢true refusal)
 refusal_why (status.Collision name held given) files paths request refusal unrun = absurd (false≢true refusal)
 refusal_why (status.Unsteady pn task held given) files paths request refusal unrun = absurd (false≢true refusal)
+refusal_why status.MirrorFault files paths request refusal unrun = absurd (false≢true refusal)
 
 pub refused_why : (s t : Status) (files : Files) (paths : List (List ℕ)) (request : RunRequest) → is_refusal s ≡ true → IsUnrun files paths request s → (t ≡ s) ⊎ (t ≡ status.OutOfMemory) → HasWhy t files paths request
 refused_why s t files paths request refusal unrun (inl same) = subst (λ (x : Status). HasWhy x files paths request) (sym same) (refusal_why s files paths request refusal unrun)

@@ -95,7 +95,8 @@ pub opened_alone : (gives : Gives) (book : Book) (before after : Story) (plan : 
 opened_alone gives book before after plan options tale s fresh p = record {
   again = book;
   same = same_lines book;
-  restored = 0;
+  restored = [];
+  few = omega arith;
   others = λ image since t task at untouched. cleared_alone book before.held image task (opening_clears before after image fresh p since);
   objects = λ image since line has none q below. (opening_clears before after image fresh p since).left q (inl (object_elsewhere line.unihash q below));
   paths = λ image since q left aside. (opening_clears before after image fresh p since).left q left;
@@ -105,10 +106,10 @@ opened_alone gives book before after plan options tale s fresh p = record {
 
 module _ (o : Opening) (book : Book) (before : Store) (rows : List EquivRow) (opened : IsOpened before o.story.held rows) (same : HaveSameLines book o.book) (plan : Plan) (options : Options) (tale : List Logged) (s : Status) (story : Story) (k : KeptTo o plan options tale s story) (left : BreaksLast k.last.tale) where
   abbrev Touched : ℕ → Type 0
-  Touched = MayTouch o.gives o.book before k.last.plan k.last.options k.last.tale s k.run.halted
+  Touched = MayTouch o.gives o.book before k.last.plan k.last.options k.last.tale s k.last.restoring
 
   abbrev Published : ℕ → Type 0
-  Published = MayPublish o.gives o.book before k.last.plan k.last.options k.last.tale s k.run.halted
+  Published = MayPublish o.gives o.book before k.last.plan k.last.options k.last.tale s k.last.restoring
 
   -- a fault is kept only under the status of one
   faulty : IsSome k.last.fault → is_faultless s ≡ false
@@ -132,7 +133,7 @@ module _ (o : Opening) (book : Book) (before : Store) (rows : List EquivRow) (op
 
   -- the run may have touched what was begun
   touched : (t : ℕ) → IsBegunIn k.last.begun t → Touched t
-  touched t b = elim (told_at_end o k.last k.run.halted t k.none (k.run.told t b)) [
+  touched t b = elim (told_at_end o k.last t k.none k.hands (k.run.told t b)) [
     | inl up ↦ inl up
     | inr it ↦ inr (record { faulty = faulty it.0; begun = elim it.1 [ inl broken ↦ inl (broke_last k.last.tale t left broken) | inr was ↦ inr (was.0, had_object t was.1) ] })
   ]
@@ -175,7 +176,8 @@ module _ (o : Opening) (book : Book) (before : Store) (rows : List EquivRow) (op
   last_others early = record {
     again = o.book;
     same = same;
-    restored = k.run.halted;
+    restored = k.last.restoring;
+    few = k.few;
     others = λ image since t task at untouched. elim (k.run.images 0 image (omega arith) since) [
       | inl was ↦ cleared_alone book before image task (early image was)
       | inr left ↦ begun_alone image task (left.others t task at (λ b. untouched (touched t b)))

@@ -1,6 +1,7 @@
 -- What a run that has begun leaves.
-use Rattle.std.proofs.Common.{append-nil, ◌≡◌, ◌≢◌, ◌∙◌, sym, ap, subst, refl, ℕ, List, [], Bool, true, false, Some, None, inl, inr}
-use Rattle.std.specs.Prelude.{◌⊎◌, Option, IsSome}
+use Rattle.std.proofs.Common.{append-nil, ◌≡◌, ◌≢◌, ◌∙◌, sym, ap, subst, refl, arith, ℕ, ◌≤◌, List, [], length, Bool, true, false, Some, None, inl, inr}
+use Rattle.std.specs.Prelude.{◌⊎◌, Contains, Option, IsSome, is_some}
+use Rattle.run_queue.specs.Flights.{OpenTask}
 use Rattle.std.proofs.lemmas.Bool.{false≢true}
 use Rattle.std.proofs.lemmas.List.{append_cancel_left}
 use Rattle.outside_traits.specs.Story.{Story}
@@ -282,19 +283,30 @@ none_kept sink (Some f) h failed s (inr (inl is)) e = absurd (false≢true (sym 
 none_kept sink (Some f) h failed s (inr (inr is)) e = absurd (false≢true (sym (ap is_faultless is.0) ∙ e))
 
 pub kept_to : {D W : Type 0} (story : D → Story) (written : W → List ℕ) (o : Opening) (old last : RunView D W) (disk : D) (tale : List Logged) (s : Status)
-    → SameRun old last → disk ≡ last.store.disk → tale ≡ last.tale → (is_faultless s ≡ true → last.fault ≡ None) → EachAfter (IsOrderly last.plan.tasks) last.tale → NoneRuns (fates_of last) → (last.fault ≡ None → NothingOpen last.store.opened → HasNoLitter (story last.store.disk).held) → IsRun o (seen story written last) → KeptTo o old.plan old.options tale s (story disk)
-kept_to story written o old last disk tale s same disk_is tale_is faultless orderly none sweeps run = record {
+    → SameRun old last → disk ≡ last.store.disk → tale ≡ last.tale → (is_faultless s ≡ true → last.fault ≡ None) → EachAfter (IsOrderly last.plan.tasks) last.tale → NoneRuns (fates_of last) → (last.restoring ≡ []) ⊎ IsSome last.fault → length last.restoring ≤ last.plan.threads → (last.fault ≡ None
+    → NothingOpen last.store.opened → HasNoLitter (story last.store.disk).held) → IsRun o (seen story written last) → KeptTo o old.plan old.options tale s (story disk)
+kept_to story written o old last disk tale s same disk_is tale_is faultless orderly none hands few sweeps run = record {
   last = seen story written last;
   run = run;
   orderly = orderly;
   none = none;
+  hands = hands;
+  few = few;
   plan_is = same.plan;
   options_are = same.options;
   tale_is = sym tale_is;
   story_is = ap story (sym disk_is);
   faultless = faultless;
-  swept = λ kept. sweeps kept ((ends_with_nothing o last.plan last.tale run.opened (run.flights kept) none).1 last.store.opened (run.open_are kept));
+  swept = λ kept. sweeps kept ((ends_with_nothing o last.plan last.tale run.opened (run.flights kept) none).1 run.mends last.store.opened (λ folder. none_mended kept folder (run.mends folder) refl) (run.open_are kept));
 }
+  where
+    -- a restoring would be of a task in hand
+    none_mended : last.fault ≡ None → (folder : List ℕ) (x : Option OpenTask) → run.mends folder ≡ x → run.mends folder ≡ None
+    none_mended kept folder None is = is
+    none_mended kept folder (Some one) is = elim hands [
+      | inl empty ↦ absurd (let c = subst (λ (l : List ℕ). Contains l ((run.mending kept).each folder one is).number) empty ((run.mending kept).each folder one is).among in let lt = c.1 in omega (arith, lt))
+      | inr some ↦ absurd (false≢true (sym (ap is_some kept) ∙ some))
+    ]
 
 -- what the bench ran for the tale that went on
 pub ran_on : (gives : Gives) (plan : Plan) (h : Halt) (old tale new : List Logged) (before now : Runs) → tale ≡ new → Drove gives plan (Some h) old new before now → RanOn gives plan old tale before now

@@ -4,6 +4,7 @@ pub mod Turning
 pub mod Driving
 pub mod Closings
 pub mod Halting
+pub mod Restoring
 pub mod Failed
 pub mod Outcomes
 pub mod Reports

@@ -192,6 +192,7 @@ ended_exactly disk bench sink clean (status.Collision name held given) may stead
 ended_exactly disk bench sink clean (status.Unsteady pn task held given) may steady both disk_none bench_none sink_none memory alone = absurd (false≢true (sym steady))
 ended_exactly disk bench sink clean (status.Limit kind) may steady both disk_none bench_none sink_none memory alone = absurd may
 ended_exactly disk bench sink clean status.OutOfMemory may steady both disk_none bench_none sink_none memory alone = absurd (memory refl)
+ended_exactly disk bench sink clean status.MirrorFault may steady both disk_none bench_none sink_none memory alone = absurd may
 
 -- what is a cause of less is one of more
 pub wider_cause : (disk : ℕ) (bench more_bench sink more_sink : Type 0) (s : Status) → (bench → more_bench) → (sink → more_sink) → MayEndSo disk bench sink s → MayEndSo disk more_bench more_sink s
@@ -207,6 +208,7 @@ wider_cause disk bench more_bench sink more_sink (status.Collision name held giv
 wider_cause disk bench more_bench sink more_sink (status.Unsteady pn task held given) b k cause = cause
 wider_cause disk bench more_bench sink more_sink (status.Limit kind) b k cause = absurd cause
 wider_cause disk bench more_bench sink more_sink status.OutOfMemory b k cause = cause
+wider_cause disk bench more_bench sink more_sink status.MirrorFault b k cause = absurd cause
 
 -- a run that its store refused ended by no bench that failed
 pub refused_bench : (sink : Type 0) (f : StoreFault) (s : Status) → EndsBy sink (status_of f) s → s ≢ status.BenchFault

@@ -17,6 +17,8 @@ use Rattle.run_queue.specs.Turns.{Marks, fates_of}
 use Rattle.run_queue.specs.declared.fault.RunFault.{RunFault}
 use Rattle.run_workers.specs.declared.worker.Halt.{Halt}
 use Rattle.run_workers.specs.declared.worker.Halt.TheVariants as halts
+use Rattle.run_queue.specs.declared.state.Claim.{Claim}
+use Rattle.run_queue.specs.declared.state.Claim.TheVariants as claim
 use Rattle.run_workers.specs.Runs.{RanSoFar, ScriptsSoFar, by_bench}
 use Rattle.run_model.specs.Runs.{Runs}
 use Rattle.run_model.specs.Seats.{is_bench_break, is_break}
@@ -137,6 +139,15 @@ fault_once (Some f) = 0
 -- How far a run is from its end, at most: each turn but the last one settles a task, or keeps the first fault.
 abbrev pub left_over : {D W : Type 0} → RunView D W → ℕ
 left_over s = 2 * waiting_count (fates_of s) + fault_once s.fault
+
+-- what the calling thread does by itself: it waits for nobody, and what it is to restore it restores
+abbrev pub IsTaken : Claim → Type 0
+IsTaken (claim.Run job) = Unit {0}
+IsTaken (claim.Settled t) = Unit {0}
+IsTaken (claim.Restore t) = ⊥
+IsTaken claim.Wait = ⊥
+IsTaken claim.Finished = Unit {0}
+IsTaken claim.Stopped = Unit {0}
 
 -- Why a run halted. Where its bench failed, a task broke off by that, or a fault is kept.
 abbrev pub IsHalted : {D W : Type 0} → RunView D W → Halt → Type 0

@@ -1,5 +1,5 @@
 // The turns of a run on the calling thread, under seat 0.
-ghost use Rattle.std.specs.Prelude.{◌≡◌, ◌<◌, ◌≤◌, ◌⊎◌, ℕ, List, IfSome, IsSome, MatchOption, None, Some, false};
+ghost use Rattle.std.specs.Prelude.{◌≡◌, ◌<◌, ◌≤◌, ◌⊎◌, ℕ, Contains, List, IfOk, IfSome, IsSome, MatchOption, None, Ok, Some, false};
 ghost use Rattle.outside_traits.specs.Fault.{Counts};
 ghost use Rattle.meta_model.specs.declared.event.Logged.{Logged as Entry};
 ghost use Rattle.tale_model.specs.Fates.{NoneRuns};
@@ -7,16 +7,16 @@ ghost use Rattle.task_worker.specs.Jobs.{IsGiven, ran_job};
 ghost use Rattle.run_model.specs.Opening.{Opening};
 ghost use Rattle.run_queue.specs.Seen.{seen};
 ghost use Rattle.run_queue.specs.Keeps.{IsRun, IsSteady, KeepsCount, KeepsFront, PrintsOn};
-ghost use Rattle.run_queue.specs.Turns.{IsCleanJob, IsGivenBy, RunsUnder, SameRun, fates_of};
+ghost use Rattle.run_queue.specs.Turns.{AreHandsFree, Claims, ClaimsClean, IsCleanJob, IsGivenBy, RunsUnder, SameRun, fates_of};
 ghost use Rattle.run_model.specs.Runs.{Runs};
 ghost use Rattle.run_workers.specs.Runs.{by_bench};
 ghost use Rattle.run_model.specs.Seats.{own};
 ghost use Rattle.run_workers.specs.Worked.{BrokeOff};
-ghost use Rattle.build_resume.specs.Drive.{BreaksBy, Broken, ClosesAlone, Drove, GoesOnBehind, Grows, IsHalted, RanSaid, left_over};
+ghost use Rattle.build_resume.specs.Drive.{BreaksBy, Broken, ClosesAlone, Drove, GoesOnBehind, Grows, IsHalted, IsTaken, RanSaid, left_over};
 
 use meta_model::Cut;
 use outside_traits::{Bench, Disk, Sink};
-use run_queue::{Claim, Ending, RunState};
+use run_queue::{Claim, Ending, Mending, RunState};
 use run_workers::Halt;
 use std::alloc::Global;
 use std::sync::Wait;
@@ -121,6 +121,71 @@ fn do_alone<D: Disk, B: Bench, W: Sink, R: Wait>(
     }
 }
 
+/// Takes turns until a task that is to be restored is so, or a fault is kept. Where a turn asks for a wait the next one syncs by itself.
+fn restore_alone<D: Disk, W: Sink, R: Wait>(
+    rt: &R,
+    alloc: Global,
+    state: &mut RunState<D, W>,
+    task: u32,
+) -> Claim
+    requires reach { 3600 ≤ D.reach }
+    requires none { NoneRuns (fates_of state.old) }
+    requires hand { Contains state.old.restoring task }
+    ensures claims { Claims 0 state.old state.new (Ok result) }
+    ensures ends { (result ≡ Claim.Settled task) ⊎ (result ≡ Claim.Stopped) }
+    ensures same { SameRun state.old state.new }
+    ensures fault { IsSome state.old.fault → state.new.fault ≡ state.old.fault }
+    ensures sink { KeepsCount W.faults state.old state.new }
+    ensures text { W.tells → PrintsOn W.written state.old state.new }
+    ensures stays { W.tells → KeepsFront W.written state.old state.new }
+    ensures steady { IsSteady state.old.fault → IsSteady state.new.fault }
+    ensures run { D.tells → (o : Opening) → IsRun o (seen D.story W.written state.old)
+        → IsRun o (seen D.story W.written state.new) }
+{
+    for _ in rt.forever() {
+        match state.restore_turn(alloc, 0, task, false) {
+            Mending::More | Mending::Wait => {}
+            Mending::Closed => return Claim::Settled(task),
+            Mending::Stopped => return Claim::Stopped,
+        }
+    }
+    unreachable!()
+}
+
+/// What the seat is to do next. A task that is to be restored is so. To wait is for no other seat, since no task runs: where the state says so, which can't come
+/// in a run of workers, want of memory is kept as a fault.
+fn claim_alone<D: Disk, W: Sink, R: Wait>(
+    rt: &R,
+    alloc: Global,
+    state: &mut RunState<D, W>,
+) -> Result<Claim, Mem>
+    requires reach { 3600 ≤ D.reach }
+    requires none { NoneRuns (fates_of state.old) }
+    ensures claims { Claims 0 state.old state.new result }
+    ensures taken { IfOk result IsTaken }
+    ensures stops { IsSome state.old.fault → result ≡ Ok Claim.Stopped }
+    ensures same { SameRun state.old state.new }
+    ensures rests { IsSome state.old.fault → state.new.fault ≡ state.old.fault }
+    ensures sink { KeepsCount W.faults state.old state.new }
+    ensures text { W.tells → PrintsOn W.written state.old state.new }
+    ensures stays { W.tells → KeepsFront W.written state.old state.new }
+    ensures steady { IsSteady state.old.fault → IsSteady state.new.fault }
+    ensures run { D.tells → (o : Opening) → IsRun o (seen D.story W.written state.old)
+        → IsRun o (seen D.story W.written state.new) }
+    ensures clean { D.tells → (o : Opening) → IsRun o (seen D.story W.written state.old)
+        → ClaimsClean o state.old.ends_wait (seen D.story W.written state.old) result }
+{
+    match state.claim(alloc, 0) {
+        Ok(Claim::Restore(task)) => Ok(restore_alone(rt, alloc, state, task)),
+        Ok(Claim::Wait) => {
+            state.close_restorings();
+            Ok(Claim::Stopped)
+        }
+        Ok(claim) => Ok(claim),
+        Err(Mem) => Err(Mem),
+    }
+}
+
 /// One turn of the seat, and the job that it was given, if it was. `None`: there may be more to do.
 fn turn<D: Disk, B: Bench, W: Sink, R: Wait>(
     rt: &R,
@@ -152,7 +217,7 @@ fn turn<D: Disk, B: Bench, W: Sink, R: Wait>(
         → IsRun o (seen D.story W.written state.old) → IsSteady state.old.fault → IsSteady state.new.fault }
 {
     state.kept();
-    match state.claim(alloc, 0) {
+    match claim_alone(rt, alloc, state) {
         Ok(Claim::Run(job)) => {
             state.kept();
             let halt = do_alone(rt, alloc, state, bench, job);
@@ -163,7 +228,7 @@ fn turn<D: Disk, B: Bench, W: Sink, R: Wait>(
             state.kept();
             None
         }
-        Ok(Claim::Wait) => unreachable!(),
+        Ok(Claim::Wait) | Ok(Claim::Restore(_)) => unreachable!(),
         Ok(Claim::Finished) => Some(Halt::Finished),
         Ok(Claim::Stopped) => Some(Halt::Stopped),
         Err(Mem) => Some(Halt::Memory),
@@ -171,7 +236,7 @@ fn turn<D: Disk, B: Bench, W: Sink, R: Wait>(
 }
 
 /// Takes turns until nothing more is done.
-pub(crate) fn drive<D: Disk, B: Bench, W: Sink, R: Wait>(
+fn take_turns<D: Disk, B: Bench, W: Sink, R: Wait>(
     rt: &R,
     alloc: Global,
     state: &mut RunState<D, W>,
@@ -204,4 +269,39 @@ pub(crate) fn drive<D: Disk, B: Bench, W: Sink, R: Wait>(
             return halt;
         }
     }
+}
+
+/// Takes turns until nothing more is done. Then nothing is being restored, or a fault is kept.
+pub(crate) fn drive<D: Disk, B: Bench, W: Sink, R: Wait>(
+    rt: &R,
+    alloc: Global,
+    state: &mut RunState<D, W>,
+    bench: &mut B,
+) -> Halt
+    requires reach { 3600 ≤ D.reach }
+    requires none { NoneRuns (fates_of state.old) }
+    ensures same { SameRun state.old state.new }
+    ensures grows { Grows (Some result) state.old.tale state.new.tale }
+    ensures broken { Broken (Unit {0}) state.old.tale state.new.tale }
+    ensures halted { IsHalted state.new result }
+    ensures none { NoneRuns (fates_of state.new) }
+    ensures hands { AreHandsFree state.new }
+    ensures sink { KeepsCount W.faults state.old state.new }
+    ensures text { W.tells → PrintsOn W.written state.old state.new }
+    ensures printed { W.tells → B.tells → (from : List Entry) (base : List ℕ) (before : Runs)
+        → RanSaid state.old.plan None state.old.fault from state.old.tale before (B.place bench.old).runs base
+        (W.written state.old.sink) → RanSaid state.old.plan (Some result) state.new.fault from state.new.tale before
+        (B.place bench.new).runs base (W.written state.new.sink) }
+    ensures gives { B.gives bench.new ≡ B.gives bench.old }
+    ensures cause { Counts (B.faults bench.old) (B.faults bench.new) (by_bench (Some result)) }
+    ensures run { D.tells → B.tells → (o : Opening) → o.gives ≡ B.gives bench.old
+        → IsRun o (seen D.story W.written state.old) → IsRun o (seen D.story W.written state.new)
+        × Drove (B.gives bench.old) state.old.plan (Some result) state.old.tale state.new.tale
+        (B.place bench.old).runs (B.place bench.new).runs }
+    ensures steady { D.tells → B.tells → (o : Opening) → o.gives ≡ B.gives bench.old
+        → IsRun o (seen D.story W.written state.old) → IsSteady state.old.fault → IsSteady state.new.fault }
+{
+    let halt = take_turns(rt, alloc, state, bench);
+    state.close_restorings();
+    halt
 }

@@ -1,4 +1,5 @@
 pub mod Apart
+pub mod Shared
 pub mod AsideRuns
 pub mod Drafted
 pub mod Finished
@@ -53,3 +54,4 @@ pub mod Opened
 pub mod Stepped
 pub mod Positions
 pub mod Invariant
+pub mod RestoringOpens

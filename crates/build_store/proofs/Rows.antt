@@ -6,7 +6,7 @@ use Rattle.sha2.specs.Sha256.{sha256}
 use Rattle.tree_model.specs.declared.hash.Hash.{Hash}
 use Rattle.store_model.specs.declared.signature.EquivRow.{EquivRow}
 use Rattle.store_model.specs.Rows.{hash_eq, row_at}
-use Rattle.store_model.specs.Spelling.{key_part, short_part, signature_bytes, text_name, whole_text}
+use Rattle.store_model.specs.Spelling.{key_part, short_part, text_name, whole_text}
 use Rattle.store_model.proofs.Listing.{find_splits, hash_same}
 use Rattle.store_model.proofs.Ordered.{each_middle}
 use Rattle.hash_equiv.specs.Index.{IsNameIn}
@@ -17,7 +17,7 @@ use Rattle.build_store.specs.declared.fault.StoreFault.TheVariants as fault
 use Rattle.build_store.specs.Faults.{IsClash, IsOtherSignature, IsTelling}
 use Rattle.store_model.specs.Readable.{IsRow}
 use Rattle.store_opening.proofs.Sorted.{each_at}
-use Rattle.build_store.proofs.Texts.{key_digest_too, row_key, row_name, row_short, text_key_bytes, text_name_is, text_parts, text_short}
+use Rattle.build_store.proofs.Texts.{row_key, row_name, row_short, text_name_is}
 
 -- what each row has, the row of a name has
 pub row_has : (P : EquivRow → Type 0) (rows : List EquivRow) (name : Hash) (row : EquivRow) → AllByRecursion P rows → row_at rows name ≡ Some row → P row

@@ -5,7 +5,8 @@ use Rattle.outside_traits.specs.Story.{Story}
 use Rattle.meta_model.specs.CleanBuild.{Entries}
 use Rattle.tree_model.specs.declared.hash.Hash.{Hash}
 use Rattle.store_model.specs.declared.signature.EquivRow.{EquivRow}
-use Rattle.store_model.specs.Available.{task_folder}
+use Rattle.store_model.specs.Available.{IsStored, task_folder}
+use Rattle.tree_model.specs.Manifest.{manifest_lines}
 use Rattle.store_model.specs.Readable.{IsReadable}
 use Rattle.store_model.specs.Signatures.{Signed}
 use Rattle.store_model.specs.Spelling.{name_of, signature_bytes}
@@ -13,8 +14,8 @@ use Rattle.build_store.specs.declared.step.Step.{Step}
 use Rattle.build_store.specs.declared.step.Step.TheVariants as step
 use Rattle.store_model.specs.Clashes.{KeysAgree}
 use Rattle.build_store.specs.Keys.{keys_with}
-use Rattle.build_store.specs.Publication.{IsAgreed, IsPublished, line_for, object_for, publication, rows_with, unihash_for}
-use Rattle.build_store.specs.View.{OpenView, OpenViews, SameBooks, View, kept_with, kept_without, opened_at}
+use Rattle.build_store.specs.Publication.{IsAgreed, IsObjectOf, IsPublished, line_for, object_for, publication, rows_with, unihash_for}
+use Rattle.build_store.specs.View.{OpenView, OpenViews, SameBooks, View, kept_with, kept_without, opened_at, unshared}
 
 -- the publication of a task with its signature, which gave this tree, as contracts see it
 abbrev pub open_view : Signed → Entries → OpenView
@@ -83,6 +84,15 @@ module _ {D : Type 0} (old new : View D) (s : Signed) where
   StepsTo step.More = GoesOn
   StepsTo step.Wait = GoesOn
   StepsTo (step.Done unihash) = Lands unihash
+
+-- The restoring of a task was opened: what is put is the tree of its object, by the row of its record.
+pub record OpensRestoring {D : Type 0} (tells : Type 0) (story : D → Story) (old new : View D) (s : Signed) : Type 0 where
+  pub row : EquivRow
+  pub tree : Entries
+  pub opens : OpensTask old new (unshared s) tree
+  pub stored : IsStored old.rows s row
+  pub manifest : row.manifest ≡ manifest_lines tree
+  pub object : tells → IsObjectOf (story old.disk).held old.rows s row tree
 
 -- the step led on, and more is left
 abbrev pub IsGoing : Step → Type 0

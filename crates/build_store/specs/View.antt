@@ -1,5 +1,5 @@
 -- What contracts see of a store.
-use Rattle.std.specs.Prelude.{◌≡◌, ◌⊎◌, ◌&&◌, ℕ, Bool, not, List, [], ◌∷◌, ◌++◌, filter, find, map, if◌then◌else◌, Option, None}
+use Rattle.std.specs.Prelude.{◌≡◌, ◌⊎◌, ◌&&◌, ℕ, Bool, false, not, List, [], ◌∷◌, ◌++◌, filter, find, map, if◌then◌else◌, Option, None}
 use Rattle.std.specs.List.{list_any}
 use Rattle.std.specs.Option.{is_some}
 use Rattle.std.specs.Str.{bytes_eq}
@@ -73,6 +73,18 @@ pub record SameRows {D : Type 0} (old new : View D) : Type 0 where
 -- a task with its signature
 abbrev pub signed_by : PlanTask → SigRecord → Signed
 signed_by task sig = record { task = task; sig = sig }
+
+-- the task as one whose output is kept as an object, or not
+abbrev pub as_shared : Bool → PlanTask → PlanTask
+as_shared shared of = record of { sstate = shared }
+
+-- A task with its signature, where an object is written, or not: one that is restored is as one without an object.
+abbrev pub signed_as : Bool → PlanTask → SigRecord → Signed
+signed_as shared of sig = record { task = as_shared shared of; sig = sig }
+
+-- the same as one without an object
+abbrev pub unshared : Signed → Signed
+unshared s = record { task = as_shared false s.task; sig = s.sig }
 
 abbrev pub is_kept_for : List ℕ → List ℕ → KeptSig → Bool
 is_kept_for pn task kept = bytes_eq kept.pn pn && bytes_eq kept.task task

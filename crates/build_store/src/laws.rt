@@ -2,6 +2,7 @@
 ghost use Rattle.build_store.specs.Ending.{NowIsTicket, PhasesEnd, PhasesStay, RecordGoesOn, StagedAtFirst, StampGoesOn};
 ghost use Rattle.build_store.specs.Laws.{OthersInWorkStay, OthersObjectsStay, OthersStay, OthersUntouched, PublishedIsValid};
 ghost use Rattle.build_store.specs.OpenTasks.{OpenTasksStay};
+ghost use Rattle.build_store.specs.Restoring.{RestoringIsPublishing};
 ghost use Rattle.build_store.specs.Pieces.{FinishesIsPublishing, HalvesStay, InARow, MayBeWritten, NotedIsHalf, OpenOnesStay, OpensIsPublishing, OthersKeepPut, PublicationStays, StepGoesOn, WholeAtLast, WorksIsPublishing};
 
 /// At each moment of a publication a valid store is valid, with the same book or with the publication's line behind it.
@@ -55,4 +56,9 @@ pub fn phases_lead_on()
     ensures record { RecordGoesOn }
     ensures stamp { StampGoesOn }
     ensures last { PhasesEnd }
+{}
+
+/// A restoring is the publication of the same task as one without an object, whose record is stored.
+pub fn restoring_law()
+    ensures { RestoringIsPublishing }
 {}

@@ -14,6 +14,10 @@
 //! signature, so no task is kept. With `Done` the folders hold exactly the tree, in every image, and the stamp names the record; the row is
 //! added then.
 //!
+//! A restoring may go in pieces, too: `restore_open` reads the object and compares it, and opens the publication of the same task as one without
+//! an object, whose record is stored (`restoring_law`); `restore_step` goes on with it. So what is kept of open publications, and what follows for
+//! them, is so of restorings: they may be open beside each other and beside publications. `restore` does the same in one call, with syncs of its own.
+//!
 //! Promised of each call, whatever it answers, want of memory and a failed disk included: what it did to each image that a crash left
 //! since its entry (`Passes`). At each moment it is a publication (`IsPublishing`): it changes just its own paths (the task's work folder,
 //! stamp and record, the key that it writes, the object of its unihash, and where it stages under `tmp/`), takes no record away, and its stamp
@@ -83,7 +87,8 @@ pub use fault::StoreFault;
 pub use finding::available;
 pub use kept::KeptSig;
 pub use laws::{
-    open_ones_stay, others_stay, phases_lead_on, pieces_publish, published_is_valid, steps_lead_on,
+    open_ones_stay, others_stay, phases_lead_on, pieces_publish, published_is_valid, restoring_law,
+    steps_lead_on,
 };
 pub use refused::OpenRefused;
 pub use step::Step;

@@ -11,7 +11,7 @@ ghost use Rattle.store_model.specs.Spelling.{signature_bytes};
 ghost use Rattle.sig_gen.specs.Sound.{Spells};
 ghost use Rattle.build_store.specs.Openings.{IsOpen};
 ghost use Rattle.build_store.specs.Standing.{StandsAt, meets, objects_meet};
-ghost use Rattle.build_store.specs.View.{open_in, signed_by};
+ghost use Rattle.build_store.specs.View.{open_in, signed_as};
 
 use crate::pieces::OpenPublication;
 use meta_model::PlanTask;
@@ -49,31 +49,39 @@ pub(crate) fn place_of(open_ones: &[OpenPublication], task: &PlanTask) -> Option
         .position(|one| is_folder_of(one.folder.as_str(), task))
 }
 
-/// Whether the publication has this signature, and an object just where the task is of the shared state.
-fn is_signed(one: &OpenPublication, task: &PlanTask, sig: &SigText) -> bool
-    ensures is { IsTrue result → (one.now.sig ≡ sig.now) × (is_some one.now.object ≡ task.now.sstate) }
-    ensures tells { one.now.sig ≡ sig.now → is_some one.now.object ≡ task.now.sstate → IsTrue result }
-{
-    one.sig.is_same(sig) && one.object.is_some() == task.sstate
+/// Whether one of them is of the task, and has a new record that names the output of another one.
+pub(crate) fn is_elsewhere(open_ones: &[OpenPublication], task: &PlanTask) -> bool {
+    open_ones.iter().any(|one| {
+        is_folder_of(one.folder.as_str(), task) && one.new.is_some() && one.unihash != one.name
+    })
 }
 
-/// The place of the publication of a task that has this signature, if it is open.
+/// Whether the publication has this signature, and an object just where it is to write one.
+fn is_signed(one: &OpenPublication, sig: &SigText, shared: bool) -> bool
+    ensures is { IsTrue result → (one.now.sig ≡ sig.now) × (is_some one.now.object ≡ shared) }
+    ensures tells { one.now.sig ≡ sig.now → is_some one.now.object ≡ shared → IsTrue result }
+{
+    one.sig.is_same(sig) && one.object.is_some() == shared
+}
+
+/// The place of the publication of a task that has this signature, and writes an object or not, if it is open.
 pub(crate) fn place_signed(
     alloc: Global,
     open_ones: &[OpenPublication],
     task: &PlanTask,
     sig: &SigRecord,
+    shared: bool,
 ) -> Result<Option<usize>, Mem>
     ensures within { IfOk result (λ found. IfSome found (λ place. place < length open_ones.now)) }
-    ensures stands { IfOk result (λ found. IfSome found (StandsAt (signed_by task.now sig.now) open_ones.now)) }
+    ensures stands { IfOk result (λ found. IfSome found (StandsAt (signed_as shared task.now sig.now) open_ones.now)) }
     ensures spells { IfOk result (λ found. OnSome found (IsSpelled sig.now → Spells (signature_bytes sig.now) sig.now)) }
     ensures none { IfOk result (λ found. IfNone found ((tree : Entries)
-        → IsOpen (open_in open_ones.now) (signed_by task.now sig.now) tree → ⊥)) }
+        → IsOpen (open_in open_ones.now) (signed_as shared task.now sig.now) tree → ⊥)) }
 {
     match place_of(open_ones, task) {
         Some(place) => {
             let own = encode(alloc, sig)?;
-            if is_signed(&open_ones[place], task, &own) {
+            if is_signed(&open_ones[place], &own, shared) {
                 return Ok(Some(place));
             }
             Ok(None)

@@ -5,7 +5,6 @@ ghost use Rattle.build_store.specs.Drafts.{file_of, row_of_new, rows_behind};
 
 use crate::drafting::NewRecord;
 use hash_equiv::Index;
-use meta_model::PlanTask;
 use std::alloc::Global;
 use store_model::EquivRow;
 use store_opening::add_new;
@@ -35,10 +34,10 @@ pub(crate) fn parts_of(new: Option<NewRecord>) -> (Option<Entry>, Option<EquivRo
 }
 
 /// The object that is written, if one is.
-pub(crate) fn object_of(task: &PlanTask, unihash: Hash) -> Option<Hash>
-    ensures { result ≡ (if task.now.sstate then Some unihash else None) }
+pub(crate) fn object_of(shared: bool, unihash: Hash) -> Option<Hash>
+    ensures { result ≡ (if shared then Some unihash else None) }
 {
-    if task.sstate {
+    if shared {
         return Some(unihash);
     }
     None

@@ -1,5 +1,5 @@
 // The store of a run over a disk.
-ghost use Rattle.std.specs.Prelude.{◌≡◌, ◌≢◌, ◌≤◌, ◌-◌, ◌^◌, ◌⊎◌, ℕ, List, [], is_some, min, false, true, IfOk, IfErr, None, Some, OnOk, OnErr, MatchBool, length, IfSome};
+ghost use Rattle.std.specs.Prelude.{◌≡◌, ◌≢◌, ◌≤◌, ◌-◌, ◌^◌, ◌⊎◌, ℕ, List, [], is_some, min, false, true, IfOk, IfErr, None, Some, OnOk, OnErr, MatchBool, length, IfSome, IsTrue};
 ghost use Rattle.std.specs.Bool.{OnFalse, OnTrue};
 ghost use Rattle.std.specs.Option.{option_map};
 ghost use Rattle.tree_model.specs.Manifest.{manifest_lines};
@@ -23,23 +23,24 @@ ghost use Rattle.store_opening.specs.Opening.{Clears};
 ghost use Rattle.store_model.specs.Opened.{HasNoLitter, IsOpened};
 ghost use Rattle.build_store.specs.Outcome.{disk_of, open_failed};
 ghost use Rattle.store_opening.specs.Paths.{HasPlace};
-ghost use Rattle.build_store.specs.Publication.{AreShort, HasNoObject, IsRestored, KeepsCopied, KeepsOthers, Restores, first_publication, line_for, object_for, publication};
-ghost use Rattle.build_store.specs.Openings.{IsOpen, LandsOn, Meets, NoneNamed, OpensTask, StepsTo};
+ghost use Rattle.build_store.specs.Publication.{AreShort, HasNoObject, IsRestored, KeepsCopied, KeepsOthers, Restores, first_publication, line_for, object_for, publication, restoration};
+ghost use Rattle.build_store.specs.Restoring.{IsFound, IsFoundIn};
+ghost use Rattle.build_store.specs.Openings.{IsOpen, LandsOn, Meets, NoneNamed, OpensRestoring, OpensTask, StepsTo};
 ghost use Rattle.build_store.specs.OpenOnes.{KeepsEntries};
 ghost use Rattle.build_store.specs.Pieces.{IsPublishing};
 ghost use Rattle.meta_model.specs.CleanBuild.{Entries};
 ghost use Rattle.store_model.specs.Readable.{HoldsRecords, IsReadable, IsRow};
-ghost use Rattle.build_store.specs.View.{IsSignatureOf, IsWanting, NothingOpen, SameBooks, SameRows, opened_at, signed_by};
+ghost use Rattle.build_store.specs.View.{IsSignatureOf, IsWanting, NothingOpen, SameBooks, SameRows, opened_at, signed_as, signed_by};
 
 use crate::comparing::compare_at;
 use crate::fault::StoreFault;
 use crate::finding::{available, output};
 use crate::kept::KeptSig;
 use crate::keys::keys_of;
-use crate::listed::{place_of, place_signed};
+use crate::listed::{is_elsewhere, place_of, place_signed};
 use crate::pieces::OpenPublication;
 use crate::refused::OpenRefused;
-use crate::restoring::restore;
+use crate::restoring::{FoundObject, found_object, restore};
 use crate::step::Step;
 use crate::tasks::{open_with_key, prepare, step_at};
 use hash_equiv::Index;
@@ -215,6 +216,14 @@ impl<D: Disk> Store<D> {
         place_of(self.open_ones.as_slice(), task).is_some()
     }
 
+    /// Whether a publication of the task is open whose record is new and names the output of another one. Behind its end tasks that need it may have other
+    /// signatures than before, so that others are needed. It only says what a run had better wait with. No memory.
+    pub fn lands_elsewhere(&self, task: &PlanTask) -> bool
+        ensures { IsTrue result → IsTrue (is_some (opened_at self.now.opened (task_folder task.now))) }
+    {
+        self.is_open(task) && is_elsewhere(self.open_ones.as_slice(), task)
+    }
+
     /// Makes a task's work folder exactly what its shared state object holds, and stamps it. `false` exactly where the task's record isn't
     /// stored or its object doesn't match; then nothing changes. No publication of the task may be open.
     ///
@@ -257,6 +266,106 @@ impl<D: Disk> Store<D> {
                 self.faultless = false;
                 Err(fault)
             }
+        }
+    }
+
+    /// The object of a task with this signature, with its record's manifest: nothing where the record isn't stored, or the object doesn't match. Nothing
+    /// changes.
+    fn found_object(
+        &mut self,
+        alloc: Global,
+        task: &PlanTask,
+        sig: &SigRecord,
+    ) -> Result<Option<FoundObject>, StoreFault>
+        ensures of { IfOk result (λ found. IfSome found (IsFound self.old.rows self.old.keys
+            (signed_by task.now sig.now))) }
+        ensures found { D.tells → IfOk result (IsFoundIn (D.story self.old.disk).held self.old.rows
+            (signed_by task.now sig.now)) }
+        ensures clear { OnOk result (IsClear self.old.rows (name_of sig.now) (signature_bytes sig.now)) }
+        ensures refused { IfErr result (IsClash self.old.rows (name_of sig.now) (signature_bytes sig.now)) }
+        ensures same { SameBooks self.old self.new }
+        ensures images { D.tells → Passes (D.story self.old.disk) (D.story self.new.disk) Same }
+        ensures cause { Counts (D.faults self.old.disk) (D.faults self.new.disk) (store_failed result) }
+    {
+        found_object(alloc, &mut self.disk, &self.index, task, sig)
+    }
+
+    /// Opens the publication of a task's tree, which has this manifest, where an object is written, or not.
+    fn open_as(
+        &mut self,
+        alloc: Global,
+        task: &PlanTask,
+        sig: &SigRecord,
+        shared: bool,
+        tree: Tree,
+        manifest: &Manifest,
+    ) -> Result<bool, StoreFault>
+        requires reach { 3600 ≤ D.reach }
+        requires place { HasPlace task.now }
+        requires sig { IsSpelled sig.now }
+        requires named { IsSignatureOf task.now sig.now }
+        requires short { AreShort tree }
+        requires listed { manifest.now ≡ manifest_lines tree }
+        requires closed { opened_at self.old.opened (task_folder task.now) ≡ None }
+        ensures opens { IfOk result (λ is_open. OnTrue is_open (OpensTask self.old self.new (signed_as shared task.now sig.now) tree)) }
+        ensures busy { IfOk result (λ is_open. OnFalse is_open ((self.new ≡ self.old)
+            × Meets self.old.rows self.old.opened (name_of sig.now)
+            (object_for self.old.rows (signed_as shared task.now sig.now) tree))) }
+        ensures refused { IfErr result (IsRefusal self.old.rows self.old.keys (signed_as shared task.now sig.now) tree) }
+        ensures refused_open { OnErr result (self.new.opened ≡ self.old.opened) }
+        ensures unchanged { IfErr result (λ fault. OnDifference fault (self.new ≡ self.old)) }
+        ensures wanting { IfErr result (λ fault. OnMemory fault
+            (IsWanting self.old self.new (signed_as shared task.now sig.now))) }
+
+        // Whatever it answers.
+        ensures rows { self.new.rows ≡ self.old.rows }
+        ensures keys { (self.new.keys ≡ self.old.keys) ⊎ (self.new.keys ≡ keys_with self.old.keys sig.now) }
+        ensures new_key { is_new_key self.old.keys sig.now ≡ true → HasNewKey self.old.rows self.old.opened sig.now }
+        ensures apart { (self.new ≡ self.old) ⊎ NoneNamed self.old.opened (name_of sig.now) }
+        ensures publishing { D.tells → Passes (D.story self.old.disk) (D.story self.new.disk)
+            (IsPublishing (first_publication self.old.keys self.old.rows (signed_as shared task.now sig.now) tree)
+            (D.story self.old.disk).held) }
+        ensures readable { IsReadable (line_for self.old.rows (signed_as shared task.now sig.now) tree)
+            ⊎ (self.new.disk ≡ self.old.disk) }
+        ensures brief { D.tells → IsBrief 16 (D.story self.old.disk) (D.story self.new.disk) }
+        ensures cause { Counts (D.faults self.old.disk) (D.faults self.new.disk) (store_failed result) }
+    {
+        if !self.faultless {
+            return Err(StoreFault::Memory);
+        }
+        match prepare(
+            alloc,
+            &self.index,
+            &self.keys,
+            &mut self.kept,
+            &mut self.open_ones,
+            task,
+            sig,
+            shared,
+            manifest,
+        )? {
+            Some(draft) => {
+                let done = open_with_key(
+                    alloc,
+                    &mut self.disk,
+                    &self.index,
+                    &mut self.keys,
+                    &mut self.open_ones,
+                    task,
+                    sig,
+                    shared,
+                    draft,
+                    tree,
+                );
+                match done {
+                    Ok(()) => Ok(true),
+                    Err(fault) => {
+                        self.faultless = false;
+                        Err(fault)
+                    }
+                }
+            }
+            None => Ok(false),
         }
     }
 
@@ -308,40 +417,67 @@ impl<D: Disk> Store<D> {
         ensures brief { D.tells → IsBrief 16 (D.story self.old.disk) (D.story self.new.disk) }
         ensures cause { Counts (D.faults self.old.disk) (D.faults self.new.disk) (store_failed result) }
     {
-        if !self.faultless {
-            return Err(StoreFault::Memory);
-        }
-        match prepare(
-            alloc,
-            &self.index,
-            &self.keys,
-            &mut self.kept,
-            &mut self.open_ones,
-            task,
-            sig,
-            manifest,
-        )? {
-            Some(draft) => {
-                let done = open_with_key(
+        self.open_as(alloc, task, sig, task.sstate, tree, manifest)
+    }
+
+    /// Goes on with the open publication of a task that has this signature, and writes an object, or not.
+    fn step_as(
+        &mut self,
+        alloc: Global,
+        task: &PlanTask,
+        sig: &SigRecord,
+        shared: bool,
+        synced: bool,
+    ) -> Result<Step, StoreFault>
+        requires reach { 3600 ≤ D.reach }
+        requires place { HasPlace task.now }
+        requires sig { IsSpelled sig.now }
+        requires named { IsSignatureOf task.now sig.now }
+        ensures steps { IfOk result (StepsTo self.old self.new (signed_as shared task.now sig.now)) }
+        ensures published { D.tells → IfOk result (LandsOn (D.story self.new.disk) self.old.rows self.old.opened
+            (signed_as shared task.now sig.now)) }
+        ensures refused { IfErr result IsOutside }
+        ensures refused_rows { OnErr result ((self.new.rows ≡ self.old.rows) × (self.new.kept ≡ self.old.kept)) }
+
+        // Whatever it answers.
+        ensures touched { (self.new ≡ self.old)
+            ⊎ ((tree : Entries) × IsOpen self.old.opened (signed_as shared task.now sig.now) tree) }
+        ensures others { (beside : List ℕ) → beside ≢ task_folder task.now
+            → opened_at self.new.opened beside ≡ opened_at self.old.opened beside }
+        ensures entries { D.tells → (tree : Entries) → IsOpen self.old.opened (signed_as shared task.now sig.now) tree
+            → Passes (D.story self.old.disk) (D.story self.new.disk)
+            (KeepsEntries (publication self.old.rows (signed_as shared task.now sig.now) tree) (D.story self.old.disk).held) }
+        ensures publishing { D.tells → (tree : Entries) → IsOpen self.old.opened (signed_as shared task.now sig.now) tree
+            → Passes (D.story self.old.disk) (D.story self.new.disk)
+            (IsPublishing (publication self.old.rows (signed_as shared task.now sig.now) tree) (D.story self.old.disk).held) }
+        ensures keys { self.new.keys ≡ self.old.keys }
+        ensures brief { D.tells → HasFreeStamp (task_folder task.now) (D.story self.old.disk).held
+            → IsBrief 129 (D.story self.old.disk) (D.story self.new.disk) }
+        ensures cause { Counts (D.faults self.old.disk) (D.faults self.new.disk) (store_failed result) }
+    {
+        match place_signed(alloc, self.open_ones.as_slice(), task, sig, shared)? {
+            Some(place) => {
+                let done = step_at(
                     alloc,
                     &mut self.disk,
-                    &self.index,
-                    &mut self.keys,
+                    &mut self.index,
+                    &mut self.kept,
                     &mut self.open_ones,
+                    place,
                     task,
                     sig,
-                    draft,
-                    tree,
+                    shared,
+                    synced,
                 );
                 match done {
-                    Ok(()) => Ok(true),
+                    Ok(step) => Ok(step),
                     Err(fault) => {
                         self.faultless = false;
                         Err(fault)
                     }
                 }
             }
-            None => Ok(false),
+            None => Ok(Step::NotOpen),
         }
     }
 
@@ -381,29 +517,121 @@ impl<D: Disk> Store<D> {
             → IsBrief 129 (D.story self.old.disk) (D.story self.new.disk) }
         ensures cause { Counts (D.faults self.old.disk) (D.faults self.new.disk) (store_failed result) }
     {
-        match place_signed(alloc, self.open_ones.as_slice(), task, sig)? {
-            Some(place) => {
-                let done = step_at(
-                    alloc,
-                    &mut self.disk,
-                    &mut self.index,
-                    &mut self.kept,
-                    &mut self.open_ones,
-                    place,
-                    task,
-                    sig,
-                    synced,
-                );
-                match done {
-                    Ok(step) => Ok(step),
-                    Err(fault) => {
-                        self.faultless = false;
-                        Err(fault)
-                    }
-                }
-            }
-            None => Ok(Step::NotOpen),
+        self.step_as(alloc, task, sig, task.sstate, synced)
+    }
+
+    /// Opens the restoring of a task whose object was found.
+    fn open_found(
+        &mut self,
+        alloc: Global,
+        task: &PlanTask,
+        sig: &SigRecord,
+        found: FoundObject,
+    ) -> Result<bool, StoreFault>
+        requires reach { 3600 ≤ D.reach }
+        requires place { HasPlace task.now }
+        requires sig { IsSpelled sig.now }
+        requires named { IsSignatureOf task.now sig.now }
+        requires found { IsFound self.old.rows self.old.keys (signed_by task.now sig.now) found }
+        requires closed { opened_at self.old.opened (task_folder task.now) ≡ None }
+        ensures opens { IfOk result (λ is_open. (is_open ≡ true)
+            × OpensTask self.old self.new (signed_as false task.now sig.now) found.tree) }
+        ensures refused { IfErr result (IsClash self.old.rows (name_of sig.now) (signature_bytes sig.now)) }
+        ensures refused_open { OnErr result (self.new.opened ≡ self.old.opened) }
+        ensures rows { self.new.rows ≡ self.old.rows }
+        ensures keys { self.new.keys ≡ self.old.keys }
+        ensures publishing { D.tells → (row : ARow) → row_at self.old.rows (name_of sig.now) ≡ Some row
+            → Passes (D.story self.old.disk) (D.story self.new.disk)
+            (IsPublishing (restoration (signed_by task.now sig.now) row found.tree) (D.story self.old.disk).held) }
+        ensures cause { Counts (D.faults self.old.disk) (D.faults self.new.disk) (store_failed result) }
+    {
+        let FoundObject { tree, manifest } = found;
+        if self.open_as(alloc, task, sig, false, tree, &manifest)? {
+            return Ok(true);
         }
+        Err(StoreFault::Memory)
+    }
+
+    /// Opens the restoring of a task from its shared state object, which is read whole and compared with its record's manifest: what is to be done is noted by
+    /// a listing of the work folder, and the task's old stamp is put aside, if one is held. `restore_step` does that, piece by piece. No publication and no
+    /// restoring of the task may be open. (Own rule.)
+    ///
+    /// `false` exactly where the task's record isn't stored or its object doesn't match; then nothing changes. `Collision` comes exactly where the row of the
+    /// signature's name has another signature. Want of memory is also the answer where another one is open that has the same record, that is, digests meet,
+    /// and where a call that changes the disk met a fault before. After it the stamp may be gone.
+    pub fn restore_open(
+        &mut self,
+        alloc: Global,
+        task: &PlanTask,
+        sig: &SigRecord,
+    ) -> Result<bool, StoreFault>
+        requires reach { 3600 ≤ D.reach }
+        requires place { HasPlace task.now }
+        requires sig { IsSpelled sig.now }
+        requires named { IsSignatureOf task.now sig.now }
+        requires closed { opened_at self.old.opened (task_folder task.now) ≡ None }
+        ensures opens { IfOk result (λ found. OnTrue found
+            (OpensRestoring D.tells D.story self.old self.new (signed_by task.now sig.now))) }
+        ensures gone { D.tells → IfOk result (λ found. OnFalse found (HasNoObject (D.story self.old.disk).held
+            self.old.rows (signed_by task.now sig.now))) }
+        ensures unchanged { IfOk result (λ found. OnFalse found (SameBooks self.old self.new)) }
+        ensures looked { D.tells → IfOk result (λ found. OnFalse found
+            (Passes (D.story self.old.disk) (D.story self.new.disk) Same)) }
+        ensures clear { OnOk result (IsClear self.old.rows (name_of sig.now) (signature_bytes sig.now)) }
+        ensures refused { IfErr result (IsClash self.old.rows (name_of sig.now) (signature_bytes sig.now)) }
+        ensures refused_open { OnErr result (self.new.opened ≡ self.old.opened) }
+
+        // Whatever it answers.
+        ensures rows { self.new.rows ≡ self.old.rows }
+        ensures keys { self.new.keys ≡ self.old.keys }
+        ensures images { D.tells → Passes (D.story self.old.disk) (D.story self.new.disk)
+            (Restores (D.story self.old.disk).held self.old.rows (signed_by task.now sig.now)) }
+        ensures others { D.tells → Passes (D.story self.old.disk) (D.story self.new.disk)
+            (KeepsOthers (task_folder task.now) None (D.story self.old.disk).held) }
+        ensures cause { Counts (D.faults self.old.disk) (D.faults self.new.disk) (store_failed result) }
+    {
+        match self.found_object(alloc, task, sig)? {
+            Some(found) => self.open_found(alloc, task, sig, found),
+            None => Ok(false),
+        }
+    }
+
+    /// Goes on with the open restoring of a task that has this signature, as `publish_step` does with a publication. It writes no record and no object. With `Done`
+    /// the task's work folder holds exactly what its object held, and its stamp names its record, whatever a crash leaves.
+    pub fn restore_step(
+        &mut self,
+        alloc: Global,
+        task: &PlanTask,
+        sig: &SigRecord,
+        synced: bool,
+    ) -> Result<Step, StoreFault>
+        requires reach { 3600 ≤ D.reach }
+        requires place { HasPlace task.now }
+        requires sig { IsSpelled sig.now }
+        requires named { IsSignatureOf task.now sig.now }
+        ensures steps { IfOk result (StepsTo self.old self.new (signed_as false task.now sig.now)) }
+        ensures published { D.tells → IfOk result (LandsOn (D.story self.new.disk) self.old.rows self.old.opened
+            (signed_as false task.now sig.now)) }
+        ensures refused { IfErr result IsOutside }
+        ensures refused_rows { OnErr result ((self.new.rows ≡ self.old.rows) × (self.new.kept ≡ self.old.kept)) }
+
+        // Whatever it answers.
+        ensures touched { (self.new ≡ self.old)
+            ⊎ ((tree : Entries) × IsOpen self.old.opened (signed_as false task.now sig.now) tree) }
+        ensures others { (beside : List ℕ) → beside ≢ task_folder task.now
+            → opened_at self.new.opened beside ≡ opened_at self.old.opened beside }
+        ensures entries { D.tells → (tree : Entries) → IsOpen self.old.opened (signed_as false task.now sig.now) tree
+            → Passes (D.story self.old.disk) (D.story self.new.disk)
+            (KeepsEntries (publication self.old.rows (signed_as false task.now sig.now) tree) (D.story self.old.disk).held) }
+        ensures publishing { D.tells → (tree : Entries) → IsOpen self.old.opened (signed_as false task.now sig.now) tree
+            → Passes (D.story self.old.disk) (D.story self.new.disk)
+            (IsPublishing (publication self.old.rows (signed_as false task.now sig.now) tree) (D.story self.old.disk).held) }
+        ensures keys { self.new.keys ≡ self.old.keys }
+        ensures brief { D.tells → HasFreeStamp (task_folder task.now) (D.story self.old.disk).held
+            → IsBrief 129 (D.story self.old.disk) (D.story self.new.disk) }
+        ensures cause { Counts (D.faults self.old.disk) (D.faults self.new.disk) (store_failed result) }
+    {
+        self.step_as(alloc, task, sig, false, synced)
     }
 
     /// The name of a signature, which has this PN, by its whole text, where one of the PN's first rows has it. No memory.

@@ -13,7 +13,7 @@ ghost use Rattle.run_core.specs.Above.{IsAbove, IsListed, PutAbove};
 
 use crate::board::Board;
 use crate::next::Next;
-use crate::scan::{find, way_on};
+use crate::scan::{find_any, way_on};
 use meta_model::{Avail, Event, Options, Plan, PlanTask};
 use std::alloc::Global;
 use tale_model::Fate;
@@ -168,7 +168,7 @@ impl Front {
             return found;
         }
         if self.lossy {
-            return find(tasks, need, avail, fates, 0);
+            return find_any(tasks, need, avail, fates);
         }
         self.listed.clear();
         self.head = 0;

@@ -1,5 +1,5 @@
 -- What a run of a plan leaves.
-use Rattle.std.specs.Prelude.{◌≡◌, ◌≢◌, ◌⊎◌, ◌<◌, ◌+◌, ◌-◌, ◌^◌, ℕ, Bool, true, false, List, [], ◌∷◌, ◌++◌, codes, take, Contains, Option, None, Some, Ok, Err}
+use Rattle.std.specs.Prelude.{◌≡◌, ◌≢◌, ◌⊎◌, ◌<◌, ◌≤◌, ◌+◌, ◌-◌, ◌^◌, ℕ, Bool, true, false, List, [], ◌∷◌, ◌++◌, codes, length, take, Contains, Option, None, Some, Ok, Err}
 use Rattle.std.specs.List.{slice_get, AllByRecursion}
 use Rattle.sha2.specs.Sha256.{sha256}
 use Rattle.tree_model.specs.Path.{IsAtOrBelow}
@@ -137,17 +137,17 @@ HadObject gives book held plan options tale t = (sg : Signed) → slice_get (sig
     (IsInWork held (rows_of (book_after gives plan book tale)) sg → ⊥) × (held (codes "obj") ≡ None → IsInObject held (rows_of (book_after gives plan book tale)) options.setscene sg)
 
 -- The run was halted while it published or restored the task: it met a fault, so its status isn't one of those that come without; and the tale
--- breaks the task off, or it is the one that was being restored, and had an object.
-pub record WasHalted (gives : Gives) (book : Book) (held : Store) (plan : Plan) (options : Options) (tale : List Logged) (s : Status) (restored t : ℕ) : Type 0 where
+-- breaks the task off, or it is one of those that were being restored, and had an object.
+pub record WasHalted (gives : Gives) (book : Book) (held : Store) (plan : Plan) (options : Options) (tale : List Logged) (s : Status) (restored : List ℕ) (t : ℕ) : Type 0 where
   pub faulty : is_faultless s ≡ false
-  pub begun : IsBrokenOff tale t ⊎ ((t ≡ restored) × HadObject gives book held plan options tale t)
+  pub begun : IsBrokenOff tale t ⊎ (Contains restored t × HadObject gives book held plan options tale t)
 
 -- The run may have touched the task: it ended in the tale, or the tale restores it, or it is one at which the run was halted.
-abbrev pub MayTouch : Gives → Book → Store → Plan → Options → List Logged → Status → ℕ → ℕ → Type 0
+abbrev pub MayTouch : Gives → Book → Store → Plan → Options → List Logged → Status → List ℕ → ℕ → Type 0
 MayTouch gives book held plan options tale s restored t = IsPlaced tale t ⊎ WasHalted gives book held plan options tale s restored t
 
 -- ... and that by publishing its output, since the tale starts it
-abbrev pub MayPublish : Gives → Book → Store → Plan → Options → List Logged → Status → ℕ → ℕ → Type 0
+abbrev pub MayPublish : Gives → Book → Store → Plan → Options → List Logged → Status → List ℕ → ℕ → Type 0
 MayPublish gives book held plan options tale s restored t = MayTouch gives book held plan options tale s restored t × HasStarted tale t
 
 -- Whatever a crash leaves since the run began, all else is left alone: each task of the plan that the run can't have touched, with the objects
@@ -155,11 +155,12 @@ MayPublish gives book held plan options tale s restored t = MayTouch gives book 
 -- and, be it of a task of the plan or not, each path that opening the store leaves alone, that isn't under `tmp/`, that is neither the stamp nor
 -- at or under the work folder of a task which the run may have touched, nor above that folder, unless nothing was held there, and, where the run
 -- may have published one, not at or under `rec2`, `key` or `obj`, unless it is `obj` and nothing was held there. (What is under `rec2` there, `IsCrash`
--- says.) The lines of the book have some order.
+-- says.) The lines of the book have some order. Of the tasks that were being restored there is one for each worker at most.
 pub record LeavesOthers (gives : Gives) (book : Book) (held : Store) (plan : Plan) (options : Options) (tale : List Logged) (s : Status) (story : Story) : Type 0 where
   pub again : Book
   pub same : HaveSameLines book again
-  pub restored : ℕ
+  pub restored : List ℕ
+  pub few : length restored ≤ plan.threads
   pub others : (image : Store) → IsImageSince story 0 image → (t : ℕ) (task : PlanTask) → slice_get plan.tasks t ≡ Some task → (MayTouch gives again held plan options tale s restored t → ⊥) → IsLeftAlone book held image task
   pub objects : (image : Store) → IsImageSince story 0 image → (line : Line) → HasLine book line → IsObjectOfNone gives plan again tale (MayPublish gives again held plan options tale s restored) line → (q : List ℕ) → IsAtOrBelow (object_folder line.unihash) q → image q ≡ held q
   pub paths : (image : Store) → IsImageSince story 0 image → (q : List ℕ) → IsLeft held q → IsAside held plan (MayTouch gives again held plan options tale s restored) (MayPublish gives again held plan options tale s restored) q → image q ≡ held q

@@ -49,7 +49,7 @@ pub record Keeps (gives : Gives) (reading : Reading) (book : Book) (held : Store
   pub all_told : AreWanted plan → s ≡ status.TaskFailed → options.keep_going ≡ true → All (IsEachFailureTold gives plan) tales
   -- each crash since the call began leaves alone what isn't the own of tasks that ended or that the tale restores, but for `tmp/` and, where one
   -- ended, for folders of `obj/` that are no line's object; under the status of a fault one task more for each worker
-  -- may have been touched, and one that was being restored
+  -- may have been touched, and one for each worker that was being restored
   pub others : All (λ tale. LeavesOthers gives book held plan options tale s story) tales
   -- no output is found to differ from one run to another
   pub steady : is_unsteady s ≡ false

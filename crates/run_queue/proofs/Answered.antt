@@ -46,7 +46,7 @@ use Rattle.run_queue.specs.Asking.{Means, answered_of, flat, if_row, meant}
 use Rattle.run_model.specs.Opening.{Opening}
 use Rattle.run_queue.specs.Opening.{MayRun}
 use Rattle.run_queue.proofs.Aside.{above_parts, above_top}
-use Rattle.run_queue.specs.Keeps.{IsRun, IsUpToDate, WasThere, nobody}
+use Rattle.run_queue.specs.Keeps.{IsRun, IsUpToDate, WasThere}
 use Rattle.run_queue.specs.Seen.{IsBegun, Known, Seen, known_in}
 use Rattle.run_model.specs.Stands.{HasEnded}
 use Rattle.run_queue.specs.Stands.{IsAsBegun, IsLeft}
@@ -312,8 +312,10 @@ known_run o s k run there = record {
   own = run.own;
   readable = run.readable;
   opened = run.opened;
+  mends = run.mends;
   book = run.book;
   open_are = run.open_are;
+  mending = run.mending;
   flights = run.flights;
   touched = run.touched;
   flying = run.flying;
@@ -330,8 +332,7 @@ known_run o s k run there = record {
   there = there;
   answered = run.answered;
   met = run.met;
-  halted = run.halted;
-  told = λ u b. told_by o s (record s { known = Some k }) run.halted nobody u refl refl (λ is. is) (λ was x here. was x here) (run.told u b);
+  told = λ u b. told_by o s (record s { known = Some k }) u refl refl (λ is. is) (λ hand was. (hand, λ x here. was x here)) (run.told u b);
   images = run.images;
   stands = run.stands;
   settled = run.settled;

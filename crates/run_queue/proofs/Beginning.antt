@@ -1,6 +1,6 @@
 -- How a run begins.
 use Rattle.std.proofs.Common.{◌≡◌, ◌∙◌, sym, ap, subst, refl, ℕ, ◌≤◌, zero, suc, arith, true, false, List, [], ◌∷◌, ◌++◌, length, replicate, None, Some, inl, inr, append-nil}
-use Rattle.std.specs.Prelude.{Option}
+use Rattle.std.specs.Prelude.{Contains, Option}
 use Rattle.std.specs.List.{AllByRecursion}
 use Rattle.std.specs.List.{slice_get}
 use Rattle.outside_traits.specs.Store.{Store}
@@ -10,7 +10,7 @@ use Rattle.meta_model.specs.declared.event.Avail.{Avail}
 use Rattle.meta_model.specs.declared.event.Logged.{Logged}
 use Rattle.meta_model.specs.declared.plan.Options.{Options}
 use Rattle.meta_model.specs.declared.plan.Plan.{Plan}
-use Rattle.tale_model.specs.Fates.{fate_at, fates_told, is_settled}
+use Rattle.tale_model.specs.Fates.{fate_at, fates_told, is_running, is_settled}
 use Rattle.tale_model.specs.declared.fate.Fate.TheVariants.{Waiting}
 use Rattle.store_model.specs.Valid.{IsValid, StandsIn}
 use Rattle.store_model.specs.Readable.{IsReadable}
@@ -65,8 +65,10 @@ begin_is_run o plan options written may = record {
   own = λ line has t task at pn name. absurd (no_line has.0 line has.1);
   readable = subst (AllByRecursion IsReadable) (sym (append-nil o.book)) may.readable;
   opened = nothing_open;
+  mends = nothing_open;
   book = λ none. (begins_valid o plan may).lines;
   open_are = λ none folder. refl;
+  mending = λ none. record { each = λ folder one is. absurd (none-some one is); rest = λ t hand. ap is_running (all_wait (length plan.tasks) t) };
   flights = λ none. record {
     each = λ folder one is. absurd (none-some one is);
     apart = λ folder beside one other is_one is_other ne. absurd (none-some one is_one);
@@ -86,15 +88,14 @@ begin_is_run o plan options written may = record {
   there = tt;
   answered = λ none t a at. absurd (none_begun (length plan.tasks) t a at);
   met = λ t settled. absurd (none_settled plan t settled);
-  halted = 0;
   told = λ t b. absurd (none_begun (length plan.tasks) t b.0 b.1);
   images = λ t image le since. inl since;
   stands = λ image is t task at settled. absurd (none_settled plan t settled);
   settled = λ k entry at. absurd (cc);
 }
 
-abbrev pub begins_as : Plan → Options → List (Option Avail) → List EquivRow → List KeptSig → OpenViews → List Logged → Story → List ℕ → Seen
-begins_as plan options begun rows kept opened tale story written = record {
+abbrev pub begins_as : Plan → Options → List (Option Avail) → List ℕ → List EquivRow → List KeptSig → OpenViews → List Logged → Story → List ℕ → Seen
+begins_as plan options begun restoring rows kept opened tale story written = record {
   plan = plan;
   options = options;
   rows = rows;
@@ -104,24 +105,26 @@ begins_as plan options begun rows kept opened tale story written = record {
   fault = None;
   tale = tale;
   begun = begun;
+  restoring = restoring;
   known = None;
   story = story;
   written = written;
 }
 
-pub begins_run : (o : Opening) (plan : Plan) (options : Options) (begun : List (Option Avail)) (rows : List EquivRow) (kept : List KeptSig) (opened : OpenViews) (tale : List Logged) (story : Story) (written : List ℕ) → IsOpening o story rows → begun ≡ replicate (length plan.tasks) None → kept ≡ [] → NothingOpen opened → tale ≡ [] → MayRun o plan → IsRun o
-    (begins_as plan options begun rows kept opened tale story written)
-begins_run o plan options begun rows kept opened tale story written opening none_begun none_kept nothing no_tale may =
+pub begins_run : (o : Opening) (plan : Plan) (options : Options) (begun : List (Option Avail)) (restoring : List ℕ) (rows : List EquivRow) (kept : List KeptSig) (opened : OpenViews) (tale : List Logged) (story : Story) (written : List ℕ) → IsOpening o story rows → begun ≡ replicate (length plan.tasks) None → restoring ≡ [] → kept ≡ [] → NothingOpen opened → tale ≡ [] → MayRun o plan → IsRun o
+    (begins_as plan options begun restoring rows kept opened tale story written)
+begins_run o plan options begun restoring rows kept opened tale story written opening none_begun none_restored none_kept nothing no_tale may =
     let a = begin_is_run o plan options written may in
-    let b = subst (λ (n : List (Option Avail)). IsRun o (begins_as plan options n (rows_of o.book) [] [] [] o.story written)) (sym none_begun) a in
-    let c = subst (λ (r : List EquivRow). IsRun o (begins_as plan options begun r [] [] [] o.story written)) (sym opening.rows_are) b in
-    let d = subst (λ (k : List KeptSig). IsRun o (begins_as plan options begun rows k [] [] o.story written)) (sym none_kept) c in
-    let f = subst (λ (v : OpenViews). IsRun o (begins_as plan options begun rows kept v [] o.story written)) (sym (nothing_is_empty opened nothing)) d in
-    let e = subst (λ (t : List Logged). IsRun o (begins_as plan options begun rows kept opened t o.story written)) (sym no_tale) f in
-    subst (λ (s : Story). IsRun o (begins_as plan options begun rows kept opened tale s written)) opening.story_is e
+    let b = subst (λ (n : List (Option Avail)). IsRun o (begins_as plan options n [] (rows_of o.book) [] [] [] o.story written)) (sym none_begun) a in
+    let h = subst (λ (l : List ℕ). IsRun o (begins_as plan options begun l (rows_of o.book) [] [] [] o.story written)) (sym none_restored) b in
+    let c = subst (λ (r : List EquivRow). IsRun o (begins_as plan options begun restoring r [] [] [] o.story written)) (sym opening.rows_are) h in
+    let d = subst (λ (k : List KeptSig). IsRun o (begins_as plan options begun restoring rows k [] [] o.story written)) (sym none_kept) c in
+    let f = subst (λ (v : OpenViews). IsRun o (begins_as plan options begun restoring rows kept v [] o.story written)) (sym (nothing_is_empty opened nothing)) d in
+    let e = subst (λ (t : List Logged). IsRun o (begins_as plan options begun restoring rows kept opened t o.story written)) (sym no_tale) f in
+    subst (λ (s : Story). IsRun o (begins_as plan options begun restoring rows kept opened tale s written)) opening.story_is e
 
-abbrev pub begins_view : {D W : Type 0} → Plan → Options → View D → W → List (Option Avail) → List Logged → RunView D W
-begins_view plan options store sink begun tale = record {
+abbrev pub begins_view : {D W : Type 0} → Plan → Options → View D → W → List (Option Avail) → List ℕ → List Logged → RunView D W
+begins_view plan options store sink begun restoring tale = record {
   plan = plan;
   options = options;
   store = store;
@@ -130,14 +133,18 @@ begins_view plan options store sink begun tale = record {
   fault = None;
   tale = tale;
   begun = begun;
+  restoring = restoring;
+  ends_wait = false;
   known = None;
 }
 
-pub begins_state : {D W : Type 0} (count : ℕ) (plan : Plan) (options : Options) (store : View D) (sink : W) (begun : List (Option Avail)) (tale : List Logged) → tale ≡ [] → IsSound plan → count ≡ 0 → store.faultless ≡ true → length begun ≡ length plan.tasks → IsState count (begins_view plan options store sink begun tale)
-begins_state count plan options store sink begun tale no_tale sound unharmed clean long =
-    subst (λ (l : List Logged). IsState count (begins_view plan options store sink begun l)) (sym no_tale) (record {
+pub begins_state : {D W : Type 0} (count : ℕ) (plan : Plan) (options : Options) (store : View D) (sink : W) (begun : List (Option Avail)) (restoring : List ℕ) (tale : List Logged) → tale ≡ [] → restoring ≡ [] → IsSound plan → count ≡ 0 → store.faultless ≡ true → length begun ≡ length plan.tasks → IsState count (begins_view plan options store sink begun restoring tale)
+begins_state count plan options store sink begun restoring tale no_tale none_restored sound unharmed clean long =
+    subst (λ (l : List Logged). IsState count (begins_view plan options store sink begun restoring l)) (sym no_tale) (record {
       sound = sound;
       long = long;
+      few = subst (λ (l : List ℕ). length l ≤ plan.threads) (sym none_restored) (omega arith);
+      among = λ t hand. (let h = subst (λ (l : List ℕ). Contains l t) none_restored hand in let lt = h.1 in omega (arith, lt));
       orderly = λ k entry at. absurd (cc);
       current = tt;
       unharmed = λ none. unharmed;

@@ -1,7 +1,7 @@
 -- A publication is opened beside others; an event is marked that records nothing.
 use Rattle.std.proofs.Common.{◌≡◌, ◌≢◌, ◌∙◌, sym, ap, subst, refl, ℕ, ◌⊎◌, inl, inr, List, [], ◌∷◌, ◌++◌, length, Some, None, append-nil}
 use Rattle.std.specs.Prelude.{Bool, Option, false, if◌then◌else◌}
-use Rattle.std.specs.Option.{option_map}
+use Rattle.std.specs.Option.{option_map, option_or}
 use Rattle.std.specs.List.{AllByRecursion}
 use Rattle.std.specs.Str.{bytes_eq}
 use Rattle.meta_model.proofs.Bools.{either_way, same_text, text_itself}
@@ -55,15 +55,15 @@ none_open o plan tale opened flights rest folder one is = let h = flights.each f
 pub ends_with_nothing : EndsWithNothing
 ends_with_nothing o plan tale opened flights rest = (
   λ image v. by image v.in_flight v.fly v.valid,
-  λ views same folder. sym (same folder) ∙ nothing folder (opened folder) refl,
+  λ mends views none same folder. sym (same folder) ∙ ap (λ (x : Option OpenTask). option_map view_of (option_or x (mends folder))) (nothing folder (opened folder) refl) ∙ ap (option_map view_of) (none folder),
 )
   where
     by : (image : Store) (ts : List ℕ) → AllByRecursion (Flies plan opened) ts → IsValid o.gives o.reading image (book_with o plan tale ts) → IsValid o.gives o.reading image (book_after o.gives plan o.book tale)
     by image [] fly valid = subst (IsValid o.gives o.reading image) (append-nil (book_after o.gives plan o.book tale)) valid
     by image (t ∷ ts) fly valid = absurd (none_open o plan tale opened flights rest (task_folder fly.0.0.signed.task) fly.0.0 fly.0.1.1)
 
-    nothing : (folder : List ℕ) (x : Option OpenTask) → opened folder ≡ x → option_map view_of (opened folder) ≡ None
-    nothing folder None is = ap (option_map view_of) is
+    nothing : (folder : List ℕ) (x : Option OpenTask) → opened folder ≡ x → opened folder ≡ None
+    nothing folder None is = is
     nothing folder (Some one) is = absurd (none_open o plan tale opened flights rest folder one is)
 
 -- ---- one more is opened

@@ -1,6 +1,6 @@
 -- How a run goes on behind a turn of a publication: with the task's line, or with a fault, or with more that is left.
 use Rattle.std.proofs.Common.{◌≡◌, ◌≢◌, ◌∙◌, sym, ap, subst, refl, ℕ, ◌<◌, ◌≤◌, ◌-◌, ◌^◌, ◌⊎◌, inl, inr, min, zero, suc, arith, Bool, false, List, [], ◌∷◌, ◌++◌, length, set, Some, None, append_assoc, append-nil}
-use Rattle.std.specs.Prelude.{Option, IfSome}
+use Rattle.std.specs.Prelude.{Contains, Option, IfSome}
 use Rattle.std.specs.List.{AllByRecursion, slice_get}
 use Rattle.std.proofs.lemmas.Bool.{cases_eq}
 use Rattle.std.proofs.lemmas.Option.{same_Some}
@@ -73,7 +73,8 @@ use Rattle.build_store.specs.View.{OpenViews}
 use Rattle.run_model.specs.Books.{line_of_ended}
 use Rattle.run_model.specs.InFlight.{RunsAfter}
 use Rattle.run_model.specs.Stands.{HasFinished}
-use Rattle.run_queue.specs.Keeps.{IsToldOf, nobody}
+use Rattle.run_queue.specs.Keeps.{IsToldOf}
+use Rattle.run_queue.specs.Mends.{both}
 use Rattle.run_queue.specs.Seen.{IsBegun, IsBegunIn}
 use Rattle.run_queue.specs.Flights.{AreFlights, AreLeft, Closes, Flies, FliesAs, IsFlight, IsUnderWay, IsValidWith, KeepOtherObjects, MayTurn, OpenTask, OpenTasks, OpensAt, SameOpen, StandTo, put_of_turn, with_open, without_open}
 use Rattle.run_queue.proofs.Breaking.{running_within}
@@ -82,7 +83,8 @@ use Rattle.run_queue.proofs.Flights.{choice_valid, flight_of, folders_differ, in
 use Rattle.run_queue.proofs.Landing as of_landing
 use Rattle.run_queue.proofs.Landing.{flights_longer, objects_longer, stand_to_longer, stands_longer, still_flies, valid_longer}
 use Rattle.run_queue.proofs.Leaving.{left_after, objects_now, stand_now, stand_since}
-use Rattle.run_queue.proofs.Meanwhile.{other_bytes, started_stays_missing, told_by, told_on}
+use Rattle.run_queue.proofs.Meanwhile.{other_bytes, started_stays_missing, told_by, told_goes_on}
+use Rattle.run_queue.proofs.Mends.{beside_running, mends_begun, mends_marked, mends_over, mends_rest}
 use Rattle.run_queue.proofs.Opened.{needs_now, under_way}
 use Rattle.run_queue.proofs.OwnNames.{has_own_name, signed_task_at}
 use Rattle.run_queue.proofs.Putting.{Begins, book_now, more_begun, readable_now}
@@ -111,10 +113,10 @@ module _ (o : Opening) (s : Seen) (run : IsRun o s) (faultless : s.fault ≡ Non
   ]
 
   -- What is begun is told of still: the task runs.
-  still_told : (later : Seen) → later.plan ≡ s.plan → later.tale ≡ s.tale → ((u : ℕ) → WasThere o s u avail.Object → WasThere o later u avail.Object) → (u : ℕ) → IsBegunIn begun u → IsToldOf o later run.halted nobody u
+  still_told : (later : Seen) → later.plan ≡ s.plan → later.tale ≡ s.tale → ((u : ℕ) → Contains s.restoring u → WasThere o s u avail.Object → Contains later.restoring u × WasThere o later u avail.Object) → (u : ℕ) → IsBegunIn begun u → IsToldOf o later u
   still_told later same_plan same_tale there u b = elim (cases_eq u t) [
     | inl same ↦ inr (inl (seat, subst (λ (n : ℕ). RunsAfter later.plan later.tale n seat) (sym same) (subst (λ (p : Plan). RunsAfter p later.tale t seat) (sym same_plan) (subst (λ (l : List Logged). RunsAfter s.plan l t seat) (sym same_tale) runs))))
-    | inr ne ↦ told_by o s later run.halted nobody u same_plan same_tale (λ some. absurd (none_kept s.fault faultless some)) (there u) (run.told u (b.0, sym (begins.others u ne) ∙ b.1))
+    | inr ne ↦ told_by o s later u same_plan same_tale (λ some. absurd (none_kept s.fault faultless some)) (there u) (run.told u (b.0, sym (begins.others u ne) ∙ b.1))
   ]
 
   -- A fault that is kept then, with which the disk wasn't touched, leaves what a run keeps.
@@ -127,8 +129,10 @@ module _ (o : Opening) (s : Seen) (run : IsRun o s) (faultless : s.fault ≡ Non
     own = λ l has u other at pn name. more_begun s begun t begins u (run.own l has u other at pn name);
     readable = run.readable;
     opened = run.opened;
+    mends = run.mends;
     book = λ none. absurd (cc);
     open_are = λ none. absurd (cc);
+    mending = λ none. absurd (cc);
     flights = λ none. absurd (cc);
     touched = λ none. absurd (cc);
     flying = λ none. absurd (cc);
@@ -145,8 +149,7 @@ module _ (o : Opening) (s : Seen) (run : IsRun o s) (faultless : s.fault ≡ Non
     there = run.there;
     answered = λ none. absurd (cc);
     met = run.met;
-    halted = run.halted;
-    told = λ u b. still_told (record s { kept = kept; opened = views; fault = Some f; begun = begun }) refl refl (λ v was x here. was x here) u b;
+    told = λ u b. still_told (record s { kept = kept; opened = views; fault = Some f; begun = begun }) refl refl (λ v hand was. (hand, λ x here. was x here)) u b;
     images = λ from image le since. left_was from image le since;
     stands = run.stands;
     settled = run.settled;
@@ -172,7 +175,7 @@ module _ (o : Opening) (s : Seen) (run : IsRun o s) (faultless : s.fault ≡ Non
     flies_still u ne flies = (flies.0, (flies.1.0, opens.others (task_folder flies.0.signed.task) (folders_differ s.plan run.may.sound u t flies.0.signed.task one.signed.task flies.1.0 flight.at ne) ∙ flies.1.1))
 
     -- Where its publication is opened besides, and the disk isn't touched yet, that is what a run keeps.
-    pub opened_run : (kept : List KeptSig) (views : OpenViews) → SameOpen (with_open (task_folder one.signed.task) one run.opened) views → IsRun o (record s { kept = kept; opened = views; begun = begun })
+    pub opened_run : (kept : List KeptSig) (views : OpenViews) → SameOpen (both (with_open (task_folder one.signed.task) one run.opened) run.mends) views → IsRun o (record s { kept = kept; opened = views; begun = begun })
     opened_run kept views are = record {
       may = run.may;
       rows = run.rows;
@@ -181,8 +184,10 @@ module _ (o : Opening) (s : Seen) (run : IsRun o s) (faultless : s.fault ≡ Non
       own = λ l has u other at pn name. more_begun s begun t begins u (run.own l has u other at pn name);
       readable = run.readable;
       opened = with_open (task_folder one.signed.task) one run.opened;
+      mends = run.mends;
       book = run.book;
       open_are = λ no. are;
+      mending = λ no. mends_begun o s run faultless begun t begins (mends_rest o s run faultless t seat runs);
       flights = λ no. law.0;
       touched = λ no u flies. elim (cases_eq u t) [
         | inl same ↦ (avail.Missing, ap (slice_get begun) same ∙ here)
@@ -211,17 +216,17 @@ module _ (o : Opening) (s : Seen) (run : IsRun o s) (faultless : s.fault ≡ Non
         | inr ne ↦ run.answered faultless u a (sym (begins.others u ne) ∙ is) not_yet
       ];
       met = run.met;
-      halted = run.halted;
-      told = λ u b. still_told (record s { kept = kept; opened = views; begun = begun }) refl refl (λ v was x at. was x at) u b;
+      told = λ u b. still_told (record s { kept = kept; opened = views; begun = begun }) refl refl (λ v hand was. (hand, λ x at. was x at)) u b;
       images = λ from image le since. left_was from image le since;
       stands = run.stands;
       settled = run.settled;
     }
 
     -- with the publications that are open then
-    pub opened_with : (kept : List KeptSig) (views : OpenViews) → SameOpen (with_open (task_folder one.signed.task) one run.opened) views → (r : IsRun o (record s { kept = kept; opened = views; begun = begun })) × (r.opened ≡ with_open (task_folder one.signed.task) one run.opened)
+    pub opened_with : (kept : List KeptSig) (views : OpenViews) → SameOpen (both (with_open (task_folder one.signed.task) one run.opened) run.mends) views
+        → (r : IsRun o (record s { kept = kept; opened = views; begun = begun })) × (r.opened ≡ with_open (task_folder one.signed.task) one run.opened) × (r.mends ≡ run.mends)
     unfolding opened_run
-    opened_with kept views are = (opened_run kept views are, refl)
+    opened_with kept views are = (opened_run kept views are, refl, refl)
 
 -- ---- what was there, over more rows
 
@@ -297,7 +302,7 @@ module _ (o : Opening) (s : Seen) (run : IsRun o s) (faultless : s.fault ≡ Non
   objects_then = objects_now o s.plan s.tale run.opened way t one fl writes s.story later pass (run.objects faultless)
 
   -- With more that is left, or with a fault, a run goes on.
-  pub turned_run : (kept : List KeptSig) (views : OpenViews) (fault : Option RunFault) → (fault ≡ None → SameOpen run.opened views) → IsRun o (record s { kept = kept; opened = views; fault = fault; story = later })
+  pub turned_run : (kept : List KeptSig) (views : OpenViews) (fault : Option RunFault) → (fault ≡ None → SameOpen (both run.opened run.mends) views) → IsRun o (record s { kept = kept; opened = views; fault = fault; story = later })
   turned_run kept views fault are = record {
     may = run.may;
     rows = run.rows;
@@ -306,8 +311,10 @@ module _ (o : Opening) (s : Seen) (run : IsRun o s) (faultless : s.fault ≡ Non
     own = run.own;
     readable = run.readable;
     opened = run.opened;
+    mends = run.mends;
     book = λ none. run.book faultless;
     open_are = are;
+    mending = λ none. run.mending faultless;
     flights = λ none. run.flights faultless;
     touched = λ none. run.touched faultless;
     flying = λ none. run.flying faultless;
@@ -324,8 +331,7 @@ module _ (o : Opening) (s : Seen) (run : IsRun o s) (faultless : s.fault ≡ Non
     there = run.there;
     answered = λ none. run.answered faultless;
     met = run.met;
-    halted = run.halted;
-    told = λ u b. told_by o s (record s { kept = kept; opened = views; fault = fault; story = later }) run.halted nobody u refl refl (λ some. absurd (none_kept s.fault faultless some)) (λ was x here. was x here) (run.told u b);
+    told = λ u b. told_by o s (record s { kept = kept; opened = views; fault = fault; story = later }) u refl refl (λ some. absurd (none_kept s.fault faultless some)) (λ hand was. (hand, λ x here. was x here)) (run.told u b);
     images = left_then;
     stands = stands_then;
     settled = since_then;
@@ -508,7 +514,7 @@ module _ (o : Opening) (s : Seen) (run : IsRun o s) (faultless : s.fault ≡ Non
 
     -- A run goes on behind a publication, whose task has ended; what is known afterwards of needed tasks must have been so when the run
     -- began.
-    pub ended_run : (rows : List EquivRow) (kept : List KeptSig) (views : OpenViews) (known : Option Known) (failed : Bool) (fault : Option RunFault) (written : List ℕ) → rows ≡ rows_of (book_now o s ++ put.more) → SameOpen (without_open (task_folder one.signed.task) run.opened) views
+    pub ended_run : (rows : List EquivRow) (kept : List KeptSig) (views : OpenViews) (known : Option Known) (failed : Bool) (fault : Option RunFault) (written : List ℕ) → rows ≡ rows_of (book_now o s ++ put.more) → SameOpen (both (without_open (task_folder one.signed.task) run.opened) run.mends) views
         → IfSome known (λ k. (u : ℕ) (a : Avail) → IsIn k.need u → (HasEnded s.plan (s.tale ++ record { event = events.Ended t; seat = seat; moment = min (moment later) (2 ^ 64 - 1) } ∷ []) u → ⊥) → slice_get k.avail u ≡ Some a → WasThere o (record s { rows = rows }) u a)
         → ((course : Course) → course.plan ≡ s.plan → IsCourse o s.options (s.tale ++ record { event = events.Ended t; seat = seat; moment = min (moment later) (2 ^ 64 - 1) } ∷ []) course → MayCome course s.tale (record { event = events.Ended t; seat = seat; moment = min (moment later) (2 ^ 64 - 1) }))
         → IsRun o (ended_as rows kept views known failed fault written)
@@ -522,8 +528,12 @@ module _ (o : Opening) (s : Seen) (run : IsRun o s) (faultless : s.fault ≡ Non
           own = own_after;
           readable = subst (AllByRecursion IsReadable) longer_is (each_append IsReadable (book_now o s) put.more (readable_now o s run) more_readable);
           opened = without_open (task_folder one.signed.task) run.opened;
+          mends = run.mends;
           book = λ n. subst (IsValidBook o.gives o.reading) longer_is longer_valid;
           open_are = λ n. open_are;
+          mending = λ n.
+              mends_over o s.plan (book_now o s) put.more s.rows rows s.begun longer s.restoring run.mends run.rows rows_are may
+              (mends_marked o s run faultless entry (beside_running o s run (events.Ended t) (in_hand o s.plan s.tale run.opened way t one fl).seat (runs_now o s.plan s.tale run.opened way t one fl) refl));
           flights = λ n. flights_longer o s.plan s.tale run.opened way t one fl rest closes entry refl;
           touched = λ n u flies. run.touched faultless u (flies.0, (flies.1.0, was_open flies.0 flies.1.1 (path_cases (task_folder flies.0.signed.task) (task_folder one.signed.task))));
           flying = λ n u other runs b.
@@ -561,9 +571,8 @@ module _ (o : Opening) (s : Seen) (run : IsRun o s) (faultless : s.fault ≡ Non
               let b = open_before u not_yet in
               let m = run.met u (settled_back u b.0 settled) b.1 in
               (m.0, was_on o s put.more rows run.rows rows_are may u m.0 m.2 m.1, m.2);
-          halted = run.halted;
-          told = λ u b. told_on o s (ended_as rows kept views known failed fault written) run.halted nobody u entry refl refl (λ some. absurd (none_kept s.fault faultless some)) (λ was x here. object_on u was x here)
-              (λ other same runs. inl (inl (subst (HasFinished longer) (sym same) (finished_last s.tale entry t refl)))) (λ never. absurd never) (run.told u b);
+          told = λ u b. told_goes_on o s (ended_as rows kept views known failed fault written) u entry refl refl (λ some. absurd (none_kept s.fault faultless some)) (λ hand was. (hand, λ x here. object_on u was x here))
+              (λ other same runs. inl (inl (subst (HasFinished longer) (sym same) (finished_last s.tale entry t refl)))) (run.told u b);
           images = λ from image le since. elim (left_then from image le since) [
             | inl before ↦ inl before
             | inr left ↦ inr (left_behind o s.plan s.begun s.tale entry image left)
@@ -610,7 +619,7 @@ module _ (o : Opening) (s : Seen) (run : IsRun o s) (faultless : s.fault ≡ Non
         by None e = still e put.stands ∙ sym e
         by (Some row) e = row_on o.gives o.reading o.story.held (book_now o s) put.more s.plan.tasks may (name_of x.sig) (λ none. let n : None ≡ Some row = sym none ∙ e in cc)
 
-    module _ (rows : List EquivRow) (sigs : List KeptSig) (views : OpenViews) (rows_are : rows ≡ rows_of (book_now o s ++ put.more)) (open_are : SameOpen (without_open (task_folder one.signed.task) run.opened) views)
+    module _ (rows : List EquivRow) (sigs : List KeptSig) (views : OpenViews) (rows_are : rows ≡ rows_of (book_now o s ++ put.more)) (open_are : SameOpen (both (without_open (task_folder one.signed.task) run.opened) run.mends) views)
         (may_come : (course : Course) → course.plan ≡ s.plan → IsCourse o s.options (s.tale ++ record { event = events.Ended t; seat = seat; moment = min (moment later) (2 ^ 64 - 1) } ∷ []) course → MayCome course s.tale (record { event = events.Ended t; seat = seat; moment = min (moment later) (2 ^ 64 - 1) }))
         (tells : Type 0) (tell : tells) (before made : Replan) (was_known : s.known ≡ Some (known_in before)) (was : IsCurrent no_meaning (record { plan = s.plan; rows = s.rows }) before)
         (is : IsCurrent (kept_or_meant (earlier_in before) tells later.held rows s.options.setscene s.plan.tasks s.begun) (record { plan = s.plan; rows = rows }) made) where

@@ -1,5 +1,5 @@
 -- Where the key of a publication is written as that is opened, no line of the book or in flight has a key of its name.
-use Rattle.std.proofs.Common.{◌≡◌, ◌≢◌, ◌∙◌, sym, ap, subst, ℕ, Bool, true, List, [], ◌∷◌, ◌++◌}
+use Rattle.std.proofs.Common.{◌≡◌, ◌≢◌, ◌∙◌, sym, ap, subst, ℕ, Bool, true, Some, List, [], ◌∷◌, ◌++◌}
 use Rattle.std.specs.List.{AllByRecursion}
 use Rattle.sha2.specs.Sha256.{sha256}
 use Rattle.tree_model.specs.declared.hash.Hash.{Hash}
@@ -9,18 +9,17 @@ use Rattle.meta_model.specs.declared.plan.Plan.{Plan}
 use Rattle.store_model.specs.declared.signature.EquivRow.{EquivRow}
 use Rattle.store_model.specs.declared.signature.SigRecord.{SigRecord}
 use Rattle.store_model.specs.Available.{task_folder}
-use Rattle.store_model.specs.Origins.{Book, Line, row_of, rows_of}
+use Rattle.store_model.specs.Origins.{Book, Line, rows_of}
 use Rattle.store_model.specs.Spelling.{key_bytes, key_name, short_bytes, short_of, signature_bytes}
 use Rattle.store_model.specs.Valid.{StandsIn}
 use Rattle.store_model.proofs.Ordered.{each_append}
 use Rattle.store_model.proofs.Reading.{key_of_whole}
 use Rattle.build_store.specs.Keys.{HasNewKey, text_key}
-use Rattle.build_store.specs.Laws.{WritesNewKey}
 use Rattle.build_store.specs.View.{OpenViews, opened_at}
 use Rattle.run_model.specs.Books.{book_after, line_of_ended}
 use Rattle.run_model.specs.InFlight.{lines_in_flight}
 use Rattle.run_model.specs.Opening.{Opening}
-use Rattle.run_queue.specs.Flights.{Flies, FliesAs, IsUnderWay, IsValidWith, MayTurn, OpenTask, OpenTasks, OpensAt, SameOpen, put_of_turn, view_of}
+use Rattle.run_queue.specs.Flights.{Flies, FliesAs, IsUnderWay, IsValidWith, MayTurn, OpenTask, OpenTasks, view_of}
 use Rattle.run_queue.proofs.Flights.{flight_of, line_named}
 
 -- the name of the key in the whole text of a signature
@@ -49,13 +48,13 @@ each_standing P book all before line stands = at before (subst (AllByRecursion P
     at [] h = h.0
     at (x ∷ front) h = at front h.1
 
-module _ (o : Opening) (plan : Plan) (tale : List Logged) (opened : OpenTasks) (views : OpenViews) (w : IsUnderWay o plan tale opened) (are : SameOpen opened views) (sig : SigRecord) (fresh : HasNewKey (rows_of (book_after o.gives plan o.book tale)) views sig) where
+module _ (o : Opening) (plan : Plan) (tale : List Logged) (opened : OpenTasks) (views : OpenViews) (w : IsUnderWay o plan tale opened) (are : (folder : List ℕ) (one : OpenTask) → opened folder ≡ Some one → opened_at views folder ≡ Some (view_of one)) (sig : SigRecord) (fresh : HasNewKey (rows_of (book_after o.gives plan o.book tale)) views sig) where
   abbrev Now : Book
   Now = book_after o.gives plan o.book tale
 
   other_key : (t : ℕ) (one : OpenTask) → FliesAs plan opened t one → key_name one.signed.sig.key ≢ key_name sig.key
   other_key t one fl same =
-      fresh.opens (task_folder one.signed.task) (view_of one) (sym (are (task_folder one.signed.task)) ∙ ap (Rattle.std.specs.Option.option_map view_of) fl.1) (key_in_text one.signed.sig ∙ same)
+      fresh.opens (task_folder one.signed.task) (view_of one) (are (task_folder one.signed.task) one fl.1) (key_in_text one.signed.sig ∙ same)
 
   in_flight : (ts : List ℕ) → AllByRecursion (Flies plan opened) ts → AllByRecursion (HasOther (key_name sig.key)) (lines_in_flight o.gives plan (book_after o.gives plan o.book tale) ts)
   in_flight [] fly = tt
@@ -72,7 +71,7 @@ module _ (o : Opening) (plan : Plan) (tale : List Logged) (opened : OpenTasks) (
       (each_append (HasOther (key_name sig.key)) Now (lines_in_flight o.gives plan Now ts) (others_of_rows (key_name sig.key) Now fresh.rows) (in_flight ts fly))
 
 -- So the turn in which one more is opened may write its key, over what was valid before.
-pub opening_may_turn : (o : Opening) (plan : Plan) (tale : List Logged) (opened later : OpenTasks) (views : OpenViews) (w : IsUnderWay o plan tale opened) (are : SameOpen opened views) (one : OpenTask) (writes : Bool)
+pub opening_may_turn : (o : Opening) (plan : Plan) (tale : List Logged) (opened later : OpenTasks) (views : OpenViews) (w : IsUnderWay o plan tale opened) (are : (folder : List ℕ) (one : OpenTask) → opened folder ≡ Some one → opened_at views folder ≡ Some (view_of one)) (one : OpenTask) (writes : Bool)
     → (writes ≡ true → HasNewKey (rows_of (book_after o.gives plan o.book tale)) views one.signed.sig) → ((t : ℕ) → Flies plan opened t → Flies plan later t)
     → (image : Store) → IsValidWith o plan tale opened image → MayTurn o plan tale later one writes image
 opening_may_turn o plan tale opened later views w are one writes fresh still image v = record {

@@ -67,6 +67,8 @@ pub state_known : {D W : Type 0} (count now : ℕ) (s : RunView D W) (store : St
 state_known count now s store k is none same clean known = record {
   sound = is.sound;
   long = is.long;
+  few = is.few;
+  among = is.among;
   orderly = is.orderly;
   current = known;
   unharmed = λ n. same ∙ is.unharmed n;

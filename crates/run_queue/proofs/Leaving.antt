@@ -40,7 +40,7 @@ use Rattle.run_model.specs.Books.{book_after}
 use Rattle.run_model.specs.Opening.{Opening}
 use Rattle.run_model.specs.Own.{IsAside, IsObjectOfNone, IsUnihashOver}
 use Rattle.run_model.specs.Stands.{AllStand, HasStarted, IsSettledIn}
-use Rattle.run_queue.specs.Flights.{AreLeft, FliesAs, IsFlight, IsUnderWay, IsValidWith, KeepOtherObjects, MayTurn, OpenTask, OpenTasks, StandTo, put_of_turn}
+use Rattle.run_queue.specs.Flights.{AreLeft, FliesAs, IsFlight, IsUnderWay, KeepOtherObjects, MayTurn, OpenTask, OpenTasks, StandTo, put_of_turn}
 use Rattle.run_queue.specs.Opening.{MayRun}
 use Rattle.run_queue.specs.Seen.{IsBegunIn}
 use Rattle.run_queue.specs.Stands.{IsAsBegun, IsClearOfStamps, IsLeft, IsPublishing, KeepsFolders}

@@ -20,7 +20,10 @@ pub mod Placing
 pub mod FoldersAbove
 pub mod Asked
 pub mod Known
+pub mod States
 pub mod Answered
+pub mod Hands
+pub mod Mends
 pub mod Settled
 pub mod OwnNames
 pub mod OfRows

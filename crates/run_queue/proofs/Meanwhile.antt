@@ -1,6 +1,6 @@
 -- What others' turns leave of publications that are open, and of tasks that run.
-use Rattle.std.proofs.Common.{◌≡◌, ◌≢◌, ◌∙◌, sym, ap, subst, refl, ℕ, ◌⊎◌, inl, inr, true, false, List, [], ◌∷◌, ◌++◌, length, Some, None}
-use Rattle.std.specs.Prelude.{IsSome, Option, codes}
+use Rattle.std.proofs.Common.{◌≡◌, ◌≢◌, ◌∙◌, sym, ap, subst, refl, ℕ, ◌⊎◌, inl, inr, arith, true, false, List, [], ◌∷◌, ◌++◌, length, Some, None}
+use Rattle.std.specs.Prelude.{Contains, IsSome, Option, codes}
 use Rattle.std.specs.Option.{option_or}
 use Rattle.std.specs.List.{AllByRecursion}
 use Rattle.std.proofs.lemmas.Bool.{cases_eq, false≢true}
@@ -19,7 +19,7 @@ use Rattle.tale_model.specs.Fates.{fate_at, fate_by, fates_told, is_running, tas
 use Rattle.run_core.proofs.Steps.{told_push}
 use Rattle.run_model.specs.InFlight.{RunsAfter}
 use Rattle.run_model.specs.Stands.{HasBroken, IsPlaced}
-use Rattle.run_queue.specs.Keeps.{IsToldOf, WasThere, nobody}
+use Rattle.run_queue.specs.Keeps.{IsToldOf, WasThere}
 use Rattle.run_queue.specs.Seen.{Seen}
 use Rattle.run_queue.specs.declared.fault.RunFault.{RunFault}
 use Rattle.run_queue.proofs.Notes.{set_other}
@@ -122,36 +122,39 @@ started_stays_missing o plan book more may setscene t s later is is_later needs 
 -- ---- what is told
 
 pub told_at_end : ToldAtEnd
-told_at_end o s halted t none told = elim told [
+told_at_end o s t none over told = elim told [
   | inl placed ↦ inl placed
   | inr rest ↦ elim rest [
     | inl runs ↦ absurd (none t (ap is_running runs.1))
-    | inr more ↦ elim more [ inl it ↦ inr it | inr never ↦ absurd never ]
-  ]
-]
-
-pub told_goes_on : ToldGoesOn
-told_goes_on o s later halted t entry same_plan same_tale stays there own told = elim told [
-  | inl placed ↦ inl (subst (λ (l : List Logged). IsPlaced l t) (sym same_tale) (placed_on s.tale entry t placed))
-  | inr rest ↦ elim rest [
-    | inl runs ↦ runs_on runs.0 runs.1 (cases_eq t (task_of entry.event))
     | inr more ↦ elim more [
-      | inl it ↦ inr (inr (inl (
-        stays it.0,
-        elim it.1 [
-          | inl broken ↦ inl (subst (λ (l : List Logged). HasBroken l t) (sym same_tale) (broken_on s.tale entry t broken))
-          | inr was ↦ inr (was.0, there was.1)
-        ],
-      )))
-      | inr never ↦ absurd never
+      | inl it ↦ inr (it.0, inl it.1)
+      | inr hand ↦ elim over [
+        | inl empty ↦ absurd (none_in (subst (λ (l : List ℕ). Contains l t) empty hand.0))
+        | inr some ↦ inr (some, inr hand)
+      ]
     ]
   ]
 ]
   where
-    runs_on : (seat : ℕ) → RunsAfter s.plan s.tale t seat → (t ≡ task_of entry.event) ⊎ (t ≢ task_of entry.event) → IsToldOf o later halted nobody t
+    none_in : Contains {X = ℕ} [] t → ⊥
+    none_in c = let lt = c.1 in omega (arith, lt)
+
+pub told_goes_on : ToldGoesOn
+told_goes_on o s later t entry same_plan same_tale stays hand own told = elim told [
+  | inl placed ↦ inl (subst (λ (l : List Logged). IsPlaced l t) (sym same_tale) (placed_on s.tale entry t placed))
+  | inr rest ↦ elim rest [
+    | inl runs ↦ runs_on runs.0 runs.1 (cases_eq t (task_of entry.event))
+    | inr more ↦ elim more [
+      | inl it ↦ inr (inr (inl (stays it.0, subst (λ (l : List Logged). HasBroken l t) (sym same_tale) (broken_on s.tale entry t it.1))))
+      | inr was ↦ inr (inr (inr (hand was.0 was.1)))
+    ]
+  ]
+]
+  where
+    runs_on : (seat : ℕ) → RunsAfter s.plan s.tale t seat → (t ≡ task_of entry.event) ⊎ (t ≢ task_of entry.event) → IsToldOf o later t
     runs_on seat runs (inl same) = elim (own seat same runs) [
       | inl placed ↦ inl placed
-      | inr broken ↦ inr (inr (inl (broken.0, inl broken.1)))
+      | inr broken ↦ inr (inr (inl broken))
     ]
     runs_on seat runs (inr ne) =
         let now : RunsAfter s.plan (s.tale ++ entry ∷ []) t seat = ap (λ (l : List Fate). fate_at l t) (told_push (length s.plan.tasks) s.tale entry) ∙ set_other (fates_told (length s.plan.tasks) s.tale) (task_of entry.event) t (fate_by entry.event) (λ e. ne (sym e)) ∙ runs in
@@ -164,35 +167,14 @@ fault_stays None None stays is = is
 fault_stays (Some f) None stays is = absurd (let n : Some f ≡ None = stays refl in cc)
 
 -- A task is told of still, by views that say the same of what was there, where a fault stays.
-pub told_by : (o : Opening) (s later : Seen) (halted : ℕ) (but : ℕ → Type 0) (t : ℕ) → later.plan ≡ s.plan → later.tale ≡ s.tale → (IsSome s.fault → IsSome later.fault) → (WasThere o s t Object → WasThere o later t Object) → IsToldOf o s halted but t → IsToldOf o later halted but t
-told_by o s later halted but t same_plan same_tale stays there told = elim told [
+pub told_by : (o : Opening) (s later : Seen) (t : ℕ) → later.plan ≡ s.plan → later.tale ≡ s.tale → (IsSome s.fault → IsSome later.fault) → (Contains s.restoring t → WasThere o s t Object → Contains later.restoring t × WasThere o later t Object) → IsToldOf o s t → IsToldOf o later t
+told_by o s later t same_plan same_tale stays hand told = elim told [
   | inl placed ↦ inl (subst (λ (l : List Logged). IsPlaced l t) (sym same_tale) placed)
   | inr rest ↦ elim rest [
     | inl runs ↦ inr (inl (runs.0, subst (λ (p : Plan). RunsAfter p later.tale t runs.0) (sym same_plan) (subst (λ (l : List Logged). RunsAfter s.plan l t runs.0) (sym same_tale) runs.1)))
     | inr more ↦ elim more [
-      | inl it ↦ inr (inr (inl (
-        stays it.0,
-        elim it.1 [
-          | inl broken ↦ inl (subst (λ (l : List Logged). HasBroken l t) (sym same_tale) broken)
-          | inr was ↦ inr (was.0, there was.1)
-        ],
-      )))
-      | inr other ↦ inr (inr (inr other))
-    ]
-  ]
-]
-
--- Behind one more entry, also where it needn't have been told of before.
-pub told_on : (o : Opening) (s later : Seen) (halted : ℕ) (but : ℕ → Type 0) (t : ℕ) (entry : Logged) → later.plan ≡ s.plan → later.tale ≡ s.tale ++ entry ∷ [] → (IsSome s.fault → IsSome later.fault) → (WasThere o s t Object → WasThere o later t Object)
-    → ((seat : ℕ) → t ≡ task_of entry.event → RunsAfter s.plan s.tale t seat → IsPlaced later.tale t ⊎ (IsSome later.fault × HasBroken later.tale t))
-    → (but t → IsToldOf o later halted nobody t) → IsToldOf o s halted but t → IsToldOf o later halted nobody t
-told_on o s later halted but t entry same_plan same_tale stays there own spare told = elim told [
-  | inl placed ↦ told_goes_on o s later halted t entry same_plan same_tale stays there own (inl placed)
-  | inr rest ↦ elim rest [
-    | inl runs ↦ told_goes_on o s later halted t entry same_plan same_tale stays there own (inr (inl runs))
-    | inr more ↦ elim more [
-      | inl it ↦ told_goes_on o s later halted t entry same_plan same_tale stays there own (inr (inr (inl it)))
-      | inr other ↦ spare other
+      | inl it ↦ inr (inr (inl (stays it.0, subst (λ (l : List Logged). HasBroken l t) (sym same_tale) it.1)))
+      | inr was ↦ inr (inr (inr (hand was.0 was.1)))
     ]
   ]
 ]

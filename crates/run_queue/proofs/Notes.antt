@@ -86,6 +86,8 @@ pub noted_state : {D W : Type 0} (count : ℕ) (s : RunView D W) (e : Logged) �
 noted_state count s e is order calm = record {
   sound = is.sound;
   long = is.long;
+  few = is.few;
+  among = is.among;
   orderly = each_push (IsOrderly s.plan.tasks) s.tale e is.orderly order;
   current = is.current;
   unharmed = is.unharmed;
@@ -117,6 +119,8 @@ pub said_state : {D W : Type 0} (count : ℕ) (s : RunView D W) (sink : W) (fail
 said_state count s sink failed stays heard is = record {
   sound = is.sound;
   long = is.long;
+  few = is.few;
+  among = is.among;
   orderly = is.orderly;
   current = is.current;
   unharmed = is.unharmed;

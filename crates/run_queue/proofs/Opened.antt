@@ -35,6 +35,8 @@ use Rattle.run_queue.proofs.Enduring.{differ_at}
 use Rattle.run_queue.proofs.OwnNames.{signed_task_at}
 use Rattle.run_queue.proofs.Flights.{folders_differ}
 use Rattle.run_queue.proofs.Putting.{book_now, readable_now}
+use Rattle.run_queue.specs.Mends.{both}
+use Rattle.run_queue.proofs.Mends.{both_either, both_none, mend_at, mends_rest}
 
 -- ---- as the store keeps them
 
@@ -102,14 +104,26 @@ under_way o s run faultless orderly may = record {
 
 module _ (o : Opening) (s : Seen) (run : IsRun o s) (faultless : s.fault ≡ None) (t : ℕ) where
   -- What the store has open of a task with its signature flies.
-  pub flies_as : (x : Signed) → slice_get s.plan.tasks t ≡ Some x.task → slice_get (signatures s.rows s.plan.tasks) t ≡ Some x → (tree : Entries) → IsOpen s.opened x tree → FliesAs s.plan run.opened t (record { signed = x; tree = tree })
-  flies_as x at signed tree is = (at, found.1 ∙ ap (λ (y : OpenTask). Some y) whole)
+  pub flies_as : (seat : ℕ) → RunsAfter s.plan s.tale t seat → (x : Signed) → slice_get s.plan.tasks t ≡ Some x.task → slice_get (signatures s.rows s.plan.tasks) t ≡ Some x → (tree : Entries) → IsOpen s.opened x tree → FliesAs s.plan run.opened t (record { signed = x; tree = tree })
+  flies_as seat runs x at signed tree is = (at, flies ∙ ap (λ (y : OpenTask). Some y) whole)
     where
-      found : (one : OpenTask) × (run.opened (task_folder x.task) ≡ Some one) × (view_of one ≡ open_view x tree)
-      found = some_of run.opened s.opened (run.open_are faultless) (task_folder x.task) (open_view x tree) is
+      found : (one : OpenTask) × (both run.opened run.mends (task_folder x.task) ≡ Some one) × (view_of one ≡ open_view x tree)
+      found = some_of (both run.opened run.mends) s.opened (run.open_are faultless) (task_folder x.task) (open_view x tree) is
+
+      -- it is no restoring, since that would be of this task, which runs
+      not_mend : run.mends (task_folder x.task) ≡ Some found.0 → ⊥
+      not_mend beside =
+          let m = (run.mending faultless).each (task_folder x.task) found.0 beside in
+          elim (cases_eq m.number t) [
+            | inl same ↦ mends_rest o s run faultless t seat runs (task_folder x.task) found.0 beside same
+            | inr ne ↦ folders_differ s.plan run.may.sound m.number t m.own.task x.task (mend_at o s.plan s.rows s.begun s.tale s.restoring (task_folder x.task) found.0 m) at ne (sym m.folder_is)
+          ]
+
+      flies : run.opened (task_folder x.task) ≡ Some found.0
+      flies = elim (both_either run.opened run.mends (task_folder x.task) found.0 found.1) [ inl it ↦ it | inr beside ↦ absurd (not_mend beside) ]
 
       hand : IsInHand o s.plan s.tale (task_folder x.task) found.0
-      hand = (run.flights faultless).each (task_folder x.task) found.0 found.1
+      hand = (run.flights faultless).each (task_folder x.task) found.0 flies
 
       number : hand.number ≡ t
       number = elim (cases_eq hand.number t) [
@@ -131,7 +145,7 @@ module _ (o : Opening) (s : Seen) (run : IsRun o s) (faultless : s.fault ≡ Non
   unbegun_now seat runs own at none begun =
       let flies = run.flying faultless t seat runs begun in
       let same : own ≡ flies.0.signed.task = same_Some own flies.0.signed.task (sym at ∙ flies.1.0) in
-      none-some flies.0 (sym (none_of run.opened s.opened (run.open_are faultless) (task_folder own) none) ∙ ap (λ (x : PlanTask). run.opened (task_folder x)) same ∙ flies.1.1)
+      none-some flies.0 (sym (both_none run.opened run.mends (task_folder own) (none_of (both run.opened run.mends) s.opened (run.open_are faultless) (task_folder own) none)).0 ∙ ap (λ (x : PlanTask). run.opened (task_folder x)) same ∙ flies.1.1)
 
 -- What a task needs that runs has rows.
 pub needs_now : (o : Opening) (s : Seen) (run : IsRun o s) → EachAfter (IsOrderly s.plan.tasks) s.tale → (t seat : ℕ) → RunsAfter s.plan s.tale t seat → (x : Signed) → slice_get (signatures s.rows s.plan.tasks) t ≡ Some x → NeedsHaveRows (rows_of (book_now o s)) (signatures (rows_of (book_now o s)) s.plan.tasks) x.task

@@ -5,7 +5,8 @@ use Rattle.std.specs.List.{AllByRecursion, list_any, slice_get}
 use Rattle.std.proofs.lemmas.Bool.{false≢true}
 use Rattle.std.proofs.lemmas.Bool.Decides.{Decides-ltb}
 use Rattle.std.proofs.lemmas.List.{map-append}
-use Rattle.std.proofs.lemmas.Option.{slice_get-get_or}
+use Rattle.std.specs.Option.{is_some, option_map}
+use Rattle.std.proofs.lemmas.Option.{same_Some, slice_get-get_or}
 use Rattle.tree_model.specs.declared.entry.Entry.{Entry}
 use Rattle.meta_model.specs.declared.plan.Plan.{Plan}
 use Rattle.meta_model.specs.declared.plan.PlanTask.{PlanTask}
@@ -25,10 +26,13 @@ use Rattle.store_model.proofs.Spelled.{signature_is_spelled}
 use Rattle.sig_gen.specs.Signing.{signature_by}
 use Rattle.setscene_plan.specs.Names.{AreNamed}
 use Rattle.setscene_plan.proofs.Naming.{signed_at, signed_is}
-use Rattle.std.specs.Prelude.{IfErr, IfOk, IfSome, IsSome, MatchBool, Result, Ok, Err}
+use Rattle.std.specs.Prelude.{◌≢◌, IfErr, IfOk, IfSome, IsSome, OnErr, OnOk, Result, Ok, Err, is_none, if◌then◌else◌}
+use Rattle.std.specs.Bool.{OnFalse, OnTrue}
+use Rattle.tree_model.specs.declared.hash.Hash.{Hash}
+use Rattle.store_model.specs.Origins.{row_of}
+use Rattle.store_model.specs.Rows.{row_at}
 use Rattle.std.specs.Result.{IsErrAnd}
 use Rattle.outside_traits.specs.Fault.{Counts}
-use Rattle.outside_traits.specs.Passes.{EachNow}
 use Rattle.outside_traits.specs.Story.{Story}
 use Rattle.setscene_plan.specs.declared.replan.Replan.{Replan}
 use Rattle.run_queue.specs.Seen.{no_meaning}
@@ -36,10 +40,14 @@ use Rattle.setscene_plan.specs.Replans.{IsCurrent, names_in, unihashes_in}
 use Rattle.setscene_plan.specs.View.{View}
 use Rattle.build_store.specs.Faults.{IsClash, store_failed}
 use Rattle.build_store.specs.declared.fault.StoreFault.{StoreFault}
-use Rattle.build_store.specs.Publication.{AreShort, HasNoObject, IsRestored}
-use Rattle.build_store.specs.View.{IsSignatureOf}
+use Rattle.build_store.specs.Openings.{OpensRestoring, StepsTo}
+use Rattle.build_store.specs.Publication.{AreShort, line_for, rows_with}
+use Rattle.build_store.specs.declared.step.Step.{Step}
+use Rattle.build_store.specs.declared.step.Step.TheVariants as step
+use Rattle.build_store.specs.View.{IsSignatureOf, SameBooks, unshared}
+use Rattle.build_store.specs.View.{View as Store}
 use Rattle.run_queue.specs.Causes.{IsStoreCause}
-use Rattle.run_queue.specs.Puts.{HasPutObject, IsSignedAt}
+use Rattle.run_queue.specs.Puts.{IsSignedAt}
 use Rattle.run_queue.proofs.Causing.{clash_cause}
 use Rattle.run_queue.proofs.Enduring.{signed_task}
 use Rattle.run_queue.proofs.Known.{sound_ordered}
@@ -147,7 +155,55 @@ restore_cause before count plan rows later number s (Ok found) signed same none 
 restore_cause before count plan rows later number s (Err f) signed same none counts refused = subst (λ (l : List EquivRow). IsStoreCause count plan l f) (sym same) (clash_cause before count plan rows number s f signed none counts refused)
 
 -- What is answered of a task with its signature is answered of the task of its number.
-pub put_object : (tells : Type 0) (old new : Story) (rows : List EquivRow) (tasks : List PlanTask) (t : ℕ) (x : Signed) (r : Result Bool StoreFault) → ((s : Signed) → IsSignedAt rows tasks t s → s ≡ x)
-    → (tells → IfOk r (λ found. MatchBool found (EachNow new (IsRestored old.held rows x)) (HasNoObject old.held rows x))) → IfOk r (λ found. (s : Signed) → IsSignedAt rows tasks t s → HasPutObject tells old new rows s found)
-put_object tells old new rows tasks t x (Ok found) same is = λ s here told. subst (λ (y : Signed). MatchBool found (EachNow new (IsRestored old.held rows y)) (HasNoObject old.held rows y)) (sym (same s here)) (is told)
-put_object tells old new rows tasks t x (Err f) same is = tt
+pub true_own : {E : Type 0} (r : Result Bool E) (P : Signed → Type 0) (rows : List EquivRow) (tasks : List PlanTask) (t : ℕ) (x : Signed) → ((s : Signed) → IsSignedAt rows tasks t s → s ≡ x) → IfOk r (λ found. OnTrue found (P x)) → IfOk r (λ found. OnTrue found ((s : Signed) → IsSignedAt rows tasks t s → P s))
+true_own (Ok true) P rows tasks t x same is = λ s here. subst P (sym (same s here)) is
+true_own (Ok false) P rows tasks t x same is = tt
+true_own (Err e) P rows tasks t x same is = tt
+
+pub false_own : {E : Type 0} (r : Result Bool E) (P : Signed → Type 0) (rows : List EquivRow) (tasks : List PlanTask) (t : ℕ) (x : Signed) → ((s : Signed) → IsSignedAt rows tasks t s → s ≡ x) → IfOk r (λ found. OnFalse found (P x)) → IfOk r (λ found. OnFalse found ((s : Signed) → IsSignedAt rows tasks t s → P s))
+false_own (Ok true) P rows tasks t x same is = tt
+false_own (Ok false) P rows tasks t x same is = λ s here. subst P (sym (same s here)) is
+false_own (Err e) P rows tasks t x same is = tt
+
+-- its record is stored, by its name in what is known
+pub stored_name : (plan : Plan) (rows : List EquivRow) (replan : Option Replan) (t : ℕ) (task : PlanTask) (sig : SigRecord) → slice_get plan.tasks t ≡ Some task → IfSome replan (IsCurrent no_meaning (view_of plan rows)) → IsSome replan → IsBy plan t sig replan
+    → IfSome replan (λ known. (name : Hash) → slice_get (names_in known) t ≡ Some name → row_at rows name ≢ None) → row_at rows (name_of sig) ≢ None
+stored_name plan rows None t task sig at current known by has = absurd (false≢true known)
+stored_name plan rows (Some r) t task sig at current known by has = has (name_of sig) (current.made.named t task at ∙ ap (λ (g : SigRecord). Some (name_of g)) (sym (by task at)))
+
+-- a name whose row has a unihash has a row
+pub row_there : (rows : List EquivRow) (names : List Hash) (t : ℕ) (d : Hash) (u : Option Hash) → t < length names → u ≡ option_map (λ (row : EquivRow). row.unihash) (row_at rows (get_or names t d)) → is_some u ≡ true → (name : Hash) → slice_get names t ≡ Some name → row_at rows name ≢ None
+row_there rows names t d u lt answered some name at none =
+    let same : get_or names t d ≡ name = same_Some (get_or names t d) name (sym (slice_get-get_or names t d lt) ∙ at) in
+    false≢true (sym (ap is_some (answered ∙ ap (option_map (λ (row : EquivRow). row.unihash)) (ap (row_at rows) same ∙ none))) ∙ some)
+
+module _ {D : Type 0} (old new : Store D) (s : Signed) where
+  -- a restoring whose record is stored adds no row
+  rows_by_step : (step : Step) → StepsTo old new (unshared s) step → row_at old.rows (name_of s.sig) ≢ None → new.rows ≡ old.rows
+  rows_by_step step.NotOpen h has = ap (λ (v : Store D). v.rows) h.0
+  rows_by_step step.More h has = h.books.rows
+  rows_by_step step.Wait h has = h.books.rows
+  rows_by_step (step.Done unihash) h has = h.rows ∙ none_more (row_at old.rows (name_of s.sig)) refl
+    where
+      none_more : (x : Option EquivRow) → row_at old.rows (name_of s.sig) ≡ x → rows_with old.rows (unshared s) h.tree ≡ old.rows
+      none_more None e = absurd (has e)
+      none_more (Some row) e = ap (λ (y : Option EquivRow). if is_none y then old.rows ++ row_of (line_for old.rows (unshared s) h.tree) ∷ [] else old.rows) e
+
+  pub rows_by_result : (r : Result Step StoreFault) → IfOk r (StepsTo old new (unshared s)) → OnErr r ((new.rows ≡ old.rows) × (new.kept ≡ old.kept)) → row_at old.rows (name_of s.sig) ≢ None → new.rows ≡ old.rows
+  rows_by_result (Ok step) steps refused has = rows_by_step step steps has
+  rows_by_result (Err f) steps refused has = refused.0
+
+  faultless_by_step : (step : Step) → StepsTo old new (unshared s) step → new.faultless ≡ old.faultless
+  faultless_by_step step.NotOpen h = ap (λ (v : Store D). v.faultless) h.0
+  faultless_by_step step.More h = h.books.faultless
+  faultless_by_step step.Wait h = h.books.faultless
+  faultless_by_step (step.Done unihash) h = h.faultless
+
+  pub steps_faultless : (r : Result Step StoreFault) → IfOk r (StepsTo old new (unshared s)) → OnOk r (new.faultless ≡ old.faultless)
+  steps_faultless (Ok step) steps = faultless_by_step step steps
+  steps_faultless (Err f) steps = tt
+
+pub opens_faultless : {D : Type 0} (tells : Type 0) (story : D → Story) (old new : Store D) (s : Signed) (r : Result Bool StoreFault) → IfOk r (λ found. OnTrue found (OpensRestoring tells story old new s)) → IfOk r (λ found. OnFalse found (SameBooks old new)) → OnOk r (new.faultless ≡ old.faultless)
+opens_faultless tells story old new s (Ok true) opens same = opens.opens.faultless
+opens_faultless tells story old new s (Ok false) opens same = same.faultless
+opens_faultless tells story old new s (Err f) opens same = tt

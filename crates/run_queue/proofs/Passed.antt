@@ -6,7 +6,7 @@ use Rattle.outside_traits.specs.Store.{Store}
 use Rattle.outside_traits.specs.Story.{IsImage, IsImageSince, Story, moment}
 use Rattle.outside_traits.proofs.Images.{now-since, since-now}
 use Rattle.run_model.specs.Opening.{Opening}
-use Rattle.run_queue.specs.Keeps.{IsRun, nobody}
+use Rattle.run_queue.specs.Keeps.{IsRun}
 use Rattle.run_queue.specs.declared.fault.RunFault.{RunFault}
 use Rattle.build_store.specs.View.{SameBooks, View}
 use Rattle.run_queue.specs.Seen.{RunView, Seen, seen}
@@ -34,8 +34,10 @@ passed_run o s story fault p faultless run = record {
   own = run.own;
   readable = run.readable;
   opened = run.opened;
+  mends = run.mends;
   book = λ none. run.book (faultless none);
   open_are = λ none. run.open_are (faultless none);
+  mending = λ none. run.mending (faultless none);
   flights = λ none. run.flights (faultless none);
   touched = λ none. run.touched (faultless none);
   flying = λ none. run.flying (faultless none);
@@ -52,8 +54,7 @@ passed_run o s story fault p faultless run = record {
   there = run.there;
   answered = λ none. run.answered (faultless none);
   met = run.met;
-  halted = run.halted;
-  told = λ u b. told_by o s (record s { story = story; fault = fault }) run.halted nobody u refl refl (fault_stays s.fault fault faultless) (λ was x here. was x here) (run.told u b);
+  told = λ u b. told_by o s (record s { story = story; fault = fault }) u refl refl (fault_stays s.fault fault faultless) (λ hand was. (hand, λ x here. was x here)) (run.told u b);
   images = λ t image le since. run.images t image le (same_since s.story story t image p (let a = run.later in omega (arith, a, le)) since);
   stands = λ image is. run.stands image (same_now s.story story image p is);
   settled = λ k entry at lt image since. run.settled k entry at lt image (same_since s.story story entry.moment image p (run.marked k entry at) since);
@@ -75,6 +76,7 @@ passed_view story written o old store fault books p faultless run =
       fault = fault;
       tale = old.tale;
       begun = old.begun;
+      restoring = old.restoring;
       known = old.known;
       story = story store.disk;
       written = written old.sink;

@@ -126,6 +126,8 @@ pub state_after : {D W : Type 0} (count now : ℕ) (s : RunView D W) (store : Vi
 state_after count now s store begun fault made is none clean long unharmed cause current = record {
   sound = is.sound;
   long = long ∙ is.long;
+  few = is.few;
+  among = is.among;
   orderly = is.orderly;
   current = known made current;
   unharmed = unharmed;

@@ -32,15 +32,16 @@ use Rattle.run_model.specs.Books.{book_after, book_by, rows_after, signed_after}
 use Rattle.run_model.specs.Courses.{IsCourse}
 use Rattle.run_queue.specs.Courses.{IsReal}
 use Rattle.run_queue.specs.Flights.{AreFlights, IsValidWith}
-use Rattle.run_queue.specs.Keeps.{IsRun, IsRunBut, WasThere}
+use Rattle.run_queue.specs.Keeps.{IsRun, WasThere}
 use Rattle.run_queue.specs.declared.fault.RunFault.{RunFault}
 use Rattle.run_queue.specs.Seen.{Known, RunView, Seen, seen}
 use Rattle.run_model.specs.InFlight.{RunsAfter}
-use Rattle.run_model.specs.Stands.{AllStand, HasEnded, HasOwnRow, IsSettledIn, IsStanding, IsPlaced}
+use Rattle.run_model.specs.Stands.{AllStand, HasEnded, HasOwnRow, IsSettledIn, IsStanding}
 use Rattle.run_queue.specs.Stands.{HasObjects}
 use Rattle.run_queue.specs.Turns.{MarksAt, Notes}
 use Rattle.run_queue.proofs.Boarding.{marks_keep_flights}
-use Rattle.run_queue.proofs.Meanwhile.{fault_stays, told_on}
+use Rattle.run_queue.proofs.Meanwhile.{fault_stays, told_goes_on}
+use Rattle.run_queue.proofs.Mends.{IsBeside, mends_marked}
 use Rattle.run_queue.proofs.Touched.{left_behind}
 use Rattle.run_queue.proofs.Growing.{book_grows, legal_grows}
 use Rattle.run_queue.proofs.There.{WasSo, there_grows}
@@ -135,14 +136,13 @@ take_front k xs y lt = take-append-le (k + 1) xs (y ∷ []) (omega arith)
 entry_moment : (m n : ℕ) → min m n < n → min m n ≡ m
 entry_moment m n lt = omega (arith, lt)
 
--- A task that is settled may be told of only now.
-pub settled_run : (o : Opening) (s : Seen) (but : ℕ → Type 0) (seat : ℕ) (event : Event) (failed : Bool) (fault : Option RunFault) (written : List ℕ) → SettlesOne o s (logged_at s seat event) → IsRunBut o s but
-    → ((u : ℕ) → but u → IsPlaced (s.tale ++ logged_at s seat event ∷ []) u)
+-- A task that is settled leaves what a run keeps.
+pub settled_run : (o : Opening) (s : Seen) (seat : ℕ) (event : Event) (failed : Bool) (fault : Option RunFault) (written : List ℕ) → SettlesOne o s (logged_at s seat event) → (run : IsRun o s) → IsBeside o s run event
     → (fault ≡ None → s.fault ≡ None)
     → ((course : Course) → course.plan ≡ s.plan → IsCourse o s.options (s.tale ++ logged_at s seat event ∷ []) course → MayCome course s.tale (logged_at s seat event))
     → IsReal o.gives s.plan.tasks event
     → IsRun o (behind s seat event failed fault written)
-settled_run o s but seat event failed fault written settles run own faultless may real =
+settled_run o s seat event failed fault written settles run beside faultless may real =
     let at : ℕ = min (moment s.story) (2 ^ 64 - 1) in
     let e : Logged = logged_at s seat event in
     let later : Seen = behind s seat event failed fault written in
@@ -156,8 +156,10 @@ settled_run o s but seat event failed fault written settles run own faultless ma
       own = run.own;
       readable = run.readable;
       opened = run.opened;
+      mends = run.mends;
       book = λ none. run.book (faultless none);
       open_are = λ none. run.open_are (faultless none);
+      mending = λ none. mends_marked o s run (faultless none) (logged_at s seat event) beside;
       flights = λ none. (flown none).0;
       touched = λ none. run.touched (faultless none);
       flying = λ none u other runs begun. run.flying (faultless none) u other (ran u other runs).1 begun;
@@ -192,8 +194,7 @@ settled_run o s but seat event failed fault written settles run own faultless ma
             let m = run.met u (settled_back o s e settles u ne settled) (λ ended. not_yet (ended_on o s e settles u ended)) in
             (m.0, m.1, m.2)
       ];
-      halted = run.halted;
-      told = λ u b. told_on o s later run.halted but u e refl refl (fault_stays s.fault fault faultless) (λ was x here. was x here) (λ other same runs. absurd (waits u other runs (sym same))) (λ spare. inl (own u spare)) (run.told u b);
+      told = λ u b. told_goes_on o s later u e refl refl (fault_stays s.fault fault faultless) (λ hand was. (hand, λ x here. was x here)) (λ other same runs. absurd (waits u other runs (sym same))) (run.told u b);
       images = λ t image le since. elim (run.images t image le since) [ inl before ↦ inl before | inr left ↦ inr (left_behind o s.plan s.begun s.tale e image left) ];
       stands = λ image is. stands_on o s e settles image is (run.stands image is);
       settled = λ k x here lt image since. elim (front_at o s e settles k x here) [
@@ -225,13 +226,12 @@ settled_run o s but seat event failed fault written settles run own faultless ma
     flown none = marks_keep_flights o s.plan s.tale run.opened (logged_at s seat event) settles.book (λ u other flies runs same. waits u other runs (sym same)) (run.flights (faultless none))
 
 -- the same of views of a state
-pub settled_view : {D W : Type 0} (story : D → Story) (written : W → List ℕ) (o : Opening) (old new : RunView D W) (but : ℕ → Type 0) (seat : ℕ) (event : Event) → Notes seat event old new → MarksAt (story old.store.disk) seat event old.tale new.tale → (IsSome old.fault → new.fault ≡ old.fault)
-    → SettlesOne o (seen story written old) (logged_at (seen story written old) seat event) → IsRunBut o (seen story written old) but
-    → ((u : ℕ) → but u → IsPlaced (old.tale ++ logged_at (seen story written old) seat event ∷ []) u)
+pub settled_view : {D W : Type 0} (story : D → Story) (written : W → List ℕ) (o : Opening) (old new : RunView D W) (seat : ℕ) (event : Event) → Notes seat event old new → MarksAt (story old.store.disk) seat event old.tale new.tale → (IsSome old.fault → new.fault ≡ old.fault)
+    → SettlesOne o (seen story written old) (logged_at (seen story written old) seat event) → (run : IsRun o (seen story written old)) → IsBeside o (seen story written old) run event
     → ((course : Course) → course.plan ≡ old.plan → IsCourse o old.options (old.tale ++ logged_at (seen story written old) seat event ∷ []) course → MayCome course old.tale (logged_at (seen story written old) seat event))
     → IsReal o.gives old.plan.tasks event
     → IsRun o (seen story written new)
-settled_view story written o old new but seat event n m stays settles run own may real =
+settled_view story written o old new seat event n m stays settles run beside may real =
     let made : Seen = behind (seen story written old) seat event new.sink_failed new.fault (written new.sink) in
     let same : made ≡ seen story written new = λ i. record {
       plan = sym n.plan i;
@@ -243,8 +243,9 @@ settled_view story written o old new but seat event n m stays settles run own ma
       fault = new.fault;
       tale = sym m.is i;
       begun = sym n.begun i;
+      restoring = sym n.restoring i;
       known = sym n.known i;
       story = story (sym n.store i).disk;
       written = written new.sink;
     } in
-    subst (IsRun o) same (settled_run o (seen story written old) but seat event new.sink_failed new.fault (written new.sink) settles run own (was_none old.fault new.fault stays) may real)
+    subst (IsRun o) same (settled_run o (seen story written old) seat event new.sink_failed new.fault (written new.sink) settles run beside (was_none old.fault new.fault stays) may real)

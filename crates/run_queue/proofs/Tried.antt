@@ -1,6 +1,6 @@
 -- What a try of a claim did, told of the state before nothing was marked.
-use Rattle.std.proofs.Common.{◌≡◌, ◌∙◌, sym, subst, refl, ℕ, arith, List, length, take, Some, None, Ok, Err}
-use Rattle.std.specs.Prelude.{Option, Result}
+use Rattle.std.proofs.Common.{◌≡◌, ◌∙◌, sym, ap, subst, refl, ℕ, arith, Bool, false, List, [], ◌∷◌, ◌++◌, length, take, Some, None, Ok, Err, inl, inr}
+use Rattle.std.specs.Prelude.{Contains, Option, Result}
 use Rattle.std.specs.List.{slice_get}
 use Rattle.std.proofs.lemmas.List.{take_all}
 use Rattle.outside_traits.specs.Story.{Story}
@@ -9,7 +9,7 @@ use Rattle.meta_model.specs.declared.event.Logged.{Logged}
 use Rattle.meta_model.specs.declared.plan.Options.{Options}
 use Rattle.meta_model.specs.declared.plan.Plan.{Plan}
 use Rattle.tale_model.specs.Choice.{IsFinished}
-use Rattle.run_core.specs.Choice.{CannotGoOn, MayAnswer}
+use Rattle.run_core.specs.Choice.{CannotGoOn, MayAnswer, MayAnswerBeside}
 use Rattle.run_core.specs.declared.next.Next.{Next}
 use Rattle.run_core.specs.declared.next.Next.TheVariants as next
 use Rattle.tale_model.specs.Fates.{IsFree, fates_told}
@@ -23,25 +23,27 @@ use Rattle.run_queue.specs.declared.state.Claim.{Claim}
 use Rattle.run_queue.specs.declared.state.Claim.TheVariants as claim
 use Rattle.run_queue.specs.Keeps.{IsRun, IsUpToDate}
 use Rattle.run_queue.specs.Seen.{Known, RunView, Seen, seen}
-use Rattle.run_queue.specs.Turns.{ClaimsClean, Looks, TurnsClean, TurnsTo, fates_of}
+use Rattle.run_queue.specs.Turns.{ClaimsClean, Looks, RestoresBy, TurnsClean, TurnsRestore, TurnsTo, fates_of}
 use Rattle.run_queue.proofs.Agreement.{agreement}
 use Rattle.run_queue.proofs.Claiming.{agree_waiting}
 
--- plan, options, sink and tale are the same
+-- plan, options, sink and tale are the same, and what is being restored, and whether an end waits for that
 pub record SameTold {D W : Type 0} (old new : RunView D W) : Type 0 where
   pub plan : new.plan ≡ old.plan
   pub options : new.options ≡ old.options
   pub sink : new.sink ≡ old.sink
   pub sink_failed : new.sink_failed ≡ old.sink_failed
   pub tale : new.tale ≡ old.tale
+  pub restoring : new.restoring ≡ old.restoring
+  pub ends_wait : new.ends_wait ≡ old.ends_wait
 
 pub told_by_look : {D W : Type 0} (old new : RunView D W) → Looks old new → SameTold old new
-told_by_look old new l = record { plan = l.plan; options = l.options; sink = l.sink; sink_failed = l.sink_failed; tale = l.tale }
+told_by_look old new l = record { plan = l.plan; options = l.options; sink = l.sink; sink_failed = l.sink_failed; tale = l.tale; restoring = l.restoring; ends_wait = l.ends_wait }
 
 -- nor does a try that answers nothing
 pub told_by_try : {D W : Type 0} (seat : ℕ) (first old new : RunView D W) (answer : Option Claim) → SameTold first old → TurnsTo seat old new (Ok answer) → ((c : Claim) → answer ≡ Some c → ⊥) → SameTold first new × (new.fault ≡ None)
 told_by_try seat first old new None same t none =
-    (record { plan = t.plan ∙ same.plan; options = t.options ∙ same.options; sink = t.sink ∙ same.sink; sink_failed = t.sink_failed ∙ same.sink_failed; tale = t.tale ∙ same.tale }, t.fault)
+    (record { plan = t.plan ∙ same.plan; options = t.options ∙ same.options; sink = t.sink ∙ same.sink; sink_failed = t.sink_failed ∙ same.sink_failed; tale = t.tale ∙ same.tale; restoring = t.restoring ∙ same.restoring; ends_wait = t.ends_wait ∙ same.ends_wait }, t.fault)
 told_by_try seat first old new (Some c) same t none = absurd (none c refl)
 
 module _ {D W : Type 0} (old mid : RunView D W) (same : SameTold old mid) where
@@ -51,7 +53,7 @@ module _ {D W : Type 0} (old mid : RunView D W) (same : SameTold old mid) where
   pub free_on : (seat : ℕ) → IsFree (fates_of old) seat → IsFree (fates_of mid) seat
   free_on seat free = subst (λ l. IsFree l seat) (sym fates_same) free
 
-  pub clean_from : (story : D → Story) (written : W → List ℕ) (o : Opening) (r : Result Claim Mem) → ClaimsClean o (seen story written mid) r → ClaimsClean o (seen story written old) r
+  pub clean_from : (story : D → Story) (written : W → List ℕ) (o : Opening) (r : Result Claim Mem) → ClaimsClean o mid.ends_wait (seen story written mid) r → ClaimsClean o old.ends_wait (seen story written old) r
   clean_from story written o (Ok (claim.Run job)) c = record {
     task = c.task;
     is_task = subst (λ (p : Plan). slice_get p.tasks job.task ≡ Some c.task) same.plan c.is_task;
@@ -64,13 +66,14 @@ module _ {D W : Type 0} (old mid : RunView D W) (same : SameTold old mid) where
     within = c.within;
   }
   clean_from story written o (Ok (claim.Settled t)) c = tt
-  clean_from story written o (Ok claim.Wait) c = idle
+  clean_from story written o (Ok (claim.Restore t)) c = tt
+  clean_from story written o (Ok claim.Wait) c = λ empty quiet. idle (same.restoring ∙ empty) (same.ends_wait ∙ quiet)
     where
       Idle : Plan → Options → List Logged → Type 0
       Idle p x l = (course : Course) → course.plan ≡ p → IsCourse o x l course → (t : ℕ) → CannotGoOn p.tasks (course.need (length l)) (course.avail (length l)) (fates_told (length p.tasks) l) t
 
-      idle : Idle old.plan old.options old.tale
-      idle = subst (λ (l : List Logged). Idle old.plan old.options l) same.tale (subst (λ (x : Options). Idle old.plan x mid.tale) same.options (subst (λ (p : Plan). Idle p mid.options mid.tale) same.plan c))
+      idle : mid.restoring ≡ [] → mid.ends_wait ≡ false → Idle old.plan old.options old.tale
+      idle empty quiet = subst (λ (l : List Logged). Idle old.plan old.options l) same.tale (subst (λ (x : Options). Idle old.plan x mid.tale) same.options (subst (λ (p : Plan). Idle p mid.options mid.tale) same.plan (c empty quiet)))
   clean_from story written o (Ok claim.Finished) c = at_end
     where
       Ends : Plan → Options → List Logged → Type 0
@@ -81,10 +84,26 @@ module _ {D W : Type 0} (old mid : RunView D W) (same : SameTold old mid) where
   clean_from story written o (Ok claim.Stopped) c = tt
   clean_from story written o (Err e) c = tt
 
-pub turns_clean_from : {D W : Type 0} (old mid : RunView D W) → SameTold old mid → (story : D → Story) (written : W → List ℕ) (o : Opening) (r : Result (Option Claim) Mem) → TurnsClean o (seen story written mid) r → TurnsClean o (seen story written old) r
+pub turns_clean_from : {D W : Type 0} (old mid : RunView D W) → SameTold old mid → (story : D → Story) (written : W → List ℕ) (o : Opening) (r : Result (Option Claim) Mem) → TurnsClean o mid.ends_wait (seen story written mid) r → TurnsClean o old.ends_wait (seen story written old) r
 turns_clean_from old mid same story written o (Ok (Some c)) t = clean_from old mid same story written o (Ok c) t
 turns_clean_from old mid same story written o (Ok None) t = tt
 turns_clean_from old mid same story written o (Err e) t = tt
+
+-- ---- what is being restored
+
+pub restores_from : {D W : Type 0} (old mid new : RunView D W) → SameTold old mid → (r : Result Claim Mem) → RestoresBy mid new r → RestoresBy old new r
+restores_from old mid new same (Ok (claim.Run job)) h = elim h [ inl e ↦ inl (e ∙ same.restoring) | inr some ↦ inr some ]
+restores_from old mid new same (Ok (claim.Settled t)) h = elim h [ inl e ↦ inl (e ∙ same.restoring) | inr some ↦ inr some ]
+restores_from old mid new same (Ok (claim.Restore t)) h = h ∙ ap (λ (l : List ℕ). l ++ t ∷ []) same.restoring
+restores_from old mid new same (Ok claim.Wait) h = elim h [ inl e ↦ inl (e ∙ same.restoring) | inr some ↦ inr some ]
+restores_from old mid new same (Ok claim.Finished) h = elim h [ inl e ↦ inl (e ∙ same.restoring) | inr some ↦ inr some ]
+restores_from old mid new same (Ok claim.Stopped) h = elim h [ inl e ↦ inl (e ∙ same.restoring) | inr some ↦ inr some ]
+restores_from old mid new same (Err e) h = elim h [ inl e ↦ inl (e ∙ same.restoring) | inr some ↦ inr some ]
+
+pub turns_restore_from : {D W : Type 0} (old mid new : RunView D W) → SameTold old mid → (r : Result (Option Claim) Mem) → TurnsRestore mid new r → TurnsRestore old new r
+turns_restore_from old mid new same (Ok (Some c)) h = restores_from old mid new same (Ok c) h
+turns_restore_from old mid new same (Ok None) h = tt
+turns_restore_from old mid new same (Err e) h = restores_from old mid new same (Err e) h
 
 -- ---- the end of a run
 
@@ -103,10 +122,14 @@ answer_clean o s k answer run orderly known now may course same is =
 
 -- What is finished by what is known is so in each course.
 pub finished_clean : (o : Opening) (s : Seen) (k : Known) → IsRun o s → EachAfter (IsOrderly s.plan.tasks) s.tale → s.known ≡ Some k → IsUpToDate s.plan s.rows k
-    → MayAnswer s.options s.plan.tasks k.need k.avail (fates_told (length s.plan.tasks) s.tale) next.Finished → ClaimsClean o s (Ok claim.Finished)
-finished_clean o s k run orderly known now may = answer_clean o s k next.Finished run orderly known now may
+    → MayAnswer s.options s.plan.tasks k.need k.avail (fates_told (length s.plan.tasks) s.tale) next.Finished → (waits : Bool) → ClaimsClean o waits s (Ok claim.Finished)
+finished_clean o s k run orderly known now may waits = answer_clean o s k next.Finished run orderly known now may
 
--- Where no task can go on by what is known, none can in each course.
+-- Where no task can go on by what is known, and none is being restored, none can in each course.
 pub wait_clean : (o : Opening) (s : Seen) (k : Known) → IsRun o s → EachAfter (IsOrderly s.plan.tasks) s.tale → s.known ≡ Some k → IsUpToDate s.plan s.rows k
-    → MayAnswer s.options s.plan.tasks k.need k.avail (fates_told (length s.plan.tasks) s.tale) next.Wait → ClaimsClean o s (Ok claim.Wait)
-wait_clean o s k run orderly known now may course same is = (answer_clean o s k next.Wait run orderly known now may course same is).1
+    → MayAnswerBeside s.options s.plan.tasks k.need k.avail (fates_told (length s.plan.tasks) s.tale) s.restoring next.Wait → (waits : Bool) → ClaimsClean o waits s (Ok claim.Wait)
+wait_clean o s k run orderly known now may waits empty quiet course same is =
+    (answer_clean o s k next.Wait run orderly known now (elim may.0 [ inl some ↦ some | inr ne ↦ absurd (ne empty) ], λ t. elim (may.1 t) [ inl hand ↦ absurd (none_in t (subst (λ (l : List ℕ). Contains l t) empty hand)) | inr it ↦ it ]) course same is).1
+  where
+    none_in : (t : ℕ) → Contains {X = ℕ} [] t → ⊥
+    none_in t c = let lt = c.1 in omega (arith, lt)

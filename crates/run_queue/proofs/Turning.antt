@@ -2,7 +2,7 @@
 use Rattle.std.proofs.Common.{◌≡◌, ◌≢◌, ◌∙◌, sym, ap, subst, refl, ℕ, ◌<◌, ◌-◌, ◌^◌, ◌⊎◌, inl, inr, zero, suc, arith, min, Bool, true, false, List, [], ◌∷◌, ◌++◌, length, set, All, Some, None, Ok, Err, get_or}
 use Rattle.tree_model.specs.declared.manifest.ManifestLine.{ManifestLine}
 use Rattle.std.specs.Prelude.{IfSome, IsSome, Option}
-use Rattle.std.specs.Option.{option_map}
+use Rattle.std.specs.Option.{option_map, option_or}
 use Rattle.std.specs.List.{slice_get}
 use Rattle.std.proofs.lemmas.Bool.{false≢true}
 use Rattle.std.proofs.lemmas.Option.{slice_get-get_or}
@@ -59,6 +59,8 @@ use Rattle.run_queue.proofs.Breaking.{running_within}
 use Rattle.run_queue.proofs.Enduring.{signed_task}
 use Rattle.run_queue.proofs.Growing.{course_of_front}
 use Rattle.run_queue.proofs.Jobs.{end_may_come, given_is_clean, says}
+use Rattle.run_queue.specs.Mends.{both}
+use Rattle.run_queue.proofs.Mends.{beside_running, both_mend, both_none, both_some, flight_alone, with_both}
 use Rattle.setscene_plan.proofs.Naming.{signed_at}
 use Rattle.run_queue.proofs.Passed.{same_now}
 use Rattle.run_queue.proofs.Recorded.{IsPut, put_line}
@@ -173,8 +175,11 @@ module _ {D W : Type 0} (story : D → Story) (written : W → List ℕ) (o : Op
 
   -- The publication of a task, by its signature, flies where it may be opened.
   module _ (k : Known) (now : IsUpToDate old.plan old.store.rows k) (x : Signed) (signed : IsSignedAt old.store.rows old.plan.tasks t x) (may : MayOpen old.store.rows old.store.opened x tree) where
+    none_both : both run.opened run.mends (task_folder x.task) ≡ None
+    none_both = none_of (both run.opened run.mends) old.store.opened (run.open_are faultless) (task_folder x.task) may.closed
+
     none : run.opened (task_folder x.task) ≡ None
-    none = none_of run.opened old.store.opened (run.open_are faultless) (task_folder x.task) may.closed
+    none = (both_none run.opened run.mends (task_folder x.task) (none_of (both run.opened run.mends) old.store.opened (run.open_are faultless) (task_folder x.task) may.closed)).0
 
     flight : IsFlight o old.plan (book_after o.gives old.plan o.book old.tale) t (record { signed = x; tree = tree })
     flight = record {
@@ -187,14 +192,22 @@ module _ {D W : Type 0} (story : D → Story) (written : W → List ℕ) (o : Op
       readable = subst (λ (r : List EquivRow). IsReadable (line_for r x tree)) run.rows may.readable;
     }
 
+    -- what is open is so in the store
+    viewed : (beside : List ℕ) (other : OpenTask) → run.opened beside ≡ Some other → opened_at old.store.opened beside ≡ Some (view_of other)
+    viewed beside other is = sym (run.open_are faultless beside) ∙ ap (option_map view_of) (both_some run.opened run.mends beside other is)
+
+    -- with this one too
+    with_view : (views : OpenViews) → SameOpen (with_open (task_folder x.task) (record { signed = x; tree = tree }) (both run.opened run.mends)) views → SameOpen (both (with_open (task_folder x.task) (record { signed = x; tree = tree }) run.opened) run.mends) views
+    with_view views same beside = ap (option_map view_of) (with_both (task_folder x.task) (record { signed = x; tree = tree }) run.opened run.mends beside) ∙ same beside
+
     apart : (beside : List ℕ) (other : OpenTask) → run.opened beside ≡ Some other → name_of x.sig ≢ name_of other.signed.sig
-    apart beside other is same = may.apart beside (view_of other) (sym (run.open_are faultless beside) ∙ ap (option_map view_of) is) (sym same)
+    apart beside other is same = may.apart beside (view_of other) (viewed beside other is) (sym same)
 
     -- what is open before the disk is touched
-    before : (kept : List KeptSig) → (r : IsRun o (record (seen story written old) { kept = kept; opened = open_view x tree ∷ old.store.opened; begun = begun })) × (r.opened ≡ with_open (task_folder x.task) (record { signed = x; tree = tree }) run.opened)
+    before : (kept : List KeptSig) → (r : IsRun o (record (seen story written old) { kept = kept; opened = open_view x tree ∷ old.store.opened; begun = begun })) × (r.opened ≡ with_open (task_folder x.task) (record { signed = x; tree = tree }) run.opened) × (r.mends ≡ run.mends)
     before kept =
         opened_with o (seen story written old) run faultless t seat runs begun begins here (record { signed = x; tree = tree }) none flight apart kept (open_view x tree ∷ old.store.opened)
-        (open_besides run.opened old.store.opened (record { signed = x; tree = tree }) (run.open_are faultless))
+        (with_view (open_view x tree ∷ old.store.opened) (open_besides (both run.opened run.mends) old.store.opened (record { signed = x; tree = tree }) (run.open_are faultless)))
 
     -- what flew flies still
     still : (u : ℕ) → Flies old.plan run.opened u → Flies old.plan (with_open (task_folder x.task) (record { signed = x; tree = tree }) run.opened) u
@@ -211,11 +224,11 @@ module _ {D W : Type 0} (story : D → Story) (written : W → List ℕ) (o : Op
     may_turn : (writes : Bool) → (writes ≡ true → HasNewKey old.store.rows old.store.opened x.sig) → EachNow (story old.store.disk) (MayTurn o old.plan old.tale (with_open (task_folder x.task) (record { signed = x; tree = tree }) run.opened) (record { signed = x; tree = tree }) writes)
     may_turn writes fresh image is =
         opening_may_turn o old.plan old.tale run.opened (with_open (task_folder x.task) (record { signed = x; tree = tree }) run.opened) old.store.opened
-        (under_way o (seen story written old) run faultless orderly (may_now o (seen story written old) run faultless now.clear)) (run.open_are faultless) (record { signed = x; tree = tree }) writes
+        (under_way o (seen story written old) run faultless orderly (may_now o (seen story written old) run faultless now.clear)) viewed (record { signed = x; tree = tree }) writes
         (λ written. subst (λ (r : List EquivRow). HasNewKey r old.store.opened x.sig) run.rows (fresh written)) still image (run.durable faultless image is)
 
     -- and behind the turn
-    turned_at : (writes : Bool) → (writes ≡ true → HasNewKey old.store.rows old.store.opened x.sig) → (kept : List KeptSig) (views : OpenViews) (fault : Option RunFault) → (fault ≡ None → SameOpen (with_open (task_folder x.task) (record { signed = x; tree = tree }) run.opened) views)
+    turned_at : (writes : Bool) → (writes ≡ true → HasNewKey old.store.rows old.store.opened x.sig) → (kept : List KeptSig) (views : OpenViews) (fault : Option RunFault) → (fault ≡ None → SameOpen (both (with_open (task_folder x.task) (record { signed = x; tree = tree }) run.opened) run.mends) views)
         → Passes (story old.store.disk) (story store.disk) (IsPublishing (put_of_turn old.store.rows (record { signed = x; tree = tree }) writes) (story old.store.disk).held)
         → IsRun o (record (seen story written old) { kept = kept; opened = views; fault = fault; begun = begun; story = story store.disk })
     turned_at writes fresh kept views fault are pass =
@@ -227,7 +240,7 @@ module _ {D W : Type 0} (story : D → Story) (written : W → List ℕ) (o : Op
         writes (subst (λ (w : OpenTasks). EachNow (story old.store.disk) (MayTurn o old.plan old.tale w (record { signed = x; tree = tree }) writes)) (sym r.1) (may_turn writes fresh))
         (story store.disk) sound
         (subst (λ (r : List EquivRow). Passes (story old.store.disk) (story store.disk) (IsPublishing (put_of_turn r (record { signed = x; tree = tree }) writes) (story old.store.disk).held)) run.rows pass) kept views fault
-        (λ no. subst (λ (w : OpenTasks). SameOpen w views) (sym r.1) (are no))
+        (λ no. subst (λ (m : OpenTasks). SameOpen (both r.0.opened m) views) (sym r.2) (subst (λ (w : OpenTasks). SameOpen (both w run.mends) views) (sym r.1) (are no)))
 
   path : (fault : Option RunFault) → record (seen story written old) { kept = store.kept; opened = store.opened; fault = fault; begun = begun; story = story store.disk } ≡ seen story written (record old { store = store; begun = begun; fault = fault })
   path fault = λ i. record {
@@ -240,6 +253,7 @@ module _ {D W : Type 0} (story : D → Story) (written : W → List ℕ) (o : Op
     fault = fault;
     tale = old.tale;
     begun = begun;
+    restoring = old.restoring;
     known = old.known;
     story = story store.disk;
     written = written old.sink;
@@ -253,9 +267,10 @@ module _ {D W : Type 0} (story : D → Story) (written : W → List ℕ) (o : Op
       → IsRun o (seen story written (record old { store = store; begun = begun }))
   opened_seen k now opens fresh pass =
       let x = signed_at old.store.rows old.plan.tasks t lt in
-      let both = opens x.0 x.1 in
+      let two = opens x.0 x.1 in
       subst (λ (v : Seen). IsRun o v) (path old.fault)
-      (turned_at k now x.0 x.1 both.1 (is_new_key old.store.keys x.0.sig) (new_key x.0 both.0 (fresh_of x.0 x.1)) store.kept store.opened old.fault (λ no beside. same x.0 x.1 both.1 both.0 k now beside (path_cases beside (task_folder x.0.task))) (pass x.0 x.1))
+      (turned_at k now x.0 x.1 two.1 (is_new_key old.store.keys x.0.sig) (new_key x.0 two.0 (fresh_of x.0 x.1)) store.kept store.opened old.fault
+      (λ no. with_view k now x.0 x.1 two.1 store.opened (λ beside. same x.0 x.1 two.1 two.0 k now beside (path_cases beside (task_folder x.0.task)))) (pass x.0 x.1))
     where
       fresh_of : (x : Signed) → IsSignedAt old.store.rows old.plan.tasks t x → (store ≡ old.store) ⊎ (is_new_key old.store.keys x.sig ≡ true → HasNewKey old.store.rows old.store.opened x.sig)
       fresh_of x signed = elim fresh [ inl untouched ↦ inl untouched | inr each ↦ inr (each x signed) ]
@@ -266,13 +281,13 @@ module _ {D W : Type 0} (story : D → Story) (written : W → List ℕ) (o : Op
       new_key x opens (inl untouched) =
           absurd (let e : None ≡ Some (open_view x tree) = sym opens.opened.none ∙ sym (ap (λ (v : View D). opened_at v.opened (task_folder x.task)) untouched) ∙ opens.opened.is_open in cc)
 
-      same : (x : Signed) (signed : IsSignedAt old.store.rows old.plan.tasks t x) (may : MayOpen old.store.rows old.store.opened x tree) → OpensTask old.store store x tree → (k : Known) → IsUpToDate old.plan old.store.rows k → (beside : List ℕ) → (beside ≡ task_folder x.task) ⊎ (beside ≢ task_folder x.task) → option_map view_of (with_open (task_folder
-          x.task) (record { signed = x; tree = tree }) run.opened beside) ≡ opened_at store.opened beside
+      same : (x : Signed) (signed : IsSignedAt old.store.rows old.plan.tasks t x) (may : MayOpen old.store.rows old.store.opened x tree) → OpensTask old.store store x tree → (k : Known) → IsUpToDate old.plan old.store.rows k → (beside : List ℕ) → (beside ≡ task_folder x.task) ⊎ (beside ≢ task_folder x.task)
+          → option_map view_of (with_open (task_folder x.task) (record { signed = x; tree = tree }) (both run.opened run.mends) beside) ≡ opened_at store.opened beside
       same x signed may opens k now beside (inl e) =
-          let at = (one_more_or_less (task_folder x.task) (record { signed = x; tree = tree }) run.opened).0 (none k now x signed may) in
-          ap (λ (f : List ℕ). option_map view_of (with_open (task_folder x.task) (record { signed = x; tree = tree }) run.opened f)) e ∙ ap (option_map view_of) at.is_open ∙ sym opens.opened.is_open ∙ sym (ap (opened_at store.opened) e)
+          let at = (one_more_or_less (task_folder x.task) (record { signed = x; tree = tree }) (both run.opened run.mends)).0 (none_both k now x signed may) in
+          ap (λ (f : List ℕ). option_map view_of (with_open (task_folder x.task) (record { signed = x; tree = tree }) (both run.opened run.mends) f)) e ∙ ap (option_map view_of) at.is_open ∙ sym opens.opened.is_open ∙ sym (ap (opened_at store.opened) e)
       same x signed may opens k now beside (inr ne) =
-          let at = (one_more_or_less (task_folder x.task) (record { signed = x; tree = tree }) run.opened).0 (none k now x signed may) in
+          let at = (one_more_or_less (task_folder x.task) (record { signed = x; tree = tree }) (both run.opened run.mends)).0 (none_both k now x signed may) in
           ap (option_map view_of) (at.others beside ne) ∙ run.open_are faultless beside ∙ sym (opens.opened.others beside ne)
 
   -- So does a turn in which a fault was met, with that fault.
@@ -307,12 +322,12 @@ module _ {D W : Type 0} (story : D → Story) (written : W → List ℕ) (o : Op
     (sound : story_of.IsSound (story old.store.disk))
     (pass : (x : Signed) → IsSignedAt old.store.rows old.plan.tasks t x → (tree : Entries) → IsOpen old.store.opened x tree → Passes (story old.store.disk) (story store.disk) (IsPublishing (publication old.store.rows x tree) (story old.store.disk).held)) where
   flies : (x : Signed) → IsSignedAt old.store.rows old.plan.tasks t x → (tree : Entries) → IsOpen old.store.opened x tree → FliesAs old.plan run.opened t (record { signed = x; tree = tree })
-  flies x signed tree open_now = flies_as o (seen story written old) run faultless t x (signed_task_at old.store.rows old.plan.tasks t x signed) signed tree open_now
+  flies x signed tree open_now = flies_as o (seen story written old) run faultless t seat runs x (signed_task_at old.store.rows old.plan.tasks t x signed) signed tree open_now
 
   by_book : (x : Signed) → IsSignedAt old.store.rows old.plan.tasks t x → (tree : Entries) → IsOpen old.store.opened x tree → Passes (story old.store.disk) (story store.disk) (IsPublishing (publication (rows_of (book_now o (seen story written old))) x tree) (story old.store.disk).held)
   by_book x signed tree open_now = subst (λ (r : List EquivRow). Passes (story old.store.disk) (story store.disk) (IsPublishing (publication r x tree) (story old.store.disk).held)) run.rows (pass x signed tree open_now)
 
-  behind_it : (k : Known) → IsUpToDate old.plan old.store.rows k → (x : Signed) → IsSignedAt old.store.rows old.plan.tasks t x → (tree : Entries) → IsOpen old.store.opened x tree → (kept : List KeptSig) (views : OpenViews) (fault : Option RunFault) → (fault ≡ None → SameOpen run.opened views)
+  behind_it : (k : Known) → IsUpToDate old.plan old.store.rows k → (x : Signed) → IsSignedAt old.store.rows old.plan.tasks t x → (tree : Entries) → IsOpen old.store.opened x tree → (kept : List KeptSig) (views : OpenViews) (fault : Option RunFault) → (fault ≡ None → SameOpen (both run.opened run.mends) views)
       → IsRun o (record (seen story written old) { kept = kept; opened = views; fault = fault; story = story store.disk })
   behind_it k now x signed tree open_now kept views fault are =
       turned_run o (seen story written old) run faultless orderly (may_now o (seen story written old) run faultless now.clear) t (record { signed = x; tree = tree }) (flies x signed tree open_now)
@@ -329,6 +344,7 @@ module _ {D W : Type 0} (story : D → Story) (written : W → List ℕ) (o : Op
     fault = fault;
     tale = old.tale;
     begun = old.begun;
+    restoring = old.restoring;
     known = old.known;
     story = story store.disk;
     written = written old.sink;
@@ -400,15 +416,19 @@ module _ {D W : Type 0} (story : D → Story) (written : W → List ℕ) (o : Op
     rows_are : after.rows ≡ rows_of (book_now o (seen story written old) ++ line.more)
     rows_are = books.rows ∙ land.rows ∙ ap (λ (r : List EquivRow). rows_with r x.0 land.tree) run.rows ∙ line.rows
 
-    open_are : SameOpen (without_open (task_folder x.0.task) run.opened) after.opened
+    open_are : SameOpen (both (without_open (task_folder x.0.task) run.opened) run.mends) after.opened
     open_are beside = by (path_cases beside (task_folder x.0.task)) ∙ sym (ap (λ (v : OpenViews). opened_at v beside) books.opened)
       where
         closes : Closes (task_folder x.0.task) run.opened (without_open (task_folder x.0.task) run.opened)
         closes = (one_more_or_less (task_folder x.0.task) one run.opened).1
 
-        by : (beside ≡ task_folder x.0.task) ⊎ (beside ≢ task_folder x.0.task) → option_map view_of (without_open (task_folder x.0.task) run.opened beside) ≡ opened_at store.opened beside
-        by (inl e) = ap (λ (f : List ℕ). option_map view_of (without_open (task_folder x.0.task) run.opened f)) e ∙ ap (option_map view_of) closes.closed ∙ sym land.opened.closed ∙ sym (ap (opened_at store.opened) e)
-        by (inr ne) = ap (option_map view_of) (closes.others beside ne) ∙ run.open_are faultless beside ∙ sym (land.opened.others beside ne)
+        -- nothing is open there
+        closed : both (without_open (task_folder x.0.task) run.opened) run.mends (task_folder x.0.task) ≡ None
+        closed = both_mend (without_open (task_folder x.0.task) run.opened) run.mends (task_folder x.0.task) closes.closed ∙ flight_alone o (seen story written old) run faultless (task_folder x.0.task) one fl.1
+
+        by : (beside ≡ task_folder x.0.task) ⊎ (beside ≢ task_folder x.0.task) → option_map view_of (both (without_open (task_folder x.0.task) run.opened) run.mends beside) ≡ opened_at store.opened beside
+        by (inl e) = ap (λ (f : List ℕ). option_map view_of (both (without_open (task_folder x.0.task) run.opened) run.mends f)) e ∙ ap (option_map view_of) closed ∙ sym land.opened.closed ∙ sym (ap (opened_at store.opened) e)
+        by (inr ne) = ap (λ (y : Option OpenTask). option_map view_of (option_or y (run.mends beside))) (closes.others beside ne) ∙ run.open_are faultless beside ∙ sym (land.opened.others beside ne)
 
     -- the event may come
     may_come : (at : ℕ) (course : Course) → course.plan ≡ old.plan → IsCourse o old.options (old.tale ++ record { event = events.Ended t; seat = seat; moment = at } ∷ []) course → MayCome course old.tale (record { event = events.Ended t; seat = seat; moment = at })
@@ -468,6 +488,7 @@ module _ {D W : Type 0} (story : D → Story) (written : W → List ℕ) (o : Op
           fault = new.fault;
           tale = sym marks.is i;
           begun = sym notes.begun i;
+          restoring = sym notes.restoring i;
           known = sym notes.known i;
           story = story (sym notes.store i).disk;
           written = written new.sink;
@@ -526,6 +547,7 @@ cut_seen story written o old mid same stays run =
       fault = mid.fault;
       tale = sym same.tale i;
       begun = sym same.begun i;
+      restoring = sym same.restoring i;
       known = sym same.known i;
       story = story (sym same.store i).disk;
       written = written (sym same.sink i);
@@ -537,7 +559,7 @@ pub broken_seen : {D W : Type 0} (story : D → Story) (written : W → List ℕ
 broken_seen story written o mid new t seat cut n m stays runs spared run =
     noted_run story written o mid new seat (events.Broke t cut) n m stays
     (record { within = running_within (fates_told (length mid.plan.tasks) mid.tale) t seat runs; before = ap is_settled runs; after = refl; book = λ b. refl })
-    run spared
+    run (beside_running o (seen story written mid) run (events.Broke t cut) seat runs refl) spared
     (λ course same is. subst (λ (p : Plan). fate_at (fates_told (length p.tasks) mid.tale) t ≡ fate.Running seat) (sym same) runs)
     tt
     (tells_none o mid.plan mid.options mid.tale (events.Broke t cut) refl)
@@ -549,7 +571,7 @@ pub failed_seen : {D W : Type 0} (story : D → Story) (written : W → List ℕ
 failed_seen story written o old new job g cause seat fails closed j is_given n m stays runs spared run =
     noted_run story written o old new seat (events.Failed job.task cause) n m stays
     (record { within = running_within (fates_told (length old.plan.tasks) old.tale) job.task seat runs; before = ap is_settled runs; after = refl; book = λ b. refl })
-    run spared
+    run (beside_running o (seen story written old) run (events.Failed job.task cause) seat runs refl) spared
     (λ course same longer.
     let at = logged_at (seen story written old) seat (events.Failed job.task cause) in
     subst (λ (e : Event). MayCome course old.tale (record { event = e; seat = seat; moment = at.moment })) closed

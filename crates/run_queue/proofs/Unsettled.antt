@@ -31,7 +31,7 @@ use Rattle.run_model.specs.Opening.{Opening}
 use Rattle.run_model.specs.Books.{book_after, book_by, rows_after, signed_after}
 use Rattle.run_model.specs.Courses.{IsCourse}
 use Rattle.run_queue.specs.Courses.{IsReal}
-use Rattle.run_queue.specs.Keeps.{IsRun, Prints, WasThere, nobody}
+use Rattle.run_queue.specs.Keeps.{IsRun, Prints, WasThere}
 use Rattle.run_queue.specs.declared.fault.RunFault.{RunFault}
 use Rattle.run_queue.specs.Flights.{AreFlights, IsValidWith}
 use Rattle.run_queue.specs.Seen.{IsBegun, Known, RunView, Seen, seen}
@@ -41,7 +41,8 @@ use Rattle.run_queue.specs.Stands.{HasObjects}
 use Rattle.run_queue.specs.Turns.{Marks, MarksAt, Notes}
 use Rattle.run_model.specs.Report.{event_line, tale_text}
 use Rattle.run_queue.proofs.Boarding.{marks_keep_flights}
-use Rattle.run_queue.proofs.Meanwhile.{fault_stays, told_on}
+use Rattle.run_queue.proofs.Meanwhile.{fault_stays, told_goes_on}
+use Rattle.run_queue.proofs.Mends.{IsBeside, mends_marked}
 use Rattle.run_queue.proofs.Touched.{left_behind, starts_by}
 use Rattle.run_queue.proofs.Growing.{book_grows, legal_grows}
 use Rattle.run_queue.proofs.There.{WasSo, there_grows}
@@ -158,14 +159,14 @@ abbrev pub IsSpared : Seen → ℕ → Event → Type 0
 IsSpared s seat event = (IsBegun s (task_of event) → ⊥) ⊎ (IsSome s.fault × HasBroken (s.tale ++ logged_at s seat event ∷ []) (task_of event))
 
 -- An entry that settles no task leaves what a run keeps.
-pub unsettled_run : (o : Opening) (s : Seen) (seat : ℕ) (event : Event) (failed : Bool) (fault : Option RunFault) (written : List ℕ) → SettlesNone o s.plan s.tale (logged_at s seat event) → IsRun o s
+pub unsettled_run : (o : Opening) (s : Seen) (seat : ℕ) (event : Event) (failed : Bool) (fault : Option RunFault) (written : List ℕ) → SettlesNone o s.plan s.tale (logged_at s seat event) → (run : IsRun o s) → IsBeside o s run event
     → IsSpared s seat event
     → (fault ≡ None → s.fault ≡ None)
     → ((course : Course) → course.plan ≡ s.plan → IsCourse o s.options (s.tale ++ logged_at s seat event ∷ []) course → MayCome course s.tale (logged_at s seat event))
     → IsReal o.gives s.plan.tasks event
     → WasSo o s.plan s.options s.tale event
     → IsRun o (behind s seat event failed fault written)
-unsettled_run o s seat event failed fault written settles run spared faultless may real there =
+unsettled_run o s seat event failed fault written settles run beside spared faultless may real there =
     let at : ℕ = min (moment s.story) (2 ^ 64 - 1) in
     let e : Logged = logged_at s seat event in
     let later : Seen = behind s seat event failed fault written in
@@ -179,8 +180,10 @@ unsettled_run o s seat event failed fault written settles run spared faultless m
       own = run.own;
       readable = run.readable;
       opened = run.opened;
+      mends = run.mends;
       book = λ none. run.book (faultless none);
       open_are = λ none. run.open_are (faultless none);
+      mending = λ none. mends_marked o s run (faultless none) (logged_at s seat event) beside;
       flights = λ none. (flown none).0;
       touched = λ none. run.touched (faultless none);
       flying = λ none u other runs begun. run.flying (faultless none) u other (sym (other_fate o s.plan s.tale e settles u (λ same. fresh none (subst (λ (n : ℕ). IsBegun s n) (sym same) begun))) ∙ runs) begun;
@@ -210,8 +213,7 @@ unsettled_run o s seat event failed fault written settles run spared faultless m
       met = λ u settled not_yet.
           let m = run.met u (settled_back o s.plan s.tale e settles u settled) (λ ended. not_yet (ended_on o s.plan s.tale e settles u ended)) in
           (m.0, m.1, m.2);
-      halted = run.halted;
-      told = λ u b. told_on o s later run.halted nobody u e refl refl (fault_stays s.fault fault faultless) (λ was x here. was x here) (λ other same runs. ended u b same) (λ never. absurd never) (run.told u b);
+      told = λ u b. told_goes_on o s later u e refl refl (fault_stays s.fault fault faultless) (λ hand was. (hand, λ x here. was x here)) (λ other same runs. ended u b same) (run.told u b);
       images = λ t image le since. elim (run.images t image le since) [ inl before ↦ inl before | inr left ↦ inr (left_behind o s.plan s.begun s.tale e image left) ];
       stands = λ image is. stands_on o s.plan s.tale e settles image (run.stands image is);
       settled = λ k x here lt image since. elim (front_at o s.plan s.tale e settles k x here) [
@@ -256,13 +258,13 @@ was_none (Some f) new stays none = sym (stays refl) ∙ none
 
 -- the same of views of a state
 pub noted_run : {D W : Type 0} (story : D → Story) (written : W → List ℕ) (o : Opening) (old new : RunView D W) (seat : ℕ) (event : Event) → Notes seat event old new → MarksAt (story old.store.disk) seat event old.tale new.tale → (IsSome old.fault → new.fault ≡ old.fault)
-    → SettlesNone o old.plan old.tale (logged_at (seen story written old) seat event) → IsRun o (seen story written old)
+    → SettlesNone o old.plan old.tale (logged_at (seen story written old) seat event) → (run : IsRun o (seen story written old)) → IsBeside o (seen story written old) run event
     → IsSpared (seen story written old) seat event
     → ((course : Course) → course.plan ≡ old.plan → IsCourse o old.options (old.tale ++ logged_at (seen story written old) seat event ∷ []) course → MayCome course old.tale (logged_at (seen story written old) seat event))
     → IsReal o.gives old.plan.tasks event
     → WasSo o old.plan old.options old.tale event
     → IsRun o (seen story written new)
-noted_run story written o old new seat event n m stays settles run spared may real there =
+noted_run story written o old new seat event n m stays settles run beside spared may real there =
     let made : Seen = behind (seen story written old) seat event new.sink_failed new.fault (written new.sink) in
     let same : made ≡ seen story written new = λ i. record {
       plan = sym n.plan i;
@@ -274,8 +276,9 @@ noted_run story written o old new seat event n m stays settles run spared may re
       fault = new.fault;
       tale = sym m.is i;
       begun = sym n.begun i;
+      restoring = sym n.restoring i;
       known = sym n.known i;
       story = story (sym n.store i).disk;
       written = written new.sink;
     } in
-    subst (IsRun o) same (unsettled_run o (seen story written old) seat event new.sink_failed new.fault (written new.sink) settles run spared (was_none old.fault new.fault stays) may real there)
+    subst (IsRun o) same (unsettled_run o (seen story written old) seat event new.sink_failed new.fault (written new.sink) settles run beside spared (was_none old.fault new.fault stays) may real there)

@@ -1,5 +1,5 @@
 -- What follows for a run in which publications are open, and whose lines are in flight.
-use Rattle.std.specs.Prelude.{◌≡◌, ◌≢◌, ◌⊎◌, ◌≤◌, ◌-◌, ◌^◌, ◌++◌, ◌∷◌, [], min, ℕ, Bool, false, IsSome, List, None, Option, Some, length}
+use Rattle.std.specs.Prelude.{◌≡◌, ◌≢◌, ◌⊎◌, ◌≤◌, ◌-◌, ◌^◌, ◌++◌, ◌∷◌, [], min, ℕ, Bool, false, IsSome, List, Contains, None, Option, Some, length}
 use Rattle.std.specs.List.{AllByRecursion, slice_get}
 use Rattle.outside_traits.specs.Passes.{EachNow, Passes}
 use Rattle.outside_traits.specs.Store.{Store}
@@ -33,7 +33,8 @@ use Rattle.run_model.specs.Opening.{Opening}
 use Rattle.run_model.specs.Stands.{AllStand, HasBroken, IsPlaced}
 use Rattle.run_queue.specs.Flights.{AreFlights, AreLeft, AreOnce, Closes, Flies, FliesAs, IsFlight, IsInHand, IsUnderWay, IsValidWith, KeepOtherObjects, MayTurn, OpenTask, OpenTasks, OpensAt, SameOpen, StandTo, nothing_open, put_of_turn, with_open, without_open}
 use Rattle.run_queue.specs.Joined.{IsOther}
-use Rattle.run_queue.specs.Keeps.{IsToldOf, WasThere, nobody}
+use Rattle.run_queue.specs.Keeps.{IsToldOf, WasThere}
+use Rattle.run_queue.specs.Mends.{both}
 use Rattle.run_queue.specs.Opening.{MayRun}
 use Rattle.run_queue.specs.Seen.{IsBegunIn, Seen}
 use Rattle.run_queue.specs.Stands.{IsLeft, IsReadAfter}
@@ -67,11 +68,12 @@ FlightStays = (o : Opening) (plan : Plan) (book more : Book) → MayReuse o.give
 abbrev pub BeginsUnderWay : Type 0
 BeginsUnderWay = (o : Opening) (plan : Plan) → MayRun o plan → HasNoCollision o.book (rows_of o.book) plan.tasks → IsUnderWay o plan [] nothing_open × EachNow o.story (IsValidWith o plan [] nothing_open)
 
--- At its end, where no task runs, nothing is open, in the store's books too: what is valid with some lines in flight is so with the book of what ended.
+-- At its end, where no task runs, no publication is open, and where no restoring is either, nothing is in the store's books: what is valid with some lines in
+-- flight is so with the book of what ended.
 abbrev pub EndsWithNothing : Type 0
 EndsWithNothing = (o : Opening) (plan : Plan) (tale : List Logged) (opened : OpenTasks) → AreFlights o plan tale opened → NoneRuns (fates_told (length plan.tasks) tale) →
     ((image : Store) → IsValidWith o plan tale opened image → IsValid o.gives o.reading image (book_after o.gives plan o.book tale))
-    × ((views : OpenViews) → SameOpen opened views → NothingOpen views)
+    × ((mends : OpenTasks) (views : OpenViews) → ((folder : List ℕ) → mends folder ≡ None) → SameOpen (both opened mends) views → NothingOpen views)
 
 -- One more may be opened, of a task that runs, by its signature over the rows and with its clean output, where none that is open has its name. What
 -- was valid with some lines in flight is so still.
@@ -149,7 +151,8 @@ LandingGoesOn = (o : Opening) (plan : Plan) (tale : List Logged) (opened : OpenT
 
 -- ---- meanwhile
 
--- A restoring leaves each image valid with the lines in flight. (What only looks leaves all as it is; another publication's turn is a turn as above.)
+-- A turn of a restoring leaves each image valid with the lines in flight. (What only looks leaves all as it is; another publication's turn is a turn as
+-- above.)
 abbrev pub RestoringKeepsValid : Type 0
 RestoringKeepsValid = (o : Opening) (plan : Plan) (tale : List Logged) (opened : OpenTasks) (held : Store) (rows : List EquivRow) (s : Signed) (a b : Story) → Passes a b (Restores held rows s) →
     EachNow a (IsValidWith o plan tale opened) → EachNow b (IsValidWith o plan tale opened)
@@ -184,11 +187,11 @@ StartedStaysMissing = (o : Opening) (plan : Plan) (book more : Book) → MayReus
 
 -- Behind one more entry a task is told of still that was: where it ran and the entry is its own, it was placed by it, or broken off by a fault.
 abbrev pub ToldGoesOn : Type 0
-ToldGoesOn = (o : Opening) (s later : Seen) (halted t : ℕ) (entry : Logged) → later.plan ≡ s.plan → later.tale ≡ s.tale ++ entry ∷ [] → (IsSome s.fault → IsSome later.fault) → (WasThere o s t Object → WasThere o later t Object) →
+ToldGoesOn = (o : Opening) (s later : Seen) (t : ℕ) (entry : Logged) → later.plan ≡ s.plan → later.tale ≡ s.tale ++ entry ∷ [] → (IsSome s.fault → IsSome later.fault) → (Contains s.restoring t → WasThere o s t Object → Contains later.restoring t × WasThere o later t Object) →
     ((seat : ℕ) → t ≡ task_of entry.event → RunsAfter s.plan s.tale t seat → IsPlaced later.tale t ⊎ (IsSome later.fault × HasBroken later.tale t)) →
-    IsToldOf o s halted nobody t → IsToldOf o later halted nobody t
+    IsToldOf o s t → IsToldOf o later t
 
--- At the end, where no task runs, each that was begun was placed, or the run met a fault at it.
+-- At the end, where no task runs, and none is being restored or a fault is kept, each that was begun was placed, or the run met a fault at it.
 abbrev pub ToldAtEnd : Type 0
-ToldAtEnd = (o : Opening) (s : Seen) (halted t : ℕ) → NoneRuns (fates_told (length s.plan.tasks) s.tale) → IsToldOf o s halted nobody t →
-    IsPlaced s.tale t ⊎ (IsSome s.fault × (HasBroken s.tale t ⊎ ((t ≡ halted) × WasThere o s t Object)))
+ToldAtEnd = (o : Opening) (s : Seen) (t : ℕ) → NoneRuns (fates_told (length s.plan.tasks) s.tale) → (s.restoring ≡ []) ⊎ IsSome s.fault → IsToldOf o s t →
+    IsPlaced s.tale t ⊎ (IsSome s.fault × (HasBroken s.tale t ⊎ (Contains s.restoring t × WasThere o s t Object)))

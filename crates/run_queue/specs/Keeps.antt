@@ -1,5 +1,5 @@
 -- What the state of a run keeps.
-use Rattle.std.specs.Prelude.{◌≡◌, ◌≢◌, ◌⊎◌, ◌≤◌, ◌+◌, ◌++◌, ℕ, Bool, true, false, List, length, Option, Some, None, IfSome, IsSome, []}
+use Rattle.std.specs.Prelude.{◌≡◌, ◌≢◌, ◌⊎◌, ◌<◌, ◌≤◌, ◌+◌, ◌++◌, ℕ, Bool, true, false, List, Contains, length, Option, Some, None, IfSome, IsSome, []}
 use Rattle.std.specs.Bool.{OnTrue, OnFalse}
 use Rattle.std.specs.List.{AllByRecursion, slice_get}
 use Rattle.tree_model.specs.declared.hash.Hash.{Hash}
@@ -49,6 +49,7 @@ use Rattle.run_queue.specs.Seen.{IsBegun, Known, RunView, Seen}
 use Rattle.run_model.specs.InFlight.{RunsAfter}
 use Rattle.run_model.specs.Stands.{AllStand, HasBroken, HasEnded, IsPlaced, IsSettledIn, WereThere}
 use Rattle.run_queue.specs.Flights.{AreFlights, Flies, IsValidWith, KeepOtherObjects, OpenTasks, SameOpen}
+use Rattle.run_queue.specs.Mends.{AreMends, both}
 use Rattle.run_queue.specs.Stands.{IsLeft, StandSince}
 
 -- ---- in every state
@@ -80,6 +81,9 @@ pub record IsState {D W : Type 0} (count : ℕ) (s : RunView D W) : Type 0 where
   -- the plan is sound, and of each task it is kept whether it was begun
   pub sound : IsSound s.plan
   pub long : length s.begun ≡ length s.plan.tasks
+  -- tasks of the plan are being restored, and no more than it has threads
+  pub few : length s.restoring ≤ s.plan.threads
+  pub among : (t : ℕ) → Contains s.restoring t → t < length s.plan.tasks
   -- each event could be marked, and by the seat that marked it
   pub orderly : EachAfter (IsOrderly s.plan.tasks) s.tale
   -- what is known of the plan's tasks is up to date
@@ -132,17 +136,17 @@ KeepsFront written old new = (front : List ℕ) → IsFront front (written old.s
 abbrev pub WasAnswered : Opening → Seen → ℕ → Avail → Type 0
 WasAnswered o s t there = WasThere o s t there × ((there ≡ Object) ⊎ ((there ≡ Missing) × ((seat : ℕ) × RunsAfter s.plan s.tale t seat)))
 
--- Where a task is told of that was begun: it was placed; or it runs; or a fault is kept, and the tale breaks the task off, or it is the one that was
--- being restored; or it is one of these.
-abbrev pub IsToldOf : Opening → Seen → ℕ → (ℕ → Type 0) → ℕ → Type 0
-IsToldOf o s halted but t =
+-- Where a task is told of that was begun: it was placed; or it runs; or a fault is kept, and the tale breaks the task off; or it is being restored, or was
+-- as a fault was met.
+abbrev pub IsToldOf : Opening → Seen → ℕ → Type 0
+IsToldOf o s t =
     IsPlaced s.tale t
     ⊎ (((seat : ℕ) × RunsAfter s.plan s.tale t seat)
-    ⊎ ((IsSome s.fault × (HasBroken s.tale t ⊎ ((t ≡ halted) × WasThere o s t Object)))
-    ⊎ but t))
+    ⊎ ((IsSome s.fault × HasBroken s.tale t)
+    ⊎ (Contains s.restoring t × WasThere o s t Object)))
 
--- What a run keeps besides over an opening whose premises hold. Tasks that `but` tells of may have been begun without being told of yet.
-pub record IsRunBut (o : Opening) (s : Seen) (but : ℕ → Type 0) : Type 0 where
+-- What a run keeps besides over an opening whose premises hold, whenever a turn has been taken.
+pub record IsRun (o : Opening) (s : Seen) : Type 0 where
   pub may : MayRun o s.plan
   -- the book grows by the lines of what ended, and the rows are its rows
   pub rows : s.rows ≡ rows_after o s.plan s.tale
@@ -152,13 +156,15 @@ pub record IsRunBut (o : Opening) (s : Seen) (but : ℕ → Type 0) : Type 0 whe
   pub own : (line : Line) → HasLine lines line → (t : ℕ) (task : PlanTask) → slice_get s.plan.tasks t ≡ Some task → line.sig.pn ≡ task.id.pn → line.sig.task ≡ task.id.task → IsBegun s t
   -- and all lines can be read again
   pub readable : AllByRecursion IsReadable (o.book ++ lines)
-  -- the publications that are open, with the signatures of their tasks
+  -- the publications that are open, with the signatures of their tasks, and the restorings
   pub opened : OpenTasks
-  -- while no fault is kept that is a valid book, and these are the store's, each of a task in hand, which is begun; so one is open of each task that
-  -- is begun and runs
+  pub mends : OpenTasks
+  -- while no fault is kept that is a valid book, and these are the store's, each publication of a task in hand, which is begun, and each restoring of one
+  -- that waits; so a publication is open of each task that is begun and runs
   pub book : s.fault ≡ None → IsValidBook o.gives o.reading (o.book ++ lines)
-  pub open_are : s.fault ≡ None → SameOpen opened s.opened
+  pub open_are : s.fault ≡ None → SameOpen (both opened mends) s.opened
   pub flights : s.fault ≡ None → AreFlights o s.plan s.tale opened
+  pub mending : s.fault ≡ None → AreMends o s.plan s.rows s.begun s.tale s.restoring mends
   pub touched : s.fault ≡ None → (t : ℕ) → Flies s.plan opened t → IsBegun s t
   pub flying : s.fault ≡ None → (t seat : ℕ) → RunsAfter s.plan s.tale t seat → IsBegun s t → Flies s.plan opened t
   -- what a crash leaves now is valid with the book and some lines in flight, and has the objects of tasks that haven't ended, and of which nothing is
@@ -183,23 +189,14 @@ pub record IsRunBut (o : Opening) (s : Seen) (but : ℕ → Type 0) : Type 0 whe
   pub there : IfSome s.known (λ k. (t : ℕ) (a : Avail) → IsIn k.need t → (HasEnded s.plan s.tale t → ⊥) → slice_get k.avail t ≡ Some a → WasThere o s t a)
   pub answered : s.fault ≡ None → (t : ℕ) (a : Avail) → slice_get s.begun t ≡ Some (Some a) → (HasEnded s.plan s.tale t → ⊥) → WasAnswered o s t a
   pub met : (t : ℕ) → IsSettledIn s.plan s.tale t → (HasEnded s.plan s.tale t → ⊥) → (a : Avail) × WasThere o s t a × (a ≢ Missing)
-  -- each task that was begun is told of; of a restoring that met a fault it is kept which task it was
-  pub halted : ℕ
-  pub told : (t : ℕ) → IsBegun s t → IsToldOf o s halted but t
+  -- each task that was begun is told of
+  pub told : (t : ℕ) → IsBegun s t → IsToldOf o s t
   -- whatever a crash left was left before the run began, or it is valid with what had ended and lines of tasks that ran, has no stamp that lies,
   -- and has the tasks that weren't begun as they were
   pub images : (t : ℕ) (image : Store) → t ≤ moment o.story → IsImageSince s.story t image → IsImageSince o.story t image ⊎ IsLeft o s.plan s.begun s.tale image
   -- settled tasks stand, now and since the moment of their events
   pub stands : EachNow s.story (AllStand o s.plan s.tale)
   pub settled : StandSince o s
-
--- no task
-abbrev pub nobody : ℕ → Type 0
-nobody t = ⊥
-
--- What a run keeps whenever a turn has been taken.
-abbrev pub IsRun : Opening → Seen → Type 0
-IsRun o s = IsRunBut o s nobody
 
 -- ---- how a run begins
 
@@ -217,3 +214,4 @@ pub record Begun {D W : Type 0} (plan : Plan) (options : Options) (store : View 
   pub stands : s.sink_failed ≡ false
   pub no_fault : s.fault ≡ None
   pub no_tale : s.tale ≡ []
+  pub none_restored : s.restoring ≡ []

@@ -53,6 +53,7 @@ at_begin o plan options written = record {
   fault = None;
   tale = [];
   begun = replicate (length plan.tasks) None;
+  restoring = [];
   known = None;
   story = o.story;
   written = written;

@@ -1,3 +1,4 @@
+pub mod Mends
 pub mod Opening
 pub mod Courses
 pub mod Seen

@@ -1,7 +1,7 @@
--- What publishing the output of a task of the plan does, or restoring it.
-use Rattle.std.specs.Prelude.{◌≡◌, ℕ, Bool, List, MatchBool, Some, None, Ok}
+-- What publishing the output of a task of the plan does, or a turn of restoring it.
+use Rattle.std.specs.Prelude.{◌≡◌, ℕ, List, Some, None, Ok}
 use Rattle.std.specs.List.{slice_get}
-use Rattle.outside_traits.specs.Passes.{EachNow, Passes}
+use Rattle.outside_traits.specs.Passes.{Passes}
 use Rattle.outside_traits.specs.Story.{Story}
 use Rattle.meta_model.specs.declared.plan.PlanTask.{PlanTask}
 use Rattle.meta_model.specs.CleanBuild.{Built, Entries, Gives, clean_build}
@@ -11,7 +11,7 @@ use Rattle.store_model.specs.Available.{task_folder}
 use Rattle.store_model.specs.Readable.{IsReadable}
 use Rattle.store_model.specs.Spelling.{name_of}
 use Rattle.build_store.specs.Openings.{NoneNamed}
-use Rattle.build_store.specs.Publication.{HasNoObject, IsRestored, KeepsOthers, Restores, line_for}
+use Rattle.build_store.specs.Publication.{KeepsOthers, Restores, line_for}
 use Rattle.build_store.specs.View.{OpenViews, opened_at}
 use Rattle.run_model.specs.Courses.{clean_says, said}
 
@@ -21,14 +21,10 @@ pub record MayOpen (rows : List EquivRow) (opened : OpenViews) (s : Signed) (tre
   pub apart : NoneNamed opened (name_of s.sig)
   pub readable : IsReadable (line_for rows s tree)
 
--- What restoring a task does to the disk, whatever is answered.
+-- What the opening of a restoring does to the disk, whatever is answered.
 pub record PutsObject (tells : Type 0) (old new : Story) (rows : List EquivRow) (s : Signed) : Type 0 where
   pub images : tells → Passes old new (Restores old.held rows s)
   pub others : tells → Passes old new (KeepsOthers (task_folder s.task) None old.held)
-
--- Where it is answered that the task was restored, or that it has no object: what a crash leaves, or what was held.
-abbrev pub HasPutObject : Type 0 → Story → Story → List EquivRow → Signed → Bool → Type 0
-HasPutObject tells old new rows s found = tells → MatchBool found (EachNow new (IsRestored old.held rows s)) (HasNoObject old.held rows s)
 
 -- the task of a number has this signature over these rows
 abbrev pub IsSignedAt : List EquivRow → List PlanTask → ℕ → Signed → Type 0

@@ -29,8 +29,8 @@ abbrev pub no_meaning : Says
 no_meaning t sig there = Unit {0}
 
 -- The plan and the options; the store, and the sink, and whether that has failed; the first fault that was met; the tale; of each
--- task whose publishing or restoring was begun what the store had answered of its output; and what is known of the plan's tasks, where
--- it is kept.
+-- task whose publishing or restoring was begun what the store had answered of its output; the tasks that are being restored, and where a fault is
+-- kept those that were; whether an end waits for them; and what is known of the plan's tasks, where it is kept.
 pub record RunView (D W : Type 0) : Type 0 where
   pub plan : Plan
   pub options : Options
@@ -40,6 +40,8 @@ pub record RunView (D W : Type 0) : Type 0 where
   pub fault : Option RunFault
   pub tale : List Logged
   pub begun : List (Option Avail)
+  pub restoring : List ℕ
+  pub ends_wait : Bool
   pub known : Option Known
 
 -- The same as plain values, with what the disk and the sink tell.
@@ -53,6 +55,7 @@ pub record Seen : Type 0 where
   pub fault : Option RunFault
   pub tale : List Logged
   pub begun : List (Option Avail)
+  pub restoring : List ℕ
   pub known : Option Known
   pub story : Story
   pub written : List ℕ
@@ -68,6 +71,7 @@ seen story written s = record {
   fault = s.fault;
   tale = s.tale;
   begun = s.begun;
+  restoring = s.restoring;
   known = s.known;
   story = story s.store.disk;
   written = written s.sink;

@@ -1,5 +1,5 @@
 -- What one turn does to a run's tale.
-use Rattle.std.specs.Prelude.{◌≡◌, ◌≢◌, ◌⊎◌, ◌+◌, ◌*◌, ◌-◌, ◌^◌, min, ℕ, false, List, [], ◌∷◌, ◌++◌, length, set, Option, Some, None, IfSome, IsSome, Result, Ok, Err, map}
+use Rattle.std.specs.Prelude.{◌≡◌, ◌≢◌, ◌⊎◌, ◌≤◌, ◌+◌, ◌*◌, ◌-◌, ◌^◌, min, ℕ, Bool, true, false, not, List, [], ◌∷◌, ◌++◌, Contains, filter, length, nat_eq, set, Option, Some, None, IfSome, IsSome, Result, Ok, Err, map}
 use Rattle.std.specs.List.{slice_get}
 use Rattle.tree_model.specs.declared.text.Mem.{Mem}
 use Rattle.outside_traits.specs.Story.{Story, moment}
@@ -25,7 +25,8 @@ use Rattle.run_model.specs.Courses.{IsCourse}
 use Rattle.run_model.specs.Opening.{Opening}
 use Rattle.run_model.specs.Outcome.{IsAtEnd}
 use Rattle.run_core.specs.declared.next.Next.{Next}
-use Rattle.run_core.specs.Choice.{CannotGoOn, MayAnswer}
+use Rattle.run_core.specs.declared.next.Next.TheVariants as next
+use Rattle.run_core.specs.Choice.{CannotGoOn, CannotGoOnBeside, MayAnswer, MayAnswerBeside}
 use Rattle.run_core.specs.Fates.{SomeRuns}
 use Rattle.store_model.specs.Available.{task_folder}
 use Rattle.build_store.specs.View.{SameBooks, opened_at}
@@ -36,6 +37,8 @@ use Rattle.task_worker.specs.Jobs.{job_output, outcome_of}
 use Rattle.task_worker.specs.OneTask.{placing_of}
 use Rattle.run_queue.specs.declared.closing.Ending.{Ending}
 use Rattle.run_queue.specs.declared.closing.Ending.TheVariants as ending
+use Rattle.run_queue.specs.declared.restoring.Mending.{Mending}
+use Rattle.run_queue.specs.declared.restoring.Mending.TheVariants as mending
 use Rattle.run_queue.specs.declared.restoring.Restoring.{Restoring}
 use Rattle.run_queue.specs.declared.restoring.Restoring.TheVariants as restoring
 use Rattle.run_queue.specs.declared.state.Claim.{Claim}
@@ -61,21 +64,39 @@ Settles seat t old new = Marks seat (events.Found t) old new ⊎ (Marks seat (ev
 abbrev pub fates_of : {D W : Type 0} → RunView D W → List Rattle.tale_model.specs.declared.fate.Fate.Fate
 fates_of s = fates_told (length s.plan.tasks) s.tale
 
--- by what is known of the plan's tasks none of them is ready, and none can be settled
+-- by what is known of the plan's tasks none of them is ready, and none can be settled, but for those that are being restored
 pub record IsIdle {D W : Type 0} (s : RunView D W) : Type 0 where
   pub known : Known
   pub is_known : s.known ≡ Some known
-  pub idle : (t : ℕ) → CannotGoOn s.plan.tasks known.need known.avail (fates_of s) t
+  pub idle : (t : ℕ) → CannotGoOnBeside s.plan.tasks known.need known.avail (fates_of s) s.restoring t
 
--- What a claim does, by its answer. With Wait another seat's task runs, and no task can go on. Stopped comes only where a task failed without
--- `keep_going`, or a fault is kept.
+-- nothing is begun, since as many tasks are being restored as there may be, or an end waits for those that are
+abbrev pub IsHeldUp : {D W : Type 0} → RunView D W → Type 0
+IsHeldUp s = (s.plan.threads ≤ length s.restoring) ⊎ (s.ends_wait ≡ true)
+
+-- nothing is being restored, or a fault is kept
+abbrev pub AreHandsFree : {D W : Type 0} → RunView D W → Type 0
+AreHandsFree s = (s.restoring ≡ []) ⊎ IsSome s.fault
+
+-- the tasks but this one
+abbrev pub without : ℕ → List ℕ → List ℕ
+without t tasks = filter (λ u. not (nat_eq u t)) tasks
+
+-- What a claim does, by its answer. With Wait another seat's task runs, or is being restored, and no other task can go on, or nothing is begun for those that
+-- are being restored. Stopped comes only where a task failed without `keep_going`, or a fault is kept.
 abbrev pub Claims : {D W : Type 0} → ℕ → RunView D W → RunView D W → Result Claim Mem → Type 0
 Claims seat old new (Ok (claim.Run job)) = Begins seat old.plan.tasks old.tale new.tale job
 Claims seat old new (Ok (claim.Settled t)) = Settles seat t old.tale new.tale
-Claims seat old new (Ok claim.Wait) = (new.tale ≡ old.tale) × SomeRuns (fates_of old) × IsIdle new
+Claims seat old new (Ok (claim.Restore t)) = new.tale ≡ old.tale
+Claims seat old new (Ok claim.Wait) = (new.tale ≡ old.tale) × (SomeRuns (fates_of old) ⊎ (new.restoring ≢ [])) × (IsIdle new ⊎ IsHeldUp new)
 Claims seat old new (Ok claim.Finished) = (new.tale ≡ old.tale) × IsAtEnd old.plan old.options old.tale
 Claims seat old new (Ok claim.Stopped) = (new.tale ≡ old.tale) × ((HoldsFailure (fates_of old) × (old.options.keep_going ≡ false)) ⊎ IsSome new.fault)
 Claims seat old new (Err e) = new.tale ≡ old.tale
+
+-- Which tasks are being restored behind a claim: one more, where that is its answer, and else the same ones, unless a fault is kept.
+abbrev pub RestoresBy : {D W : Type 0} → RunView D W → RunView D W → Result Claim Mem → Type 0
+RestoresBy old new (Ok (claim.Restore t)) = new.restoring ≡ old.restoring ++ t ∷ []
+RestoresBy old new answer = (new.restoring ≡ old.restoring) ⊎ IsSome new.fault
 
 -- What is known says that there is an object of a task; none turned out to be there, which is kept, and nothing is known any more.
 pub record GivesUp {D W : Type 0} (old new : RunView D W) : Type 0 where
@@ -122,15 +143,16 @@ pub record IsCleanJob (o : Opening) (s : Seen) (job : Job) : Type 0 where
   pub placing : job.placing ≡ placing_of task
   pub within : is_beyond_layout job.layout ≡ false
 
--- What a claim's answer says where the disk tells: the job is the clean build's; with Wait no task can go on, and with Finished nothing is left
--- to do, in each course of the run.
-abbrev pub ClaimsClean : Opening → Seen → Result Claim Mem → Type 0
-ClaimsClean o s (Ok (claim.Run job)) = IsCleanJob o s job
-ClaimsClean o s (Ok (claim.Settled t)) = Unit {0}
-ClaimsClean o s (Ok claim.Wait) = (course : Course) → course.plan ≡ s.plan → IsCourse o s.options s.tale course → (t : ℕ) → CannotGoOn s.plan.tasks (course.need (length s.tale)) (course.avail (length s.tale)) (fates_told (length s.plan.tasks) s.tale) t
-ClaimsClean o s (Ok claim.Finished) = (course : Course) → course.plan ≡ s.plan → IsCourse o s.options s.tale course → IsFinished s.options s.plan.tasks (course.need (length s.tale)) (course.avail (length s.tale)) (fates_told (length s.plan.tasks) s.tale)
-ClaimsClean o s (Ok claim.Stopped) = Unit {0}
-ClaimsClean o s (Err e) = Unit {0}
+-- What a claim's answer says where the disk tells: the job is the clean build's; with Wait no task can go on, where none was being restored and no end waits
+-- for one, and with Finished nothing is left to do, in each course of the run.
+abbrev pub ClaimsClean : Opening → Bool → Seen → Result Claim Mem → Type 0
+ClaimsClean o waits s (Ok (claim.Run job)) = IsCleanJob o s job
+ClaimsClean o waits s (Ok (claim.Settled t)) = Unit {0}
+ClaimsClean o waits s (Ok (claim.Restore t)) = Unit {0}
+ClaimsClean o waits s (Ok claim.Wait) = s.restoring ≡ [] → waits ≡ false → (course : Course) → course.plan ≡ s.plan → IsCourse o s.options s.tale course → (t : ℕ) → CannotGoOn s.plan.tasks (course.need (length s.tale)) (course.avail (length s.tale)) (fates_told (length s.plan.tasks) s.tale) t
+ClaimsClean o waits s (Ok claim.Finished) = (course : Course) → course.plan ≡ s.plan → IsCourse o s.options s.tale course → IsFinished s.options s.plan.tasks (course.need (length s.tale)) (course.avail (length s.tale)) (fates_told (length s.plan.tasks) s.tale)
+ClaimsClean o waits s (Ok claim.Stopped) = Unit {0}
+ClaimsClean o waits s (Err e) = Unit {0}
 
 -- What was given is what the job gives.
 abbrev pub IsGivenBy : Gives → Job → Given → Type 0
@@ -165,9 +187,9 @@ EndsTurn seat t g old new (Ok ending.Closed) =
     (Marks seat (closed_by t g) old.tale new.tale × (old.fault ≡ None))
     ⊎ (Marks seat (events.Broke t cut.Fault) old.tale new.tale × IsSome new.fault)
 
--- One try of a turn with nothing handed over: no publication of the task was open, and nothing changed; or what a turn does.
+-- One try of a turn with nothing handed over: no publication of the task was open, and nothing changed but whether an end waits; or what a turn does.
 abbrev pub EndsTry : {D W : Type 0} → ℕ → ℕ → RunView D W → RunView D W → Result (Option Ending) Mem → Type 0
-EndsTry seat t old new (Ok None) = new ≡ old
+EndsTry seat t old new (Ok None) = new ≡ record old { ends_wait = new.ends_wait }
 EndsTry seat t old new (Ok (Some e)) = EndsTurn seat t None old new (Ok e)
 EndsTry seat t old new (Err e) = EndsTurn seat t None old new (Err e)
 
@@ -176,11 +198,11 @@ pub record IsFailure (t : ℕ) (cause : Why) (g : Given) : Type 0 where
   pub outcome : outcome_of g ≡ Err cause
   pub closed : closed_as t g ≡ events.Failed t cause
 
--- A running task failed, by this cause; or it broke off for want of memory, which is kept as a fault.
+-- A running task failed, by this cause; or that waits for tasks that are being restored; or it broke off for want of memory, which is kept as a fault.
 abbrev pub FailsTurn : {D W : Type 0} → ℕ → ℕ → Why → RunView D W → RunView D W → Result Ending Mem → Type 0
 FailsTurn seat t cause old new (Err e) = Marks seat (events.Broke t cut.Memory) old.tale new.tale × IsSome new.fault
 FailsTurn seat t cause old new (Ok ending.More) = ⊥
-FailsTurn seat t cause old new (Ok ending.Wait) = ⊥
+FailsTurn seat t cause old new (Ok ending.Wait) = GoesOn old new
 FailsTurn seat t cause old new (Ok ending.Closed) = Marks seat (events.Failed t cause) old.tale new.tale
 
 -- what is handed over stays, or it was a tree, and the store has it
@@ -206,7 +228,7 @@ RunsUnder s t seat = fate_at (fates_of s) t ≡ Running seat
 abbrev pub RestsAfterFault : {D W : Type 0} → RunView D W → RunView D W → Type 0
 RestsAfterFault old new = IsSome old.fault → (new.store ≡ old.store) × (new.fault ≡ old.fault)
 
--- No fault is kept, and nothing but what is known of the plan's tasks, what is begun, and the store may have changed.
+-- No fault is kept, and nothing but what is known of the plan's tasks, what is begun, whether an end waits, and the store may have changed.
 pub record IsAnew {D W : Type 0} (old new : RunView D W) : Type 0 where
   pub plan : new.plan ≡ old.plan
   pub options : new.options ≡ old.options
@@ -214,6 +236,8 @@ pub record IsAnew {D W : Type 0} (old new : RunView D W) : Type 0 where
   pub sink_failed : new.sink_failed ≡ old.sink_failed
   pub fault : new.fault ≡ None
   pub tale : new.tale ≡ old.tale
+  pub restoring : new.restoring ≡ old.restoring
+  pub ends_wait : new.ends_wait ≡ old.ends_wait
 
 -- One try of a claim, by its answer: what a claim does with that answer; or a task turned out to have no object, and nothing was marked.
 abbrev pub TurnsTo : {D W : Type 0} → ℕ → RunView D W → RunView D W → Result (Option Claim) Mem → Type 0
@@ -221,10 +245,15 @@ TurnsTo seat old new (Ok (Some c)) = Claims seat old new (Ok c)
 TurnsTo seat old new (Ok None) = IsAnew old new
 TurnsTo seat old new (Err e) = new.tale ≡ old.tale
 
-abbrev pub TurnsClean : Opening → Seen → Result (Option Claim) Mem → Type 0
-TurnsClean o s (Ok (Some c)) = ClaimsClean o s (Ok c)
-TurnsClean o s (Ok None) = Unit {0}
-TurnsClean o s (Err e) = Unit {0}
+abbrev pub TurnsClean : Opening → Bool → Seen → Result (Option Claim) Mem → Type 0
+TurnsClean o waits s (Ok (Some c)) = ClaimsClean o waits s (Ok c)
+TurnsClean o waits s (Ok None) = Unit {0}
+TurnsClean o waits s (Err e) = Unit {0}
+
+abbrev pub TurnsRestore : {D W : Type 0} → RunView D W → RunView D W → Result (Option Claim) Mem → Type 0
+TurnsRestore old new (Ok (Some c)) = RestoresBy old new (Ok c)
+TurnsRestore old new (Ok None) = Unit {0}
+TurnsRestore old new (Err e) = (new.restoring ≡ old.restoring) ⊎ IsSome new.fault
 
 -- the name of a run
 pub record SameRun {D W : Type 0} (old new : RunView D W) : Type 0 where
@@ -242,6 +271,7 @@ pub record SameButSink {D W : Type 0} (old new : RunView D W) : Type 0 where
   pub store : new.store ≡ old.store
   pub tale : new.tale ≡ old.tale
   pub begun : new.begun ≡ old.begun
+  pub restoring : new.restoring ≡ old.restoring
   pub known : new.known ≡ old.known
 
 -- nothing but the sink, whether it has failed, and the fault may have changed, and one event more stands in the tale
@@ -251,20 +281,41 @@ pub record Notes {D W : Type 0} (seat : ℕ) (event : Event) (old new : RunView 
   pub store : new.store ≡ old.store
   pub marks : Marks seat event old.tale new.tale
   pub begun : new.begun ≡ old.begun
+  pub restoring : new.restoring ≡ old.restoring
   pub known : new.known ≡ old.known
 
 -- what is known gives this answer to the question what is next
 pub record MayDo {D W : Type 0} (s : RunView D W) (answer : Next) : Type 0 where
   pub known : Known
   pub is_known : s.known ≡ Some known
-  pub may : MayAnswer s.options s.plan.tasks known.need known.avail (fates_of s) answer
+  pub may : MayAnswerBeside s.options s.plan.tasks known.need known.avail (fates_of s) s.restoring answer
 
--- What a restoring does, by its answer: the task was marked as restored; or it has no object, which is kept, and nothing is known of the
--- plan's tasks any more; or a fault is kept. So is want of memory, since the task's folder may have been touched.
-abbrev pub RestoresTo : {D W : Type 0} → ℕ → ℕ → RunView D W → RunView D W → Restoring → Type 0
-RestoresTo seat t old new restoring.Done = Marks seat (events.Restored t) old.tale new.tale
-RestoresTo seat t old new restoring.Gone = IsAnew old new × GivesUp old new
-RestoresTo seat t old new restoring.Fault = (new.tale ≡ old.tale) × IsSome new.fault
+-- what is known gives that a task can be settled, from its object, be it in hand or not
+pub record MayRestore {D W : Type 0} (s : RunView D W) (t : ℕ) : Type 0 where
+  pub known : Known
+  pub is_known : s.known ≡ Some known
+  pub may : MayAnswer s.options s.plan.tasks known.need known.avail (fates_of s) (next.Settle t)
+  pub object : slice_get known.avail t ≡ Some Object
+
+-- What the opening of a restoring does, by its answer: the task is being restored; or it has no object, which is kept, and nothing is known of the
+-- plan's tasks any more; or a fault is kept. So is want of memory, since the task's folder may have been touched; where there was none for the note that the
+-- task is being restored nothing changed.
+abbrev pub OpensTo : {D W : Type 0} → ℕ → RunView D W → RunView D W → Result Restoring Mem → Type 0
+OpensTo t old new (Ok restoring.Opened) = (new.tale ≡ old.tale) × (new.restoring ≡ old.restoring ++ t ∷ [])
+OpensTo t old new (Ok restoring.Gone) = IsAnew old new × GivesUp old new
+OpensTo t old new (Ok restoring.Fault) = (new.tale ≡ old.tale) × IsSome new.fault
+OpensTo t old new (Err e) = new ≡ old
+
+-- What a turn of a restoring does, by its answer: more is left; or the task was marked as restored, and is in hand no more; or it wasn't in hand, and nothing
+-- changed; or a fault is kept.
+abbrev pub MendsTo : {D W : Type 0} → ℕ → ℕ → RunView D W → RunView D W → Mending → Type 0
+MendsTo seat t old new mending.More = GoesOn old new × (new.restoring ≡ old.restoring)
+MendsTo seat t old new mending.Wait = GoesOn old new × (new.restoring ≡ old.restoring)
+MendsTo seat t old new mending.Closed =
+    (old.fault ≡ None)
+    × ((Marks seat (events.Restored t) old.tale new.tale × (new.restoring ≡ without t old.restoring))
+    ⊎ ((new ≡ old) × (Contains old.restoring t → ⊥)))
+MendsTo seat t old new mending.Stopped = (new.tale ≡ old.tale) × IsSome new.fault
 
 -- nothing but what is known of the plan's tasks, the disk, and the fault may have changed
 pub record Looks {D W : Type 0} (old new : RunView D W) : Type 0 where
@@ -275,6 +326,8 @@ pub record Looks {D W : Type 0} (old new : RunView D W) : Type 0 where
   pub sink_failed : new.sink_failed ≡ old.sink_failed
   pub tale : new.tale ≡ old.tale
   pub begun : new.begun ≡ old.begun
+  pub restoring : new.restoring ≡ old.restoring
+  pub ends_wait : new.ends_wait ≡ old.ends_wait
 
 -- nothing but the fault may have changed
 pub record SameButFault {D W : Type 0} (old new : RunView D W) : Type 0 where
@@ -285,6 +338,7 @@ pub record SameButFault {D W : Type 0} (old new : RunView D W) : Type 0 where
   pub sink_failed : new.sink_failed ≡ old.sink_failed
   pub tale : new.tale ≡ old.tale
   pub begun : new.begun ≡ old.begun
+  pub restoring : new.restoring ≡ old.restoring
   pub known : new.known ≡ old.known
 
 -- By which cut a running task breaks off that is to break off by this one: it is that, and no publication of the task is open, or where a fault is kept

@@ -1,13 +1,14 @@
 // What a seat is to do next.
-ghost use Rattle.std.specs.Prelude.{◌≡◌, ◌<◌, ◌≤◌, IfOk, IfSome, IsSome, MatchBool, None, Ok, Some};
+ghost use Rattle.std.specs.Prelude.{◌≡◌, ◌≢◌, ◌<◌, ◌≤◌, ◌⊎◌, [], IfOk, IfSome, IsSome, IsTrue, MatchBool, None, Ok, Some, false, length, true};
 ghost use Rattle.std.specs.List.{slice_get};
 ghost use Rattle.meta_model.specs.declared.event.Avail.TheVariants as avails;
 ghost use Rattle.tale_model.specs.Fates.{IsFree};
+ghost use Rattle.run_core.specs.Fates.{SomeRuns};
 ghost use Rattle.run_core.specs.declared.next.Next.TheVariants as next;
 ghost use Rattle.run_model.specs.Opening.{Opening};
 ghost use Rattle.run_queue.specs.Keeps.{IsRun, IsSteady, KeepsCount, KeepsFront, PrintsOn};
 ghost use Rattle.run_queue.specs.Seen.{seen};
-ghost use Rattle.run_queue.specs.Turns.{Claims, ClaimsClean, GivesUp, MayDo, RestsAfterFault, SameRun, TurnsClean, TurnsTo, fates_of, tries_left};
+ghost use Rattle.run_queue.specs.Turns.{Claims, ClaimsClean, GivesUp, IsHeldUp, MayDo, RestoresBy, RestsAfterFault, SameRun, TurnsClean, TurnsRestore, TurnsTo, fates_of, tries_left};
 
 use crate::restoring::Restoring;
 use crate::state::{Claim, RunState};
@@ -32,8 +33,13 @@ impl<D: Disk, W: Sink> RunState<D, W> {
     {
         match &self.replan {
             Some(known) => {
-                self.board
-                    .next(&self.plan, known.need(), known.avail(), &self.options)
+                self.board.next_beside(
+                    &self.plan,
+                    known.need(),
+                    known.avail(),
+                    &self.options,
+                    self.restoring.as_slice(),
+                )
             }
             None => Next::Stopped,
         }
@@ -51,13 +57,26 @@ impl<D: Disk, W: Sink> RunState<D, W> {
         }
     }
 
-    /// A task whose output is there is found or restored. Nothing where it turned out to have no object.
+    /// Whether no further task is to be restored yet: as many are as there may be, or an end waits for them, or waits still for its turn.
+    fn is_held_up(&self) -> bool
+        ensures held { IsTrue result → (SomeRuns (fates_of self.now) ⊎ (self.now.restoring ≢ [])) × IsHeldUp self.now }
+        ensures waits { IsTrue result → (self.now.restoring ≢ []) ⊎ (self.now.ends_wait ≡ true) }
+        ensures room { result ≡ false → length self.now.restoring < self.now.plan.threads }
+    {
+        if self.restoring.len() >= self.plan.threads as usize {
+            return true;
+        }
+        self.ends_wait && (!self.restoring.is_empty() || self.board.some_runs())
+    }
+
+    /// A task whose output is there is found, or its restoring is opened. Nothing where it turned out to have no object.
     fn settle(&mut self, alloc: Global, number: u32, task: u32) -> Result<Option<Claim>, Mem>
         requires reach { 3600 ≤ D.reach }
         requires faultless { self.old.fault ≡ None }
         requires free { IsFree (fates_of self.old) number }
         requires answer { MayDo self.old (next.Settle task) }
         ensures turns { TurnsTo number self.old self.new result }
+        ensures restores { TurnsRestore self.old self.new result }
         ensures same { SameRun self.old self.new }
         ensures sink { KeepsCount W.faults self.old self.new }
         ensures text { W.tells → PrintsOn W.written self.old self.new }
@@ -68,15 +87,18 @@ impl<D: Disk, W: Sink> RunState<D, W> {
         ensures run { D.tells → (o : Opening) → IsRun o (seen D.story W.written self.old)
             → IsRun o (seen D.story W.written self.new) }
         ensures clean { D.tells → (o : Opening) → IsRun o (seen D.story W.written self.old)
-            → TurnsClean o (seen D.story W.written self.old) result }
+            → TurnsClean o self.old.ends_wait (seen D.story W.written self.old) result }
         ensures gives_up { IfOk result (λ done. done ≡ None → GivesUp self.old self.new) }
     {
         if self.is_in_work(task) {
             self.find(number, task)?;
             return Ok(Some(Claim::Settled(task)));
         }
-        match self.restore(alloc, number, task) {
-            Restoring::Done => Ok(Some(Claim::Settled(task))),
+        if self.is_held_up() {
+            return Ok(Some(Claim::Wait));
+        }
+        match self.open_restoring(alloc, task)? {
+            Restoring::Opened => Ok(Some(Claim::Restore(task))),
             Restoring::Gone => Ok(None),
             Restoring::Fault => Ok(Some(Claim::Stopped)),
         }
@@ -89,6 +111,7 @@ impl<D: Disk, W: Sink> RunState<D, W> {
         requires known { IsSome self.old.known }
         requires free { IsFree (fates_of self.old) number }
         ensures turns { TurnsTo number self.old self.new result }
+        ensures restores { TurnsRestore self.old self.new result }
         ensures same { SameRun self.old self.new }
         ensures sink { KeepsCount W.faults self.old self.new }
         ensures text { W.tells → PrintsOn W.written self.old self.new }
@@ -99,7 +122,7 @@ impl<D: Disk, W: Sink> RunState<D, W> {
         ensures run { D.tells → (o : Opening) → IsRun o (seen D.story W.written self.old)
             → IsRun o (seen D.story W.written self.new) }
         ensures clean { D.tells → (o : Opening) → IsRun o (seen D.story W.written self.old)
-            → TurnsClean o (seen D.story W.written self.old) result }
+            → TurnsClean o self.old.ends_wait (seen D.story W.written self.old) result }
         ensures gives_up { IfOk result (λ done. done ≡ None → GivesUp self.old self.new) }
     {
         self.kept();
@@ -118,6 +141,7 @@ impl<D: Disk, W: Sink> RunState<D, W> {
         requires faultless { self.old.fault ≡ None }
         requires free { IsFree (fates_of self.old) number }
         ensures turns { TurnsTo number self.old self.new result }
+        ensures restores { TurnsRestore self.old self.new result }
         ensures same { SameRun self.old self.new }
         ensures sink { KeepsCount W.faults self.old self.new }
         ensures text { W.tells → PrintsOn W.written self.old self.new }
@@ -128,7 +152,7 @@ impl<D: Disk, W: Sink> RunState<D, W> {
         ensures run { D.tells → (o : Opening) → IsRun o (seen D.story W.written self.old)
             → IsRun o (seen D.story W.written self.new) }
         ensures clean { D.tells → (o : Opening) → IsRun o (seen D.story W.written self.old)
-            → TurnsClean o (seen D.story W.written self.old) result }
+            → TurnsClean o self.old.ends_wait (seen D.story W.written self.old) result }
         ensures falls { IfOk result (λ done. done ≡ None → tries_left self.new < tries_left self.old) }
     {
         if self.look(alloc)? {
@@ -138,16 +162,17 @@ impl<D: Disk, W: Sink> RunState<D, W> {
         Ok(Some(Claim::Stopped))
     }
 
-    /// What the seat of a number, under which no task runs, is to do next. One turn: it marks that a task was found or restored, that it
-    /// failed since its layout is too large, or that it was started, for which the job is handed out; or nothing. Where a task turns out to
-    /// have no object, what is next is asked anew.
+    /// What the seat of a number, under which no task runs, is to do next. One turn: it marks that a task was found, that it
+    /// failed since its layout is too large, or that it was started, for which the job is handed out; or nothing, where a restoring was opened. Where a task
+    /// turns out to have no object, what is next is asked anew.
     ///
-    /// Where the sink fails at the event's line the event is marked all the same. Want of memory changes nothing; in a restoring, which may
+    /// Where the sink fails at the event's line the event is marked all the same. Want of memory changes nothing; in the opening of a restoring, which may
     /// have touched its task's folder, it is kept as a fault, and nothing new may begin.
     pub fn claim(&mut self, alloc: Global, number: u32) -> Result<Claim, Mem>
         requires reach { 3600 ≤ D.reach }
         requires free { IsFree (fates_of self.old) number }
         ensures claims { Claims number self.old self.new result }
+        ensures restores { RestoresBy self.old self.new result }
         ensures stops { IsSome self.old.fault → result ≡ Ok Claim.Stopped }
         ensures same { SameRun self.old self.new }
         ensures rests { RestsAfterFault self.old self.new }
@@ -160,7 +185,7 @@ impl<D: Disk, W: Sink> RunState<D, W> {
         ensures run { D.tells → (o : Opening) → IsRun o (seen D.story W.written self.old)
             → IsRun o (seen D.story W.written self.new) }
         ensures clean { D.tells → (o : Opening) → IsRun o (seen D.story W.written self.old)
-            → ClaimsClean o (seen D.story W.written self.old) result }
+            → ClaimsClean o self.old.ends_wait (seen D.story W.written self.old) result }
     {
         if self.has_fault() {
             return Ok(Claim::Stopped);

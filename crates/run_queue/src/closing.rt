@@ -1,5 +1,5 @@
 // A job that is done comes to an end, in several turns: its output is published, or it is marked how it failed.
-ghost use Rattle.std.specs.Prelude.{◌≡◌, ◌<◌, ◌≤◌, ◌⊎◌, Bool, true, IfErr, IfOk, IfSome, IsSome, None, OnErr, OnOk, Some, is_some, length};
+ghost use Rattle.std.specs.Prelude.{◌≡◌, ◌≢◌, ◌<◌, ◌≤◌, ◌⊎◌, [], Bool, true, IfErr, IfOk, IfSome, IsSome, IsTrue, None, OnErr, OnOk, Some, is_some, length};
 ghost use Rattle.std.specs.List.{slice_get};
 ghost use Rattle.outside_traits.specs.Passes.{Passes, Same};
 ghost use Rattle.meta_model.specs.CleanBuild.{Entries};
@@ -47,7 +47,8 @@ use tree_model::{Manifest, Mem, Tree};
 pub enum Ending {
     /// More is left: another turn is wanted.
     More,
-    /// More is left: another turn is wanted, once the system has synced what the disk stands on, begun behind this turn (`Bench::wait_synced`).
+    /// More is left: another turn is wanted, once the system has synced what the disk stands on, begun behind this turn (`Bench::wait_synced`). So it is, too,
+    /// where the event waits for tasks that are being restored.
     Wait,
     /// The job is closed: its event was marked.
     Closed,
@@ -214,6 +215,7 @@ impl<D: Disk, W: Sink> RunState<D, W> {
         requires faultless { self.old.fault ≡ None }
         requires runs { RunsUnder self.old task number }
         ensures marks { Marks number (events.Broke task cuts.Memory) self.old.tale self.new.tale }
+        ensures restoring { self.new.restoring ≡ self.old.restoring }
         ensures fault { IsSome self.new.fault }
         ensures same { SameRun self.old self.new }
         ensures sink { KeepsCount W.faults self.old self.new }
@@ -230,11 +232,49 @@ impl<D: Disk, W: Sink> RunState<D, W> {
         self.note(number, Event::Broke { task, cut });
     }
 
-    /// Marks that a running task failed; where a publication of it is open, which can't come in a run of workers, it is want of memory.
+    /// Whether the event that a task failed, without `keep_going`, has to wait for tasks that are being restored, which is kept then: behind it nothing more
+    /// is settled.
+    pub(crate) fn failure_waits(&mut self) -> bool
+        ensures same { self.new ≡ record self.old { ends_wait = self.new.ends_wait } }
+        ensures waits { IsTrue result → (self.new.restoring ≢ []) × (self.new.ends_wait ≡ true) }
+
+        // Where the disk tells.
+        ensures run { D.tells → (o : Opening) → IsRun o (seen D.story W.written self.old)
+            → IsRun o (seen D.story W.written self.new) }
+    {
+        if self.options.keep_going {
+            return false;
+        }
+        self.ends_wait = !self.restoring.is_empty();
+        self.ends_wait
+    }
+
+    /// Whether the publication of a task has to wait for tasks that are being restored, which is kept then: behind its end they may be needed no more. So it is
+    /// where its record is new and names the output of another.
+    fn end_waits(&mut self, task: u32) -> bool
+        requires task { task < length self.old.plan.tasks }
+        ensures same { self.new ≡ record self.old { ends_wait = self.new.ends_wait } }
+        ensures waits { IsTrue result → (self.new.restoring ≢ []) × (self.new.ends_wait ≡ true) }
+
+        // Where the disk tells.
+        ensures run { D.tells → (o : Opening) → IsRun o (seen D.story W.written self.old)
+            → IsRun o (seen D.story W.written self.new) }
+    {
+        let own = &self.plan.tasks.as_slice()[task as usize];
+        if !self.store.lands_elsewhere(own) {
+            return false;
+        }
+        self.ends_wait = !self.restoring.is_empty();
+        self.ends_wait
+    }
+
+    /// Marks that a running task failed, unless that waits for tasks that are being restored; where a publication of it is open, which can't come in a run of
+    /// workers, it is want of memory.
     fn failed(&mut self, number: u32, job: &Job, why: Why) -> Result<Ending, Mem>
         requires faultless { self.old.fault ≡ None }
         requires runs { RunsUnder self.old job.now.task number }
         ensures fails { FailsTurn number job.now.task why self.old self.new result }
+        ensures restoring { self.new.restoring ≡ self.old.restoring }
         ensures same { SameRun self.old self.new }
         ensures sink { KeepsCount W.faults self.old self.new }
         ensures text { W.tells → PrintsOn W.written self.old self.new }
@@ -250,6 +290,9 @@ impl<D: Disk, W: Sink> RunState<D, W> {
         if self.has_open(task) {
             self.wanting(number, task);
             return Err(Mem);
+        }
+        if self.failure_waits() {
+            return Ok(Ending::Wait);
         }
         self.note(number, Event::Failed { task, why });
         Ok(Ending::Closed)
@@ -271,6 +314,7 @@ impl<D: Disk, W: Sink> RunState<D, W> {
         requires short { AreShort tree }
         requires listed { manifest.now ≡ manifest_lines tree }
         ensures ends { EndsTurn number task (Some (givens.Tree tree manifest.now)) self.old self.new result }
+        ensures restoring { self.new.restoring ≡ self.old.restoring }
         ensures given { IfSome self.new.fault (IsOfGiven self.old.plan.tasks task (givens.Tree tree manifest.now)) }
         ensures same { SameRun self.old self.new }
         ensures sink { KeepsCount W.faults self.old self.new }
@@ -309,8 +353,8 @@ impl<D: Disk, W: Sink> RunState<D, W> {
         }
     }
 
-    /// Goes on with the open publication of a running task: at its end it marks that the task ended, or that it broke where a fault was met. One that is met
-    /// once it was published is kept, and the task has ended. Nothing where none is open.
+    /// Goes on with the open publication of a running task, unless that waits for tasks that are being restored: at its end it marks that the task ended, or that
+    /// it broke where a fault was met. One that is met once it was published is kept, and the task has ended. Nothing where none is open.
     fn step_turn(
         &mut self,
         alloc: Global,
@@ -322,6 +366,7 @@ impl<D: Disk, W: Sink> RunState<D, W> {
         requires faultless { self.old.fault ≡ None }
         requires runs { RunsUnder self.old task number }
         ensures ends { EndsTry number task self.old self.new result }
+        ensures restoring { self.new.restoring ≡ self.old.restoring }
         ensures same { SameRun self.old self.new }
         ensures sink { KeepsCount W.faults self.old self.new }
         ensures text { W.tells → PrintsOn W.written self.old self.new }
@@ -332,6 +377,9 @@ impl<D: Disk, W: Sink> RunState<D, W> {
         ensures run { D.tells → (o : Opening) → IsRun o (seen D.story W.written self.old)
             → IsRun o (seen D.story W.written self.new) }
     {
+        if self.end_waits(task) {
+            return Ok(Some(Ending::Wait));
+        }
         match step_in(
             alloc,
             &mut self.store,
@@ -389,6 +437,7 @@ impl<D: Disk, W: Sink> RunState<D, W> {
         requires short { AreShort tree }
         requires listed { manifest.now ≡ manifest_lines tree }
         ensures ends { EndsTurn number task (Some (givens.Tree tree manifest.now)) self.old self.new result }
+        ensures restoring { self.new.restoring ≡ self.old.restoring }
         ensures given { IfSome self.new.fault (IsOfGiven self.old.plan.tasks task (givens.Tree tree manifest.now)) }
         ensures same { SameRun self.old self.new }
         ensures sink { KeepsCount W.faults self.old self.new }
@@ -419,6 +468,7 @@ impl<D: Disk, W: Sink> RunState<D, W> {
         requires faultless { self.old.fault ≡ None }
         requires runs { RunsUnder self.old task number }
         ensures ends { EndsTurn number task None self.old self.new result }
+        ensures restoring { self.new.restoring ≡ self.old.restoring }
         ensures same { SameRun self.old self.new }
         ensures sink { KeepsCount W.faults self.old self.new }
         ensures text { W.tells → PrintsOn W.written self.old self.new }
@@ -453,6 +503,7 @@ impl<D: Disk, W: Sink> RunState<D, W> {
         requires runs { RunsUnder self.old job.now.task number }
         requires given { IfSome given.old IsGiven }
         ensures ends { EndsTurn number job.now.task given.old self.old self.new result }
+        ensures restoring { self.new.restoring ≡ self.old.restoring }
         ensures handed { HandsOn job.now.task given.old given.new }
         ensures cause { self.old.fault ≡ None
             → IfSome self.new.fault (IsOfHanded self.old.plan.tasks job.now.task given.old) }

@@ -26,6 +26,7 @@ impl<D: Disk, W: Sink> RunState<D, W> {
         ensures wanting { OnErr result (self.new ≡ self.old) }
         ensures same { SameRun self.old self.new }
         ensures store { self.new.store ≡ self.old.store }
+        ensures restoring { self.new.restoring ≡ self.old.restoring }
         ensures sink { KeepsCount W.faults self.old self.new }
         ensures text { W.tells → PrintsOn W.written self.old self.new }
         ensures stays { W.tells → KeepsFront W.written self.old self.new }

@@ -36,7 +36,9 @@ pub enum Claim {
     Run(Job),
     /// A task was settled, or failed since its layout is too large. Ask again.
     Settled(u32),
-    /// Another seat's task runs, and nothing can be begun until it comes to an end.
+    /// Restore this task: its restoring is open.
+    Restore(u32),
+    /// Another seat's task runs or is being restored, and nothing can be begun until it comes to an end.
     Wait,
     /// Nothing is left to do.
     Finished,
@@ -57,6 +59,10 @@ pub struct RunState<D: Disk, W: Sink> {
     pub(crate) fault: Option<RunFault>,
     /// Of each task whose publishing or restoring was begun what the store had answered of its output. Of such a one it isn't asked again.
     pub(crate) begun: Vec<Option<Avail>>,
+    /// The tasks that are being restored.
+    pub(crate) restoring: Vec<u32>,
+    /// Whether an event waits for the tasks that are being restored: that a task failed, or that one ended whose output may change what is needed.
+    pub(crate) ends_wait: bool,
     pub(crate) tale: Vec<Logged>,
 }
 
@@ -82,6 +88,8 @@ impl<D: Disk, W: Sink> Model for RunState<D, W> {
       fault = s.fault;
       tale = s.tale.items;
       begun = s.begun.items;
+      restoring = s.restoring.items;
+      ends_wait = s.ends_wait;
       known = option_map known_in s.replan;
     } };
 
@@ -98,6 +106,8 @@ impl<D: Disk, W: Sink> Model for RunState<D, W> {
           fault = s.fault;
           tale = s.tale.items;
           begun = s.begun.items;
+          restoring = s.restoring.items;
+          ends_wait = s.ends_wait;
           known = option_map known_in s.replan;
         }) };
 }
@@ -183,6 +193,8 @@ impl<D: Disk, W: Sink> RunState<D, W> {
                 sink_failed: false,
                 fault: None,
                 begun,
+                restoring: Vec::new(alloc),
+                ends_wait: false,
                 tale: Vec::new(alloc),
             }),
             Err(Mem) => Err(RunParts {
@@ -225,6 +237,7 @@ impl<D: Disk, W: Sink> RunState<D, W> {
         ensures marks { BreaksOff number job.task cut self.old self.new }
         ensures same { SameRun self.old self.new }
         ensures store { self.new.store ≡ self.old.store }
+        ensures restoring { self.new.restoring ≡ self.old.restoring }
         ensures fault { IsSome self.old.fault → self.new.fault ≡ self.old.fault }
         ensures sink { KeepsCount W.faults self.old self.new }
         ensures text { W.tells → PrintsOn W.written self.old self.new }
@@ -358,6 +371,8 @@ impl<D: Disk, W: Sink> RunState<D, W> {
             sink_failed,
             fault,
             begun: _,
+            restoring: _,
+            ends_wait: _,
             tale,
         } = self;
         RunParts {

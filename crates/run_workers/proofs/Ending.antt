@@ -53,6 +53,7 @@ module _ {D W : Type 0} (n : ℕ) (old new : RunView D W) (first : Seen) (same_p
   pub says_why : (c : Claim) → Claims n old new (Ok c) → SaysWhy first new.tale (IsSome new.fault) c
   says_why (claim.Run job) h = tt
   says_why (claim.Settled t) h = tt
+  says_why (claim.Restore t) h = tt
   says_why claim.Wait h = tt
   says_why claim.Finished h =
       subst (λ (l : List Logged). IsAtEnd first.plan first.options l) (sym h.0) (subst (λ (x : Options). IsAtEnd first.plan x old.tale) same_options (subst (λ (p : Plan). IsAtEnd p old.options old.tale) same_plan h.1))
@@ -68,6 +69,7 @@ says_on first tale other faulty more (Ok c) same goes h = (why c.claim h.0, λ u
     why : (x : Claim) → SaysWhy first tale faulty x → SaysWhy first other more x
     why (claim.Run job) w = tt
     why (claim.Settled t) w = tt
+    why (claim.Restore t) w = tt
     why claim.Wait w = tt
     why claim.Finished w = subst (λ (l : List Logged). IsAtEnd first.plan first.options l) same w
     why claim.Stopped (inl stopped) = inl (subst (IsStopped first) same stopped)

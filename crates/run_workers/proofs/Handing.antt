@@ -21,9 +21,11 @@ use Rattle.run_queue.specs.declared.state.Claim.{Claim}
 use Rattle.run_queue.specs.declared.state.Claim.TheVariants as claim
 use Rattle.run_model.specs.Opening.{Opening}
 use Rattle.run_queue.specs.Seen.{RunView, Seen}
-use Rattle.run_queue.specs.Turns.{Claims, ClaimsClean, EndsTurn, HandsOn, IsCleanJob, Marks, closed_by}
+use Rattle.run_queue.specs.declared.restoring.Mending.{Mending}
+use Rattle.run_queue.specs.declared.restoring.Mending.TheVariants as mending
+use Rattle.run_queue.specs.Turns.{Claims, ClaimsClean, EndsTurn, HandsOn, IsCleanJob, Marks, MendsTo, closed_by}
 use Rattle.run_workers.specs.declared.shared.Told.{Told}
-use Rattle.run_workers.specs.Seats.{AddsBy, EndAdds, IsCleanClaim, closing_as}
+use Rattle.run_workers.specs.Seats.{AddsBy, EndAdds, IsCleanClaim, MendAdds, closing_as}
 use Rattle.run_workers.specs.Told.{tell}
 
 pub clean_job : (o : Opening) (a b : Seen) (job : Job) → b.plan ≡ a.plan → IsCleanJob o a job → IsCleanJob o b job
@@ -39,12 +41,13 @@ clean_job o a b job same h = record {
   within = h.within;
 }
 
-pub hands : (o : Opening) (a b : Seen) (c : Claim) → b.plan ≡ a.plan → ClaimsClean o a (Ok c) → IsCleanClaim o b c
-hands o a b (claim.Run job) same h = clean_job o a b job same h
-hands o a b (claim.Settled t) same h = tt
-hands o a b claim.Wait same h = tt
-hands o a b claim.Finished same h = tt
-hands o a b claim.Stopped same h = tt
+pub hands : (o : Opening) (a b : Seen) (c : Claim) → b.plan ≡ a.plan → (waits : Bool) → ClaimsClean o waits a (Ok c) → IsCleanClaim o b c
+hands o a b (claim.Run job) same waits h = clean_job o a b job same h
+hands o a b (claim.Settled t) same waits h = tt
+hands o a b (claim.Restore t) same waits h = tt
+hands o a b claim.Wait same waits h = tt
+hands o a b claim.Finished same waits h = tt
+hands o a b claim.Stopped same waits h = tt
 
 -- what a turn marked: one entry or none
 pub record Marked (n : ℕ) (old new : List Logged) : Type 0 where
@@ -72,6 +75,7 @@ module _ {D W : Type 0} (n : ℕ) (old new : RunView D W) where
   marked_by (Ok (claim.Settled t)) (inl m) = marked_one n (events.Found t) old.tale new.tale m
   marked_by (Ok (claim.Settled t)) (inr (inl m)) = marked_one n (events.Restored t) old.tale new.tale m
   marked_by (Ok (claim.Settled t)) (inr (inr m)) = marked_one n (events.Failed t why.TooLarge) old.tale new.tale m
+  marked_by (Ok (claim.Restore t)) h = marked_nothing n old.tale new.tale h
   marked_by (Ok claim.Wait) h = marked_nothing n old.tale new.tale h.0
   marked_by (Ok claim.Finished) h = marked_nothing n old.tale new.tale h.0
   marked_by (Ok claim.Stopped) h = marked_nothing n old.tale new.tale h.0
@@ -83,6 +87,7 @@ module _ {D W : Type 0} (n : ℕ) (old new : RunView D W) where
   adds_by still (claim.Settled t) (inl m) = inl (record { moment = m.moment; is = refl })
   adds_by still (claim.Settled t) (inr (inl m)) = inr (inl (record { moment = m.moment; is = refl }))
   adds_by still (claim.Settled t) (inr (inr m)) = inr (inr (record { moment = m.moment; is = refl }))
+  adds_by still (claim.Restore t) h = refl
   adds_by still claim.Wait h = refl
   adds_by still claim.Finished h = refl
   adds_by still claim.Stopped h = refl
@@ -108,6 +113,29 @@ module _ {D W : Type 0} (n t : ℕ) (g : Option Given) (old new : RunView D W) w
   ended_adds still false (Ok ending.Closed) f (inl m) = (still, record { moment = m.0.moment; is = refl })
   ended_adds still false (Ok ending.Closed) f (inr m) = absurd (no_fault m.1 f)
   ended_adds still faulty (Err e) f m = (still, record { moment = m.0.moment; is = refl })
+
+-- ---- a task that is being restored
+
+module _ {D W : Type 0} (n t : ℕ) (old new : RunView D W) where
+  abbrev pub marked_mended : (r : Mending) → MendsTo n t old new r → Marked n old.tale new.tale
+  marked_mended mending.More h = marked_nothing n old.tale new.tale h.0.tale
+  marked_mended mending.Wait h = marked_nothing n old.tale new.tale h.0.tale
+  marked_mended mending.Closed (none, inl m) = marked_one n (events.Restored t) old.tale new.tale m.0
+  marked_mended mending.Closed (none, inr m) = marked_nothing n old.tale new.tale (ap (λ (v : RunView D W). v.tale) m.0)
+  marked_mended mending.Stopped h = marked_nothing n old.tale new.tale h.0
+
+  pub mended_adds : (still : Bool) (r : Mending) (h : MendsTo n t old new r) → MendAdds n t r (map (tell still) (marked_mended r h).added)
+  mended_adds still mending.More h = refl
+  mended_adds still mending.Wait h = refl
+  mended_adds still mending.Closed (none, inl m) = inr (still, record { moment = m.0.moment; is = refl })
+  mended_adds still mending.Closed (none, inr m) = inl refl
+  mended_adds still mending.Stopped h = refl
+
+pub mended_stops : {D W : Type 0} (n t : ℕ) (old new : RunView D W) (r : Mending) → MendsTo n t old new r → r ≡ mending.Stopped → IsSome new.fault
+mended_stops n t old new mending.More h is = absurd (let e : mending.More ≡ mending.Stopped = is in cc)
+mended_stops n t old new mending.Wait h is = absurd (let e : mending.Wait ≡ mending.Stopped = is in cc)
+mended_stops n t old new mending.Closed h is = absurd (let e : mending.Closed ≡ mending.Stopped = is in cc)
+mended_stops n t old new mending.Stopped h is = h.1
 
 -- what is handed over is what was at first, or nothing any more
 abbrev pub IsHanded : Option Given → Option Given → Type 0

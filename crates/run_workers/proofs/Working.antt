@@ -21,7 +21,9 @@ use Rattle.run_workers.specs.declared.shared.Told.{Told}
 use Rattle.run_workers.specs.declared.worker.Halt.{Halt}
 use Rattle.run_workers.specs.Runs.{AllRan, AllScripts, RanSoFar, ScriptsSoFar, by_bench}
 use Rattle.run_model.specs.Runs.{IsRunOf, IsScriptOf, RanScripts, RanThese, Runs, broken_off, started_in}
-use Rattle.run_workers.specs.Seats.{AddsBy, HoldsNone}
+use Rattle.run_workers.specs.Seats.{AddsBy, HoldsNone, MendAdds}
+use Rattle.run_queue.specs.declared.restoring.Mending.{Mending}
+use Rattle.run_queue.specs.declared.restoring.Mending.TheVariants as mending
 use Rattle.run_workers.specs.Told.{logged_in, printed_in}
 use Rattle.run_workers.specs.Worked.{Breaks, BrokeOff, Closes, NoneBroke, RanMine, RanOnce, SaidMine, Worked}
 use Rattle.run_model.specs.Seats.{is_bench_break, is_break}
@@ -153,6 +155,14 @@ quiet_settled n t printed added (inl e) = inr (record { logged = record { event 
 quiet_settled n t printed added (inr (inl e)) = inr (record { logged = record { event = events.Restored t; seat = n; moment = e.moment }; printed = printed }, e.is, refl, refl, refl)
 quiet_settled n t printed added (inr (inr e)) = inr (record { logged = record { event = events.Failed t why.TooLarge; seat = n; moment = e.moment }; printed = printed }, e.is, refl, refl, refl)
 
+-- what a turn adds on a task that is being restored
+pub quiet_mended : (n t : ℕ) (r : Mending) (added : List Told) → MendAdds n t r added → Quiet n added
+quiet_mended n t mending.More added is = inl is
+quiet_mended n t mending.Wait added is = inl is
+quiet_mended n t mending.Closed added (inl is) = inl is
+quiet_mended n t mending.Closed added (inr e) = inr (record { logged = record { event = events.Restored t; seat = n; moment = e.1.moment }; printed = e.0 }, e.1.is, refl, refl, refl)
+quiet_mended n t mending.Stopped added is = inl is
+
 -- ---- a worker
 
 counts_on : (a b c : ℕ) (failed : Bool) → Counts a b false → Counts b c failed → Counts a c failed
@@ -168,6 +178,18 @@ module _ {B : Type 0} (dt bt alike : Type 0) (place : B → Workplace) (gives_of
     breaks = breaks_none _ _ (logged_in mine) (subst (λ (l : List Told). NoneBroke (logged_in l)) (sym none) tt);
     ran = λ t u o e r. record { runs = []; ran = sym (append-nil (place b).runs); these = subst (λ (l : List Told). AllRan gives first.plan (started_in (logged_in l)) []) (sym none) tt };
     said = λ t. record { runs = []; ran = sym (append-nil (place b).runs); these = subst (λ (l : List Told). AllScripts first.plan (started_in (printed_in l)) []) (sym none) tt };
+  }
+
+  -- what only waits on the bench changes nothing of that
+  pub worked_beside : (halt : Option Halt) (n : ℕ) (mine : List Told) (old now next : B) → gives_of next ≡ gives_of now → (bt → place next ≡ place now) → faults next ≡ faults now → (alike → bt) → Worked dt bt alike place gives_of faults first gives halt n mine old now
+      → Worked dt bt alike place gives_of faults first gives halt n mine old next
+  worked_beside halt n mine old now next same_gives same_place same_faults tell w = record {
+    none = w.none;
+    same = same_gives ∙ w.same;
+    cause = subst (λ f. Counts (faults old) f (by_bench halt)) (sym same_faults) w.cause;
+    breaks = w.breaks;
+    ran = λ t u o e r. let before = w.ran t u o e r in record { runs = before.runs; ran = ap (λ (p : Workplace). p.runs) (same_place (tell u)) ∙ before.ran; these = before.these };
+    said = λ t. let before = w.said t in record { runs = before.runs; ran = ap (λ (p : Workplace). p.runs) (same_place t) ∙ before.ran; these = before.these };
   }
 
   module _ (n : ℕ) (mine : List Told) (old now : B) (w : Worked dt bt alike place gives_of faults first gives None n mine old now) where

@@ -42,6 +42,7 @@ module _ (first : Seen) where
   abbrev pub SaysWhy : List Logged → Type 0 → Claim → Type 0
   SaysWhy tale faulty (claim.Run job) = Unit {0}
   SaysWhy tale faulty (claim.Settled t) = Unit {0}
+  SaysWhy tale faulty (claim.Restore t) = Unit {0}
   SaysWhy tale faulty claim.Wait = Unit {0}
   SaysWhy tale faulty claim.Finished = IsAtEnd first.plan first.options tale
   SaysWhy tale faulty claim.Stopped = IsStopped first tale ⊎ faulty

@@ -17,6 +17,7 @@ nothing_seen = record {
   fault = None;
   tale = [];
   begun = [];
+  restoring = [];
   known = None;
   story = record { held = λ path. None; calls = [] };
   written = [];

@@ -12,6 +12,8 @@ use Rattle.run_core.specs.History.{last_of}
 use Rattle.run_queue.specs.declared.closing.Ending.{Ending}
 use Rattle.run_queue.specs.declared.closing.Ending.TheVariants as ending
 use Rattle.run_queue.specs.declared.fault.RunFault.{RunFault}
+use Rattle.run_queue.specs.declared.restoring.Mending.{Mending}
+use Rattle.run_queue.specs.declared.restoring.Mending.TheVariants as mending
 use Rattle.run_queue.specs.declared.state.Claim.{Claim}
 use Rattle.run_queue.specs.declared.state.Claim.TheVariants as claim
 use Rattle.run_model.specs.Opening.{Opening}
@@ -82,6 +84,7 @@ pub record Entry (n : ℕ) (printed : Bool) (event : Event) (added : List Told) 
 abbrev pub AddsBy : ℕ → Bool → Claim → List Told → Type 0
 AddsBy n printed (claim.Run job) added = Entry n printed (events.Started job.task n) added
 AddsBy n printed (claim.Settled t) added = Entry n printed (events.Found t) added ⊎ (Entry n printed (events.Restored t) added ⊎ Entry n printed (events.Failed t why.TooLarge) added)
+AddsBy n printed (claim.Restore t) added = added ≡ []
 AddsBy n printed claim.Wait added = added ≡ []
 AddsBy n printed claim.Finished added = added ≡ []
 AddsBy n printed claim.Stopped added = added ≡ []
@@ -97,6 +100,13 @@ EndAdds n t g (Ok closing.Wait) added = added ≡ []
 EndAdds n t g (Ok closing.Closed) added = (printed : Bool) × Entry n printed (closed_by t g) added
 EndAdds n t g (Ok closing.Stopped) added = (printed : Bool) × (Entry n printed (closed_by t g) added ⊎ Entry n printed (events.Broke t cut.Fault) added)
 EndAdds n t g (Err e) added = (printed : Bool) × Entry n printed (events.Broke t cut.Memory) added
+
+-- What a turn on a task that is being restored adds: nothing, or, where it is so no more, that it was restored.
+abbrev pub MendAdds : ℕ → ℕ → Mending → List Told → Type 0
+MendAdds n t mending.More added = added ≡ []
+MendAdds n t mending.Wait added = added ≡ []
+MendAdds n t mending.Closed added = (added ≡ []) ⊎ ((printed : Bool) × Entry n printed (events.Restored t) added)
+MendAdds n t mending.Stopped added = added ≡ []
 
 -- how a turn of a job that is done is answered, where a fault is kept or not
 abbrev pub closing_as : Result Ending Mem → Bool → Result Closing Mem
@@ -117,6 +127,7 @@ pub record BreakAdds (n t : ℕ) (asked : Cut) (added : List Told) : Type 0 wher
 abbrev pub IsScripted : Plan → Claim → Type 0
 IsScripted plan (claim.Run job) = IsScriptOf plan job.task job.script
 IsScripted plan (claim.Settled t) = Unit {0}
+IsScripted plan (claim.Restore t) = Unit {0}
 IsScripted plan claim.Wait = Unit {0}
 IsScripted plan claim.Finished = Unit {0}
 IsScripted plan claim.Stopped = Unit {0}
@@ -129,6 +140,7 @@ HandsScript plan (Err e) = Unit {0}
 abbrev pub IsCleanClaim : Opening → Seen → Claim → Type 0
 IsCleanClaim o s (claim.Run job) = IsCleanJob o s job
 IsCleanClaim o s (claim.Settled t) = Unit {0}
+IsCleanClaim o s (claim.Restore t) = Unit {0}
 IsCleanClaim o s claim.Wait = Unit {0}
 IsCleanClaim o s claim.Finished = Unit {0}
 IsCleanClaim o s claim.Stopped = Unit {0}

@@ -2,8 +2,8 @@
 //!
 //! `run_workers` takes a state that has begun and some benches, and gives both back once nothing more may be done by them, with no task that
 //! runs. A turn covers no script: a seat claims a job in one turn, and does it outside. One that is done comes to its end in several turns, between
-//! which the worker waits for the disk outside of the lock, and others take theirs; the last one marks how it ended. Who finds nothing to do
-//! while others work sleeps on the bell until another one got a job, or went.
+//! which the worker waits for the disk outside of the lock, and others take theirs; the last one marks how it ended. So does a task that is restored. Who finds
+//! nothing to do while others work sleeps on the bell until another one got a job or a task to restore, or went.
 //!
 //! Contracts see what the state was as it began by a type parameter (`Began`), so that what lies under the lock keeps, in every turn, that
 //! whatever held of that state holds on (`specs/Since`), for every opening. What a seat knows of the run is its own record of the tale,

@@ -8,7 +8,7 @@ ghost use Rattle.run_queue.specs.Turns.{HandsOn, IsCleanJob, IsGivenBy, fates_of
 ghost use Rattle.task_worker.specs.Jobs.{IsGiven};
 ghost use Rattle.turn_lock.specs.Seats.{view_of, seats_of, HasAllNumbers, IsFree, IsSeatOf};
 ghost use Rattle.turn_lock.specs.Views.{first_view, records_of};
-ghost use Rattle.run_workers.specs.Seats.{BreakAdds, ClaimAdds, EndAdds, HandsClean, HandsScript, HasUnprinted, Holds, HoldsNone, NoneHold, Turned};
+ghost use Rattle.run_workers.specs.Seats.{BreakAdds, ClaimAdds, EndAdds, HandsClean, HandsScript, HasUnprinted, Holds, HoldsNone, MendAdds, NoneHold, Turned};
 ghost use Rattle.run_workers.specs.Left.{IsLeft};
 ghost use Rattle.run_workers.specs.Ended.{ClaimSays, WasFaulty};
 ghost use Rattle.run_workers.specs.Told.{logged_in};
@@ -19,7 +19,7 @@ use crate::shared::{Claimed, Closing, Shared};
 use meta_model::Cut;
 use outside_traits::{Disk, Sink};
 use run_core::seat_laws;
-use run_queue::RunState;
+use run_queue::{Mending, RunState};
 use std::alloc::Global;
 use std::sync::Wait;
 use task_worker::{Given, Job};
@@ -116,6 +116,36 @@ pub(crate) fn ended_turn<K: Began, D: Disk, W: Sink, R: Wait>(
     story.kept();
     queue.end(seat, story);
     ended
+}
+
+/// One turn on a task that the seat restores. A turn behind which more is left marks nothing. `synced` says whether the system has synced since a
+/// turn that came to `Wait`.
+pub(crate) fn restore_turn<K: Began, D: Disk, W: Sink, R: Wait>(
+    rt: &R,
+    alloc: Global,
+    queue: &RunQueue<K, D, W>,
+    seat: &mut RunSeat<K, D, W>,
+    task: u32,
+    synced: bool,
+) -> Mending
+    requires reach { 3600 ≤ D.reach }
+    requires queue { IsSeatOf queue.now seat.old }
+    requires free { IsFree seat.old }
+    requires none { HoldsNone (view_of seat.old).number (view_of seat.old).own }
+    ensures queue { IsSeatOf queue.now seat.new }
+    ensures free { IsFree seat.new }
+    ensures mends { (added : List Entry) × MendAdds (view_of seat.old).number task result added
+        × Turned (view_of seat.old) (view_of seat.new) added }
+    ensures stops { result ≡ Mending.Stopped
+        → WasFaulty D.faults W.faults K.first K.faults (logged_in (view_of seat.new).seen) }
+{
+    let mut story = queue.begin(rt, seat);
+    story.kept();
+    seat_laws();
+    let mending = story.restore_turn(alloc, seat.number(), task, synced);
+    story.kept();
+    queue.end(seat, story);
+    mending
 }
 
 /// One turn: the seat's job couldn't be done. It is to break by a fault only where an entry of the seat hadn't been printed.

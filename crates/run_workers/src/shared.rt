@@ -9,7 +9,7 @@ ghost use Rattle.run_queue.specs.Keeps.{IsRun, IsState};
 ghost use Rattle.run_queue.specs.Seen.{seen};
 ghost use Rattle.run_queue.specs.Turns.{HandsOn, IsCleanJob, IsGivenBy, RunsUnder, fates_of};
 ghost use Rattle.task_worker.specs.Jobs.{IsGiven};
-ghost use Rattle.run_workers.specs.Seats.{Adds, BreakAdds, ClaimAdds, EndAdds, HandsClean, HandsScript, HeardOn, closing_as, tale_of};
+ghost use Rattle.run_workers.specs.Seats.{Adds, BreakAdds, ClaimAdds, EndAdds, HandsClean, HandsScript, HeardOn, MendAdds, closing_as, tale_of};
 ghost use Rattle.run_workers.specs.Since.{Kept};
 ghost use Rattle.run_workers.specs.Ended.{ClaimSays};
 ghost use Rattle.run_workers.specs.declared.shared.Told.{Told as Entry};
@@ -17,7 +17,7 @@ ghost use Rattle.run_workers.specs.declared.shared.Told.{Told as Entry};
 use crate::began::Began;
 use meta_model::{Cut, Logged};
 use outside_traits::{Disk, Sink};
-use run_queue::{Claim, Ending, RunState};
+use run_queue::{Claim, Ending, Mending, RunState};
 use std::alloc::Global;
 use std::marker::{Model, PhantomData};
 use task_worker::{Given, Job};
@@ -193,6 +193,28 @@ impl<K: Began, D: Disk, W: Sink> Shared<K, D, W> {
         self.printed = printed;
         self.whole = whole;
         answered(ended, self.state.has_fault())
+    }
+
+    /// One turn on a task that is being restored. `synced` says whether the system has synced since a turn that came to `Wait`.
+    pub(crate) fn restore_turn(
+        &mut self,
+        alloc: Global,
+        number: u32,
+        task: u32,
+        synced: bool,
+    ) -> Mending
+        requires reach { 3600 ≤ D.reach }
+        requires free { IsFree (fates_of self.old.state) number }
+        ensures adds { (added : List Entry) × Adds number (tale_of self.old) (tale_of self.new) added
+            × MendAdds number task result added }
+        ensures stops { result ≡ Mending.Stopped → IsSome self.new.state.fault }
+    {
+        let mending = self.state.restore_turn(alloc, number, task, synced);
+        self.state.kept();
+        let (printed, whole) = heard_on(&self.state, self.printed, self.whole);
+        self.printed = printed;
+        self.whole = whole;
+        mending
     }
 
     /// A job on the state broke, by a fault only where one is kept.

@@ -1,5 +1,5 @@
 // One worker of a run.
-ghost use Rattle.std.specs.Prelude.{◌≡◌, ◌≤◌, [], IfSome, List, None, Some, false, true};
+ghost use Rattle.std.specs.Prelude.{◌≡◌, ◌≤◌, ◌++◌, [], IfSome, List, None, Some, false, true};
 ghost use Rattle.outside_traits.specs.Fault.{Counts, Rose};
 ghost use Rattle.run_model.specs.Opening.{Opening};
 ghost use Rattle.run_queue.specs.Keeps.{IsRun};
@@ -7,18 +7,20 @@ ghost use Rattle.run_queue.specs.Turns.{IsCleanJob, IsGivenBy};
 ghost use Rattle.task_worker.specs.Jobs.{IsGiven};
 ghost use Rattle.turn_lock.specs.Seats.{view_of, IsFree, IsSeatOf};
 ghost use Rattle.run_workers.specs.Runs.{by_bench};
-ghost use Rattle.run_workers.specs.Seats.{HasUnprinted, Holds, HoldsNone, IsSameSeat};
+ghost use Rattle.run_workers.specs.Seats.{HasUnprinted, Holds, HoldsNone, IsSameSeat, MendAdds};
 ghost use Rattle.run_workers.specs.Told.{logged_in};
 ghost use Rattle.run_workers.specs.Ended.{Ended, HaltsIn, WasFaulty, by_memory};
 ghost use Rattle.run_workers.specs.Worked.{BrokeOff, Closes, IsWorked, RanOnce, Worked};
+ghost use Rattle.run_queue.specs.declared.restoring.Mending.{Mending as Turn};
+ghost use Rattle.run_workers.specs.declared.shared.Told.{Told as Entry};
 
 use crate::began::Began;
 use crate::bell::Bell;
-use crate::queue::{RunQueue, RunSeat, broke, claim, ended_turn};
+use crate::queue::{RunQueue, RunSeat, broke, claim, ended_turn, restore_turn};
 use crate::shared::{Claimed, Closing};
 use meta_model::Cut;
 use outside_traits::{Bench, Disk, Sink};
-use run_queue::Claim;
+use run_queue::{Claim, Mending};
 use std::alloc::Global;
 use std::sync::Wait;
 use task_worker::{Given, Job, WorkFault, do_job};
@@ -131,8 +133,46 @@ fn do_claimed<K: Began, D: Disk, B: Bench, W: Sink, R: Wait>(
     }
 }
 
+/// Takes turns until a task that is to be restored is so, or a fault is kept. Between them, and outside of the lock, the worker waits for the disk where a turn
+/// asks for that; others take turns meanwhile.
+fn restore<K: Began, D: Disk, B: Bench, W: Sink, R: Wait>(
+    rt: &R,
+    alloc: Global,
+    queue: &RunQueue<K, D, W>,
+    seat: &mut RunSeat<K, D, W>,
+    bench: &mut B,
+    task: u32,
+) -> Option<Halt>
+    requires reach { 3600 ≤ D.reach }
+    requires queue { IsSeatOf queue.now seat.old }
+    requires free { IsFree seat.old }
+    requires none { HoldsNone (view_of seat.old).number (view_of seat.old).own }
+    ensures queue { IsSeatOf queue.now seat.new }
+    ensures free { IsFree seat.new }
+    ensures same { IsSameSeat (view_of seat.old) (view_of seat.new) }
+    ensures adds { (last : Turn) × (added : List Entry) × MendAdds (view_of seat.old).number task last added
+        × ((view_of seat.new).own ≡ (view_of seat.old).own ++ added) }
+    ensures ends { HaltsIn K.first (WasFaulty D.faults W.faults K.first K.faults) result
+        (logged_in (view_of seat.new).seen) }
+    ensures place { B.tells → B.place bench.new ≡ B.place bench.old }
+    ensures gives { B.gives bench.new ≡ B.gives bench.old }
+    ensures faults { B.faults bench.new ≡ B.faults bench.old }
+    ensures bench { by_bench result ≡ false }
+{
+    let mut synced = false;
+    for _ in rt.forever() {
+        match restore_turn(rt, alloc, queue, seat, task, synced) {
+            Mending::More => synced = false,
+            Mending::Wait => synced = bench.wait_synced(),
+            Mending::Closed => return None,
+            Mending::Stopped => return Some(Halt::Stopped),
+        }
+    }
+    unreachable!()
+}
+
 /// One turn of a worker, and the job that it was handed, if it was. `None`: there may be more to do. Where there is nothing to do yet it sleeps
-/// until another one has rung. Whoever gets a job rings, since there may be more; who brings one to its end claims again itself, so it
+/// until another one has rung. Whoever gets a job, or a task to restore, rings, since there may be more; who brings one to its end claims again itself, so it
 /// need not ring.
 fn turn<K: Began, D: Disk, B: Bench, W: Sink, R: Wait>(
     rt: &R,
@@ -166,6 +206,10 @@ fn turn<K: Began, D: Disk, B: Bench, W: Sink, R: Wait>(
                 do_claimed(rt, alloc, queue, seat, bench, job, printed)
             }
             Claim::Settled(_) => None,
+            Claim::Restore(task) => {
+                bell.ring(rt);
+                restore(rt, alloc, queue, seat, bench, task)
+            }
             Claim::Wait => {
                 bell.sleep(rt, heard);
                 None

@@ -30,8 +30,3 @@ module _ (set : RecipeSet) (nodes : List Node) where
       let there = is.at in
       let same : is.node ≡ node = (cc) in
       subst (λ one. IsMadeOf set one made) same is.is
-
--- what is left was there
-pub was_there : {X : Type 0} (b : Bool) (old new : Option X) (x : X) → new ≡ cond b None old → new ≡ Some x → old ≡ Some x
-was_there true old new x is e = absurd (cc)
-was_there false old new x is e = sym is ∙ e

@@ -58,7 +58,7 @@ returns-clause-run g c tells told o gives run =
     let did = c.drive-halt.ensures.run tells told o gives run in
     let sink : Type 0 = (c.into_parts-parts.result.sink_failed ≡ true) ⊎ Rose (g.W.Sink.faults c.into_parts-parts.result.sink) (g.W.Sink.faults c.conclude.result.sink) in
     let faultless = λ (e : is_faultless c.conclude.result.status ≡ true). sym parts.fault ∙ none_kept sink c.into_parts-parts.result.fault c.halt_of_run-halt.result (has_failure c.into_parts-parts.result.tale.items) c.conclude.result.status c.conclude.ensures.status e in (
-      kept_to g.D.Disk.story g.W.Sink.written o c.args.state last c.conclude.result.disk c.conclude.result.tale.items c.conclude.result.status c.drive-halt.ensures.same (c.conclude.ensures.disk ∙ parts.disk) (c.conclude.ensures.tale ∙ parts.tale) faultless c.kept.ensures.orderly c.drive-halt.ensures.none (λ kept nothing. subst (λ x. HasNoLitter
+      kept_to g.D.Disk.story g.W.Sink.written o c.args.state last c.conclude.result.disk c.conclude.result.tale.items c.conclude.result.status c.drive-halt.ensures.same (c.conclude.ensures.disk ∙ parts.disk) (c.conclude.ensures.tale ∙ parts.tale) faultless c.kept.ensures.orderly c.drive-halt.ensures.none c.drive-halt.ensures.hands c.kept.ensures.few (λ kept nothing. subst (λ x. HasNoLitter
           (g.D.Disk.story x).held) parts.disk (parts.swept tells kept nothing)) did.0,
       ran_on (g.B.Bench.gives c.args.last.now) c.args.state.plan c.drive-halt.result c.args.state.tale c.conclude.result.tale.items last.tale (g.B.Bench.place c.args.last.now).runs (g.B.Bench.place c.drive-halt.new.bench).runs (c.conclude.ensures.tale ∙ parts.tale) did.1,
     )

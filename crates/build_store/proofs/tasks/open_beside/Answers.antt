@@ -6,7 +6,7 @@ use Rattle.build_store.specs.Openings.{OpensOne, open_view}
 use Rattle.store_model.proofs.Ordered.{each_append}
 use Rattle.build_store.specs.Keys.{KnowsKeyOf}
 use Rattle.build_store.specs.Standing.{AreOn, AreOpen, IsTidy, KnowsOpen}
-use Rattle.build_store.specs.View.{open_in, signed_by}
+use Rattle.build_store.specs.View.{open_in, signed_as}
 use Rattle.build_store.proofs.Beside.{free_by, others_stand}
 use Rattle.build_store.proofs.Opened.{on_opened, opens_one, stand_opened, tidy_beside}
 use Rattle.build_store.proofs.Several.{view_others}
@@ -17,7 +17,7 @@ open_task-requires-clause-settled g c told = (c.requires.tidy told).settled (tas
 
 pub returns-in_err-one-clause-on : goal.returns-in_err-one-clause-on
 returns-in_err-one-clause-on g c told =
-    let s = signed_by c.args.task.now c.args.sig.now in
+    let s = signed_as c.args.shared c.args.task.now c.args.sig.now in
     let rows = c.args.index.now in
     let xs = c.args.open_ones.now.items in
     let free = free_by rows s c.args.tree c.args.draft.name c.requires.draft.name xs (view_others (task_folder c.args.task.now) xs c.requires.closed) c.requires.apart in
@@ -25,7 +25,7 @@ returns-in_err-one-clause-on g c told =
 
 pub returns-clause-opens : goal.returns-clause-opens
 returns-clause-opens g c =
-    let s = signed_by c.args.task.now c.args.sig.now in
+    let s = signed_as c.args.shared c.args.task.now c.args.sig.now in
     let xs = c.args.open_ones.now.items in
     subst (λ (l : List OpenPublication). OpensOne (task_folder c.args.task.now) (open_view s c.args.tree) (open_in xs) (open_in l)) (sym c.push_reserved.ensures.items)
     (opens_one c.args.index.now s c.args.tree xs c.in_ok-one.one c.in_ok-one.ensures.of c.requires.closed)
@@ -35,7 +35,7 @@ returns-clause-agrees g c = c.requires.draft.agrees
 
 pub returns-clause-stand : goal.returns-clause-stand
 returns-clause-stand g c =
-    let s = signed_by c.args.task.now c.args.sig.now in
+    let s = signed_as c.args.shared c.args.task.now c.args.sig.now in
     let rows = c.args.index.now in
     let xs = c.args.open_ones.now.items in
     let free = free_by rows s c.args.tree c.args.draft.name c.requires.draft.name xs (view_others (task_folder c.args.task.now) xs c.requires.closed) c.requires.apart in
@@ -43,7 +43,7 @@ returns-clause-stand g c =
 
 pub returns-clause-on : goal.returns-clause-on
 returns-clause-on g c told =
-    let s = signed_by c.args.task.now c.args.sig.now in
+    let s = signed_as c.args.shared c.args.task.now c.args.sig.now in
     let rows = c.args.index.now in
     let xs = c.args.open_ones.now.items in
     let free = free_by rows s c.args.tree c.args.draft.name c.requires.draft.name xs (view_others (task_folder c.args.task.now) xs c.requires.closed) c.requires.apart in
@@ -53,7 +53,7 @@ returns-clause-on g c told =
 
 pub returns-clause-tidy : goal.returns-clause-tidy
 returns-clause-tidy g c told =
-    let s = signed_by c.args.task.now c.args.sig.now in
+    let s = signed_as c.args.shared c.args.task.now c.args.sig.now in
     let xs = c.args.open_ones.now.items in
     subst (λ (l : List OpenPublication). IsTidy l (g.D.Disk.story c.open_task.new.disk)) (sym c.push_reserved.ensures.items)
     (tidy_beside c.args.index.now s c.args.tree xs c.in_ok-one.one c.in_ok-one.ensures.of (g.D.Disk.story c.args.disk.now) (g.D.Disk.story c.open_task.new.disk) (c.in_ok-one.ensures.swept told) (c.open_task.ensures.publishing told) (c.requires.tidy told))

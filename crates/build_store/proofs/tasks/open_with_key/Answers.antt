@@ -6,7 +6,7 @@ use Rattle.store_opening.proofs.Clean.{folder_slashes}
 use Rattle.build_store.specs.Keys.{HoldsKeys, KnowsKeyOf, KnowsRows, keys_behind, keys_with, text_key}
 use Rattle.build_store.specs.Publication.{first_publication, publication}
 use Rattle.build_store.specs.Standing.{KnowsOpen}
-use Rattle.build_store.specs.View.{signed_by}
+use Rattle.build_store.specs.View.{signed_as}
 use Rattle.build_store.proofs.Drafted.{line_readable}
 use Rattle.build_store.proofs.Invariant.{keys_published}
 use Rattle.build_store.proofs.KeyRuns.{key_run, key_then, key_tidy, others_put, puts_text}
@@ -23,20 +23,20 @@ open_beside-requires-clause-keeps g c told =
 
 pub open_beside-requires-clause-on : goal.open_beside-requires-clause-on
 open_beside-requires-clause-on g c told =
-    let s = signed_by c.args.task.now c.args.sig.now in
+    let s = signed_as c.args.shared c.args.task.now c.args.sig.now in
     let put = puts_text c.args.keys.now c.args.index.now s c.args.tree c.requires.text (c.put_key.ensures.puts told) in
     others_put c.args.keys.now c.args.index.now s c.args.tree c.requires.rows (folder_slashes c.args.task.now c.requires.place) (g.D.Disk.story c.args.disk.now) (g.D.Disk.story c.put_key.new.disk) (g.met.D.Disk.sound c.args.disk.now told) put
     c.args.draft.name c.requires.draft.name c.args.open_ones.now.items c.requires.closed c.requires.apart c.requires.known.1 (c.requires.on told)
 
 pub open_beside-requires-clause-tidy : goal.open_beside-requires-clause-tidy
 open_beside-requires-clause-tidy g c told =
-    let s = signed_by c.args.task.now c.args.sig.now in
+    let s = signed_as c.args.shared c.args.task.now c.args.sig.now in
     let put = puts_text c.args.keys.now c.args.index.now s c.args.tree c.requires.text (c.put_key.ensures.puts told) in
     key_tidy (first_publication c.args.keys.now c.args.index.now s c.args.tree) c.args.open_ones.now.items (g.D.Disk.story c.args.disk.now) (g.D.Disk.story c.put_key.new.disk) put (c.requires.tidy told)
 
 pub returns-in_err-put_key-clause-on : goal.returns-in_err-put_key-clause-on
 returns-in_err-put_key-clause-on g c told =
-    let s = signed_by c.args.task.now c.args.sig.now in
+    let s = signed_as c.args.shared c.args.task.now c.args.sig.now in
     let put = puts_text c.args.keys.now c.args.index.now s c.args.tree c.requires.text (c.put_key.ensures.puts told) in
     others_put c.args.keys.now c.args.index.now s c.args.tree c.requires.rows (folder_slashes c.args.task.now c.requires.place) (g.D.Disk.story c.args.disk.now) (g.D.Disk.story c.put_key.new.disk) (g.met.D.Disk.sound c.args.disk.now told) put
     c.args.draft.name c.requires.draft.name c.args.open_ones.now.items c.requires.closed c.requires.apart c.requires.known.1 (c.requires.on told)
@@ -56,13 +56,13 @@ returns-in_err-put_key-clause-holds g c told =
 
 pub returns-in_err-put_key-clause-publishing : goal.returns-in_err-put_key-clause-publishing
 returns-in_err-put_key-clause-publishing g c told =
-    let s = signed_by c.args.task.now c.args.sig.now in
+    let s = signed_as c.args.shared c.args.task.now c.args.sig.now in
     key_run (first_publication c.args.keys.now c.args.index.now s c.args.tree) (puts_text c.args.keys.now c.args.index.now s c.args.tree c.requires.text (c.put_key.ensures.puts told))
 
 pub returns-in_err-put_key-clause-readable : goal.returns-in_err-put_key-clause-readable
 returns-in_err-put_key-clause-readable g c =
     let d = c.requires.draft in
-    line_readable c.args.index.now (signed_by c.args.task.now c.args.sig.now) c.args.tree c.args.draft.new c.requires.rows c.requires.spelled c.entries-entries.ensures.tree c.requires.short d.agrees d.spells d.new
+    line_readable c.args.index.now (signed_as c.args.shared c.args.task.now c.args.sig.now) c.args.tree c.args.draft.new c.requires.rows c.requires.spelled c.entries-entries.ensures.tree c.requires.short d.agrees d.spells d.new
 
 pub returns-in_err-put_key-clause-keeps : goal.returns-in_err-put_key-clause-keeps
 returns-in_err-put_key-clause-keeps g c told =
@@ -89,7 +89,7 @@ returns-clause-holds g c told =
     let a = g.D.Disk.story c.args.disk.now in
     let b = g.D.Disk.story c.put_key.new.disk in
     let d = g.D.Disk.story c.open_beside.new.disk in
-    let s = signed_by c.args.task.now c.args.sig.now in
+    let s = signed_as c.args.shared c.args.task.now c.args.sig.now in
     let has = c.in_ok-put_key.ensures.held told (c.requires.holds told) in
     let at_b : HoldsKeys c.put_key.new.keys b.held = subst (λ (k : List (List ℕ)). HoldsKeys k b.held) (sym c.in_ok-put_key.ensures.behind)
     (holds_behind c.args.keys.now c.args.draft.text a.held b.held (c.put_key.ensures.puts told).held (c.requires.holds told) has) in
@@ -97,11 +97,11 @@ returns-clause-holds g c told =
 
 pub returns-clause-publishing : goal.returns-clause-publishing
 returns-clause-publishing g c told =
-    let s = signed_by c.args.task.now c.args.sig.now in
+    let s = signed_as c.args.shared c.args.task.now c.args.sig.now in
     let put = puts_text c.args.keys.now c.args.index.now s c.args.tree c.requires.text (c.put_key.ensures.puts told) in
     key_then (first_publication c.args.keys.now c.args.index.now s c.args.tree) put (c.open_beside.ensures.publishing told)
 
 pub returns-clause-readable : goal.returns-clause-readable
 returns-clause-readable g c =
     let d = c.requires.draft in
-    line_readable c.args.index.now (signed_by c.args.task.now c.args.sig.now) c.args.tree c.args.draft.new c.requires.rows c.requires.spelled c.entries-entries.ensures.tree c.requires.short d.agrees d.spells d.new
+    line_readable c.args.index.now (signed_as c.args.shared c.args.task.now c.args.sig.now) c.args.tree c.args.draft.new c.requires.rows c.requires.spelled c.entries-entries.ensures.tree c.requires.short d.agrees d.spells d.new

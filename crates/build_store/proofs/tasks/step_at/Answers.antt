@@ -8,13 +8,13 @@ use Rattle.build_store.specs.declared.pieces.OpenPublication.{OpenPublication}
 use Rattle.build_store.specs.Keys.{KnowsRows}
 use Rattle.build_store.proofs.KnownSteps.{held_at, known_next, known_rows}
 use Rattle.build_store.specs.Standing.{AreOn, AreOpen, HoldsOpen, KnowsOpen}
-use Rattle.build_store.specs.View.{open_in, opened_at, signed_by}
+use Rattle.build_store.specs.View.{open_in, opened_at, signed_as}
 use Rattle.build_store.proofs.Stepped.{Here, done_on, done_stand, done_tidy, going, gone_closes, gone_known, gone_on, gone_others, gone_stand, here, here_brief, here_entries, here_of, here_on, here_open, here_run, here_tree, left_without, next_on, next_stand, next_tidy, next_view, nothing_landed}
 use Rattle.build_store.proofs.tasks.step_at.Goals as goal
 
 pub step_task-requires-clause-of : goal.step_task-requires-clause-of
 step_task-requires-clause-of g c =
-    let s = signed_by c.args.task.now c.args.sig.now in
+    let s = signed_as c.args.shared c.args.task.now c.args.sig.now in
     let rows = c.args.index.now in
     let xs = c.args.open_ones.now.items in
     let x = c.index.result.now in
@@ -24,7 +24,7 @@ step_task-requires-clause-of g c =
 
 pub step_task-requires-clause-on : goal.step_task-requires-clause-on
 step_task-requires-clause-on g c told =
-    let s = signed_by c.args.task.now c.args.sig.now in
+    let s = signed_as c.args.shared c.args.task.now c.args.sig.now in
     let rows = c.args.index.now in
     let xs = c.args.open_ones.now.items in
     let x = c.index.result.now in
@@ -34,7 +34,7 @@ step_task-requires-clause-on g c told =
 
 pub returns-in-Ok-Some-clause-steps : goal.returns-in-Ok-Some-clause-steps
 returns-in-Ok-Some-clause-steps g c keys faultless =
-    let s = signed_by c.args.task.now c.args.sig.now in
+    let s = signed_as c.args.shared c.args.task.now c.args.sig.now in
     let rows = c.args.index.now in
     let xs = c.args.open_ones.now.items in
     let x = c.index.result.now in
@@ -51,7 +51,7 @@ returns-in-Ok-Some-clause-steps g c keys faultless =
 
 pub returns-in-Ok-Some-clause-published : goal.returns-in-Ok-Some-clause-published
 returns-in-Ok-Some-clause-published g c told =
-    let s = signed_by c.args.task.now c.args.sig.now in
+    let s = signed_as c.args.shared c.args.task.now c.args.sig.now in
     let rows = c.args.index.now in
     let xs = c.args.open_ones.now.items in
     let x = c.index.result.now in
@@ -61,7 +61,7 @@ returns-in-Ok-Some-clause-published g c told =
 
 pub returns-in-Ok-Some-clause-others : goal.returns-in-Ok-Some-clause-others
 returns-in-Ok-Some-clause-others g c f ne =
-    let s = signed_by c.args.task.now c.args.sig.now in
+    let s = signed_as c.args.shared c.args.task.now c.args.sig.now in
     let rows = c.args.index.now in
     let xs = c.args.open_ones.now.items in
     let x = c.index.result.now in
@@ -74,7 +74,7 @@ returns-in-Ok-Some-clause-others g c f ne =
 
 pub returns-in-Ok-Some-clause-was_open : goal.returns-in-Ok-Some-clause-was_open
 returns-in-Ok-Some-clause-was_open g c =
-    let s = signed_by c.args.task.now c.args.sig.now in
+    let s = signed_as c.args.shared c.args.task.now c.args.sig.now in
     let rows = c.args.index.now in
     let xs = c.args.open_ones.now.items in
     let x = c.index.result.now in
@@ -84,7 +84,7 @@ returns-in-Ok-Some-clause-was_open g c =
 
 pub returns-in-Ok-Some-clause-publishing : goal.returns-in-Ok-Some-clause-publishing
 returns-in-Ok-Some-clause-publishing g c told tree at =
-    let s = signed_by c.args.task.now c.args.sig.now in
+    let s = signed_as c.args.shared c.args.task.now c.args.sig.now in
     let rows = c.args.index.now in
     let xs = c.args.open_ones.now.items in
     let x = c.index.result.now in
@@ -94,7 +94,7 @@ returns-in-Ok-Some-clause-publishing g c told tree at =
 
 pub returns-in-Ok-Some-clause-stand : goal.returns-in-Ok-Some-clause-stand
 returns-in-Ok-Some-clause-stand g c =
-    let s = signed_by c.args.task.now c.args.sig.now in
+    let s = signed_as c.args.shared c.args.task.now c.args.sig.now in
     let rows = c.args.index.now in
     let xs = c.args.open_ones.now.items in
     let x = c.index.result.now in
@@ -107,7 +107,7 @@ returns-in-Ok-Some-clause-stand g c =
 
 pub returns-in-Ok-Some-clause-on : goal.returns-in-Ok-Some-clause-on
 returns-in-Ok-Some-clause-on g c told =
-    let s = signed_by c.args.task.now c.args.sig.now in
+    let s = signed_as c.args.shared c.args.task.now c.args.sig.now in
     let rows = c.args.index.now in
     let xs = c.args.open_ones.now.items in
     let x = c.index.result.now in
@@ -120,7 +120,7 @@ returns-in-Ok-Some-clause-on g c told =
 
 pub returns-in-Ok-Some-clause-tidy : goal.returns-in-Ok-Some-clause-tidy
 returns-in-Ok-Some-clause-tidy g c told was =
-    let s = signed_by c.args.task.now c.args.sig.now in
+    let s = signed_as c.args.shared c.args.task.now c.args.sig.now in
     let rows = c.args.index.now in
     let xs = c.args.open_ones.now.items in
     let x = c.index.result.now in
@@ -133,7 +133,7 @@ returns-in-Ok-Some-clause-tidy g c told was =
 
 pub close_task-requires-clause-of : goal.close_task-requires-clause-of
 close_task-requires-clause-of g c =
-    let s = signed_by c.args.task.now c.args.sig.now in
+    let s = signed_as c.args.shared c.args.task.now c.args.sig.now in
     let rows = c.args.index.now in
     let xs = c.args.open_ones.now.items in
     let x = c.index.result.now in
@@ -145,7 +145,7 @@ close_task-requires-clause-of g c =
 
 pub returns-in_ok-close_task-in-Ok-None-clause-steps : goal.returns-in_ok-close_task-in-Ok-None-clause-steps
 returns-in_ok-close_task-in-Ok-None-clause-steps g c keys faultless =
-    let s = signed_by c.args.task.now c.args.sig.now in
+    let s = signed_as c.args.shared c.args.task.now c.args.sig.now in
     let rows = c.args.index.now in
     let xs = c.args.open_ones.now.items in
     let x = c.index.result.now in
@@ -170,7 +170,7 @@ returns-in_ok-close_task-in-Ok-None-clause-steps g c keys faultless =
 
 pub returns-in_ok-close_task-in-Ok-None-clause-published : goal.returns-in_ok-close_task-in-Ok-None-clause-published
 returns-in_ok-close_task-in-Ok-None-clause-published g c told tree at =
-    let s = signed_by c.args.task.now c.args.sig.now in
+    let s = signed_as c.args.shared c.args.task.now c.args.sig.now in
     let rows = c.args.index.now in
     let xs = c.args.open_ones.now.items in
     let x = c.index.result.now in
@@ -181,7 +181,7 @@ returns-in_ok-close_task-in-Ok-None-clause-published g c told tree at =
 
 pub returns-in_ok-close_task-in-Ok-None-clause-others : goal.returns-in_ok-close_task-in-Ok-None-clause-others
 returns-in_ok-close_task-in-Ok-None-clause-others g c f ne =
-    let s = signed_by c.args.task.now c.args.sig.now in
+    let s = signed_as c.args.shared c.args.task.now c.args.sig.now in
     let rows = c.args.index.now in
     let xs = c.args.open_ones.now.items in
     let x = c.index.result.now in
@@ -196,7 +196,7 @@ returns-in_ok-close_task-in-Ok-None-clause-others g c f ne =
 
 pub returns-in_ok-close_task-in-Ok-None-clause-was_open : goal.returns-in_ok-close_task-in-Ok-None-clause-was_open
 returns-in_ok-close_task-in-Ok-None-clause-was_open g c =
-    let s = signed_by c.args.task.now c.args.sig.now in
+    let s = signed_as c.args.shared c.args.task.now c.args.sig.now in
     let rows = c.args.index.now in
     let xs = c.args.open_ones.now.items in
     let x = c.index.result.now in
@@ -206,7 +206,7 @@ returns-in_ok-close_task-in-Ok-None-clause-was_open g c =
 
 pub returns-in_ok-close_task-in-Ok-None-clause-publishing : goal.returns-in_ok-close_task-in-Ok-None-clause-publishing
 returns-in_ok-close_task-in-Ok-None-clause-publishing g c told tree at =
-    let s = signed_by c.args.task.now c.args.sig.now in
+    let s = signed_as c.args.shared c.args.task.now c.args.sig.now in
     let rows = c.args.index.now in
     let xs = c.args.open_ones.now.items in
     let x = c.index.result.now in
@@ -216,7 +216,7 @@ returns-in_ok-close_task-in-Ok-None-clause-publishing g c told tree at =
 
 pub returns-in_err-close_task-in-Ok-None-clause-others : goal.returns-in_err-close_task-in-Ok-None-clause-others
 returns-in_err-close_task-in-Ok-None-clause-others g c f ne =
-    let s = signed_by c.args.task.now c.args.sig.now in
+    let s = signed_as c.args.shared c.args.task.now c.args.sig.now in
     let rows = c.args.index.now in
     let xs = c.args.open_ones.now.items in
     let x = c.index.result.now in
@@ -231,7 +231,7 @@ returns-in_err-close_task-in-Ok-None-clause-others g c f ne =
 
 pub returns-in_err-close_task-in-Ok-None-clause-was_open : goal.returns-in_err-close_task-in-Ok-None-clause-was_open
 returns-in_err-close_task-in-Ok-None-clause-was_open g c =
-    let s = signed_by c.args.task.now c.args.sig.now in
+    let s = signed_as c.args.shared c.args.task.now c.args.sig.now in
     let rows = c.args.index.now in
     let xs = c.args.open_ones.now.items in
     let x = c.index.result.now in
@@ -241,7 +241,7 @@ returns-in_err-close_task-in-Ok-None-clause-was_open g c =
 
 pub returns-in_err-close_task-in-Ok-None-clause-publishing : goal.returns-in_err-close_task-in-Ok-None-clause-publishing
 returns-in_err-close_task-in-Ok-None-clause-publishing g c told tree at =
-    let s = signed_by c.args.task.now c.args.sig.now in
+    let s = signed_as c.args.shared c.args.task.now c.args.sig.now in
     let rows = c.args.index.now in
     let xs = c.args.open_ones.now.items in
     let x = c.index.result.now in
@@ -251,7 +251,7 @@ returns-in_err-close_task-in-Ok-None-clause-publishing g c told tree at =
 
 pub returns-in_ok-close_task-in-Ok-None-clause-keeps : goal.returns-in_ok-close_task-in-Ok-None-clause-keeps
 returns-in_ok-close_task-in-Ok-None-clause-keeps g c told =
-    let s = signed_by c.args.task.now c.args.sig.now in
+    let s = signed_as c.args.shared c.args.task.now c.args.sig.now in
     let rows = c.args.index.now in
     let xs = c.args.open_ones.now.items in
     let x = c.index.result.now in
@@ -268,7 +268,7 @@ returns-in_ok-close_task-in-Ok-None-clause-keeps g c told =
 
 pub returns-in_ok-close_task-in-Ok-None-clause-stand : goal.returns-in_ok-close_task-in-Ok-None-clause-stand
 returns-in_ok-close_task-in-Ok-None-clause-stand g c =
-    let s = signed_by c.args.task.now c.args.sig.now in
+    let s = signed_as c.args.shared c.args.task.now c.args.sig.now in
     let rows = c.args.index.now in
     let xs = c.args.open_ones.now.items in
     let x = c.index.result.now in
@@ -283,7 +283,7 @@ returns-in_ok-close_task-in-Ok-None-clause-stand g c =
 
 pub returns-in_ok-close_task-in-Ok-None-clause-on : goal.returns-in_ok-close_task-in-Ok-None-clause-on
 returns-in_ok-close_task-in-Ok-None-clause-on g c told =
-    let s = signed_by c.args.task.now c.args.sig.now in
+    let s = signed_as c.args.shared c.args.task.now c.args.sig.now in
     let rows = c.args.index.now in
     let xs = c.args.open_ones.now.items in
     let x = c.index.result.now in
@@ -299,7 +299,7 @@ returns-in_ok-close_task-in-Ok-None-clause-on g c told =
 
 pub returns-in_ok-close_task-in-Ok-None-clause-tidy : goal.returns-in_ok-close_task-in-Ok-None-clause-tidy
 returns-in_ok-close_task-in-Ok-None-clause-tidy g c told was =
-    let s = signed_by c.args.task.now c.args.sig.now in
+    let s = signed_as c.args.shared c.args.task.now c.args.sig.now in
     let rows = c.args.index.now in
     let xs = c.args.open_ones.now.items in
     let x = c.index.result.now in
@@ -319,7 +319,7 @@ returns-in_err-close_task-in-Ok-None-clause-keeps g c told =
 
 pub returns-in_err-close_task-in-Ok-None-clause-stand : goal.returns-in_err-close_task-in-Ok-None-clause-stand
 returns-in_err-close_task-in-Ok-None-clause-stand g c =
-    let s = signed_by c.args.task.now c.args.sig.now in
+    let s = signed_as c.args.shared c.args.task.now c.args.sig.now in
     let rows = c.args.index.now in
     let xs = c.args.open_ones.now.items in
     let x = c.index.result.now in
@@ -334,7 +334,7 @@ returns-in_err-close_task-in-Ok-None-clause-stand g c =
 
 pub returns-in_err-close_task-in-Ok-None-clause-on : goal.returns-in_err-close_task-in-Ok-None-clause-on
 returns-in_err-close_task-in-Ok-None-clause-on g c told =
-    let s = signed_by c.args.task.now c.args.sig.now in
+    let s = signed_as c.args.shared c.args.task.now c.args.sig.now in
     let rows = c.args.index.now in
     let xs = c.args.open_ones.now.items in
     let x = c.index.result.now in
@@ -349,7 +349,7 @@ returns-in_err-close_task-in-Ok-None-clause-on g c told =
 
 pub returns-in-Err-clause-others : goal.returns-in-Err-clause-others
 returns-in-Err-clause-others g c f ne =
-    let s = signed_by c.args.task.now c.args.sig.now in
+    let s = signed_as c.args.shared c.args.task.now c.args.sig.now in
     let rows = c.args.index.now in
     let xs = c.args.open_ones.now.items in
     let x = c.index.result.now in
@@ -361,7 +361,7 @@ returns-in-Err-clause-others g c f ne =
 
 pub returns-in-Err-clause-was_open : goal.returns-in-Err-clause-was_open
 returns-in-Err-clause-was_open g c =
-    let s = signed_by c.args.task.now c.args.sig.now in
+    let s = signed_as c.args.shared c.args.task.now c.args.sig.now in
     let rows = c.args.index.now in
     let xs = c.args.open_ones.now.items in
     let x = c.index.result.now in
@@ -371,7 +371,7 @@ returns-in-Err-clause-was_open g c =
 
 pub returns-in-Err-clause-publishing : goal.returns-in-Err-clause-publishing
 returns-in-Err-clause-publishing g c told tree at =
-    let s = signed_by c.args.task.now c.args.sig.now in
+    let s = signed_as c.args.shared c.args.task.now c.args.sig.now in
     let rows = c.args.index.now in
     let xs = c.args.open_ones.now.items in
     let x = c.index.result.now in
@@ -381,7 +381,7 @@ returns-in-Err-clause-publishing g c told tree at =
 
 pub returns-in-Err-clause-stand : goal.returns-in-Err-clause-stand
 returns-in-Err-clause-stand g c =
-    let s = signed_by c.args.task.now c.args.sig.now in
+    let s = signed_as c.args.shared c.args.task.now c.args.sig.now in
     let rows = c.args.index.now in
     let xs = c.args.open_ones.now.items in
     let x = c.index.result.now in
@@ -393,7 +393,7 @@ returns-in-Err-clause-stand g c =
 
 pub returns-in-Err-clause-on : goal.returns-in-Err-clause-on
 returns-in-Err-clause-on g c told =
-    let s = signed_by c.args.task.now c.args.sig.now in
+    let s = signed_as c.args.shared c.args.task.now c.args.sig.now in
     let rows = c.args.index.now in
     let xs = c.args.open_ones.now.items in
     let x = c.index.result.now in
@@ -405,7 +405,7 @@ returns-in-Err-clause-on g c told =
 
 pub returns-in-Ok-Some-clause-entries : goal.returns-in-Ok-Some-clause-entries
 returns-in-Ok-Some-clause-entries g c told tree at =
-    let s = signed_by c.args.task.now c.args.sig.now in
+    let s = signed_as c.args.shared c.args.task.now c.args.sig.now in
     let rows = c.args.index.now in
     let xs = c.args.open_ones.now.items in
     let x = c.index.result.now in
@@ -415,7 +415,7 @@ returns-in-Ok-Some-clause-entries g c told tree at =
 
 pub returns-in_ok-close_task-in-Ok-None-clause-entries : goal.returns-in_ok-close_task-in-Ok-None-clause-entries
 returns-in_ok-close_task-in-Ok-None-clause-entries g c told tree at =
-    let s = signed_by c.args.task.now c.args.sig.now in
+    let s = signed_as c.args.shared c.args.task.now c.args.sig.now in
     let rows = c.args.index.now in
     let xs = c.args.open_ones.now.items in
     let x = c.index.result.now in
@@ -425,7 +425,7 @@ returns-in_ok-close_task-in-Ok-None-clause-entries g c told tree at =
 
 pub returns-in_err-close_task-in-Ok-None-clause-entries : goal.returns-in_err-close_task-in-Ok-None-clause-entries
 returns-in_err-close_task-in-Ok-None-clause-entries g c told tree at =
-    let s = signed_by c.args.task.now c.args.sig.now in
+    let s = signed_as c.args.shared c.args.task.now c.args.sig.now in
     let rows = c.args.index.now in
     let xs = c.args.open_ones.now.items in
     let x = c.index.result.now in
@@ -435,7 +435,7 @@ returns-in_err-close_task-in-Ok-None-clause-entries g c told tree at =
 
 pub returns-in-Err-clause-entries : goal.returns-in-Err-clause-entries
 returns-in-Err-clause-entries g c told tree at =
-    let s = signed_by c.args.task.now c.args.sig.now in
+    let s = signed_as c.args.shared c.args.task.now c.args.sig.now in
     let rows = c.args.index.now in
     let xs = c.args.open_ones.now.items in
     let x = c.index.result.now in
@@ -445,7 +445,7 @@ returns-in-Err-clause-entries g c told tree at =
 
 pub step_task-requires-clause-key : goal.step_task-requires-clause-key
 step_task-requires-clause-key g c told =
-    let s = signed_by c.args.task.now c.args.sig.now in
+    let s = signed_as c.args.shared c.args.task.now c.args.sig.now in
     let xs = c.args.open_ones.now.items in
     let x = c.index.result.now in
     let h : Here s xs c.args.place x = here s xs c.args.place c.requires.stands x c.index.ensures in
@@ -454,23 +454,23 @@ step_task-requires-clause-key g c told =
 
 pub returns-in-Ok-Some-clause-brief : goal.returns-in-Ok-Some-clause-brief
 returns-in-Ok-Some-clause-brief g c told =
-    here_brief (signed_by c.args.task.now c.args.sig.now) c.args.open_ones.now.items c.args.place c.requires.stands c.index.result.now c.index.ensures (g.D.Disk.story c.args.disk.now) (g.D.Disk.story c.step_task.new.disk) (c.step_task.ensures.brief told)
+    here_brief (signed_as c.args.shared c.args.task.now c.args.sig.now) c.args.open_ones.now.items c.args.place c.requires.stands c.index.result.now c.index.ensures (g.D.Disk.story c.args.disk.now) (g.D.Disk.story c.step_task.new.disk) (c.step_task.ensures.brief told)
 
 pub returns-in_err-close_task-in-Ok-None-clause-brief : goal.returns-in_err-close_task-in-Ok-None-clause-brief
 returns-in_err-close_task-in-Ok-None-clause-brief g c told =
-    here_brief (signed_by c.args.task.now c.args.sig.now) c.args.open_ones.now.items c.args.place c.requires.stands c.index.result.now c.index.ensures (g.D.Disk.story c.args.disk.now) (g.D.Disk.story c.step_task.new.disk) (c.step_task.ensures.brief told)
+    here_brief (signed_as c.args.shared c.args.task.now c.args.sig.now) c.args.open_ones.now.items c.args.place c.requires.stands c.index.result.now c.index.ensures (g.D.Disk.story c.args.disk.now) (g.D.Disk.story c.step_task.new.disk) (c.step_task.ensures.brief told)
 
 pub returns-in_ok-close_task-in-Ok-None-clause-brief : goal.returns-in_ok-close_task-in-Ok-None-clause-brief
 returns-in_ok-close_task-in-Ok-None-clause-brief g c told =
-    here_brief (signed_by c.args.task.now c.args.sig.now) c.args.open_ones.now.items c.args.place c.requires.stands c.index.result.now c.index.ensures (g.D.Disk.story c.args.disk.now) (g.D.Disk.story c.step_task.new.disk) (c.step_task.ensures.brief told)
+    here_brief (signed_as c.args.shared c.args.task.now c.args.sig.now) c.args.open_ones.now.items c.args.place c.requires.stands c.index.result.now c.index.ensures (g.D.Disk.story c.args.disk.now) (g.D.Disk.story c.step_task.new.disk) (c.step_task.ensures.brief told)
 
 pub returns-in-Err-clause-brief : goal.returns-in-Err-clause-brief
 returns-in-Err-clause-brief g c told =
-    here_brief (signed_by c.args.task.now c.args.sig.now) c.args.open_ones.now.items c.args.place c.requires.stands c.index.result.now c.index.ensures (g.D.Disk.story c.args.disk.now) (g.D.Disk.story c.step_task.new.disk) (c.step_task.ensures.brief told)
+    here_brief (signed_as c.args.shared c.args.task.now c.args.sig.now) c.args.open_ones.now.items c.args.place c.requires.stands c.index.result.now c.index.ensures (g.D.Disk.story c.args.disk.now) (g.D.Disk.story c.step_task.new.disk) (c.step_task.ensures.brief told)
 
 pub returns-in-Ok-Some-clause-knows : goal.returns-in-Ok-Some-clause-knows
 returns-in-Ok-Some-clause-knows g c = λ keys rows opened.
-    let s = signed_by c.args.task.now c.args.sig.now in
+    let s = signed_as c.args.shared c.args.task.now c.args.sig.now in
     let xs = c.args.open_ones.now.items in
     let x = c.index.result.now in
     let h : Here s xs c.args.place x = here s xs c.args.place c.requires.stands x c.index.ensures in
@@ -479,15 +479,15 @@ returns-in-Ok-Some-clause-knows g c = λ keys rows opened.
 
 pub returns-in_ok-close_task-in-Ok-None-clause-knows : goal.returns-in_ok-close_task-in-Ok-None-clause-knows
 returns-in_ok-close_task-in-Ok-None-clause-knows g c = λ keys rows opened.
-    let s = signed_by c.args.task.now c.args.sig.now in
+    let s = signed_as c.args.shared c.args.task.now c.args.sig.now in
     let gone = gone_known s c.args.open_ones.now.items c.args.place c.requires.stands c.remove-one.result c.remove-one.ensures.value c.remove-one.new.self.items c.remove-one.ensures.by_index.2 keys opened in
     (subst (λ (r : List EquivRow). KnowsRows keys r) (sym c.in_ok-close_task-in-Ok-None.ensures.rows) (known_rows keys c.args.index.now s c.remove-one.result.tree rows gone.0), gone.1)
 
 pub returns-in_err-close_task-in-Ok-None-clause-knows : goal.returns-in_err-close_task-in-Ok-None-clause-knows
 returns-in_err-close_task-in-Ok-None-clause-knows g c = λ keys rows opened.
-    let gone = gone_known (signed_by c.args.task.now c.args.sig.now) c.args.open_ones.now.items c.args.place c.requires.stands c.remove-one.result c.remove-one.ensures.value c.remove-one.new.self.items c.remove-one.ensures.by_index.2 keys opened in
+    let gone = gone_known (signed_as c.args.shared c.args.task.now c.args.sig.now) c.args.open_ones.now.items c.args.place c.requires.stands c.remove-one.result c.remove-one.ensures.value c.remove-one.new.self.items c.remove-one.ensures.by_index.2 keys opened in
     (subst (λ (r : List EquivRow). KnowsRows keys r) (sym c.in_err-close_task-in-Ok-None.ensures.same.0) rows, gone.1)
 
 pub returns-in-Err-clause-knows : goal.returns-in-Err-clause-knows
 returns-in-Err-clause-knows g c = λ keys rows opened.
-    (rows, (gone_known (signed_by c.args.task.now c.args.sig.now) c.args.open_ones.now.items c.args.place c.requires.stands c.index.result.now c.index.ensures c.remove.new.self.items c.remove.ensures.by_index.2 keys opened).1)
+    (rows, (gone_known (signed_as c.args.shared c.args.task.now c.args.sig.now) c.args.open_ones.now.items c.args.place c.requires.stands c.index.result.now c.index.ensures c.remove.new.self.items c.remove.ensures.by_index.2 keys opened).1)

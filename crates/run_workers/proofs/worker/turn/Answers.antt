@@ -1,15 +1,15 @@
-use Rattle.std.proofs.Common.{◌++◌, List, sym, ◌∙◌, ap, subst, refl, Some, None, inl}
+use Rattle.std.proofs.Common.{◌++◌, List, sym, ◌∙◌, ap, subst, refl, Some, None, inl, append-nil}
 use Rattle.meta_model.specs.declared.event.Event.TheVariants as events
 use Rattle.run_queue.specs.declared.state.Claim.{Claim}
 use Rattle.turn_lock.specs.Seats.{view_of}
 use Rattle.run_workers.specs.declared.shared.Told.{Told}
 use Rattle.run_workers.specs.declared.worker.Halt.TheVariants as halts
-use Rattle.run_workers.specs.Seats.{AddsBy, Entry, HasUnprinted, IsCleanClaim, IsScripted}
+use Rattle.run_workers.specs.Seats.{AddsBy, Entry, HasUnprinted, IsCleanClaim, IsScripted, MendAdds}
 use Rattle.run_workers.specs.Ended.{SaysWhy, WasFaulty}
 use Rattle.run_workers.specs.Told.{logged_in}
 use Rattle.run_workers.specs.Worked.{Closes, Worked}
 use Rattle.run_workers.proofs.Ending.{halts_now}
-use Rattle.run_workers.proofs.Working.{quiet_settled, worked_job, worked_on}
+use Rattle.run_workers.proofs.Working.{quiet_mended, quiet_settled, worked_beside, worked_job, worked_on}
 use Rattle.run_workers.proofs.Unprinted.{unprinted_here}
 use Rattle.run_workers.proofs.worker.turn.Goals as goal
 
@@ -45,6 +45,21 @@ returns-in-Settled-clause-worked g c old w =
     let claims = c.in-Ok.ensures.claims in
     subst (λ (l : List Told). Worked g.D.Disk.tells g.B.Bench.tells g.K.Began.alike g.B.Bench.place g.B.Bench.gives g.B.Bench.faults g.K.Began.first g.K.Began.gives None v.number l old c.args.bench.now) (sym claims.2.mine)
     (worked_on g.D.Disk.tells g.B.Bench.tells g.K.Began.alike g.B.Bench.place g.B.Bench.gives g.B.Bench.faults g.K.Began.first g.K.Began.gives v.number v.own old c.args.bench.now w None claims.0 refl (quiet_settled v.number c.in-Settled.field-0 c.in-Ok.field-0.printed claims.0 (subst (λ (x : Claim). AddsBy v.number c.in-Ok.field-0.printed x claims.0) c.in-Settled.is claims.1)))
+
+pub returns-in-Restore-clause-worked : goal.returns-in-Restore-clause-worked
+returns-in-Restore-clause-worked g c old w =
+    let v = view_of c.args.seat.now in
+    let mid = view_of c.claim.new.seat in
+    let new = view_of c.restore.new.seat in
+    let claims = c.in-Ok.ensures.claims in
+    let none = subst (λ (x : Claim). AddsBy v.number c.in-Ok.field-0.printed x claims.0) c.in-Restore.is claims.1 in
+    let e = c.restore.ensures in
+    let own = claims.2.mine ∙ ap (λ (l : List Told). v.own ++ l) none ∙ append-nil v.own in
+    let mine = e.adds.3 ∙ ap (λ (l : List Told). l ++ e.adds.1) own in
+    subst (λ (l : List Told). Worked g.D.Disk.tells g.B.Bench.tells g.K.Began.alike g.B.Bench.place g.B.Bench.gives g.B.Bench.faults g.K.Began.first g.K.Began.gives c.restore.result v.number l old c.restore.new.bench) (sym mine)
+    (worked_beside g.D.Disk.tells g.B.Bench.tells g.K.Began.alike g.B.Bench.place g.B.Bench.gives g.B.Bench.faults g.K.Began.first g.K.Began.gives c.restore.result v.number (v.own ++ e.adds.1) old c.args.bench.now c.restore.new.bench e.gives e.place e.faults (λ u. (c.requires.gives u).0)
+    (worked_on g.D.Disk.tells g.B.Bench.tells g.K.Began.alike g.B.Bench.place g.B.Bench.gives g.B.Bench.faults g.K.Began.first g.K.Began.gives v.number v.own old c.args.bench.now w c.restore.result e.adds.1 e.bench
+    (quiet_mended v.number c.in-Restore.task e.adds.0 e.adds.1 (subst (λ n. MendAdds n c.in-Restore.task e.adds.0 e.adds.1) claims.2.number e.adds.2))))
 
 pub returns-in-Finished-clause-worked : goal.returns-in-Finished-clause-worked
 returns-in-Finished-clause-worked g c old w =

@@ -13,12 +13,12 @@ invariant_of-result g c =
     let tasks = c.args.plan.tasks in
     let count : c.len.result ≡ length tasks = c.len.ensures in
     let room = c.in-Ok.ensures in (
-      begins_room (vec_capacity c.new.result) (length tasks) c.new.result.items c.new.ensures.items,
-      room.0 ∙ ap (λ (n : ℕ). replicate n Waiting) count ∙ sym (ap (fates_told (length tasks)) c.new.ensures.items),
+      begins_room (vec_capacity c.new-in-Ok.result) (length tasks) c.new-in-Ok.result.items c.new-in-Ok.ensures.items,
+      room.0 ∙ ap (λ (n : ℕ). replicate n Waiting) count ∙ sym (ap (fates_told (length tasks)) c.new-in-Ok.ensures.items),
       tt,
-      begins_state (g.D.Disk.faults c.args.store.disk) c.args.plan c.args.options c.args.store c.args.sink c.in-Ok.field-0.begun.items c.new.result.items c.new.ensures.items c.requires.sound c.requires.unharmed c.requires.faultless (ap (λ (l : List (Option Avail)). length l) room.1 ∙ length-replicate c.len.result None ∙ count),
+      begins_state (g.D.Disk.faults c.args.store.disk) c.args.plan c.args.options c.args.store c.args.sink c.in-Ok.field-0.begun.items c.new.result.items c.new-in-Ok.result.items c.new-in-Ok.ensures.items c.new.ensures.items c.requires.sound c.requires.unharmed c.requires.faultless (ap (λ (l : List (Option Avail)). length l) room.1 ∙ length-replicate c.len.result None ∙ count),
     )
 
 pub returns-in-Ok-clause-run : goal.returns-in-Ok-clause-run
 returns-in-Ok-clause-run g c tells o opening may =
-    begins_run o c.args.plan c.args.options c.in-Ok.field-0.begun.items c.args.store.rows c.args.store.kept c.args.store.opened c.new.result.items (g.D.Disk.story c.args.store.disk) (g.W.Sink.written c.args.sink) opening (c.in-Ok.ensures.1 ∙ ap (λ (n : ℕ). replicate n None) c.len.ensures) c.requires.kept c.requires.nothing c.new.ensures.items may
+    begins_run o c.args.plan c.args.options c.in-Ok.field-0.begun.items c.new.result.items c.args.store.rows c.args.store.kept c.args.store.opened c.new-in-Ok.result.items (g.D.Disk.story c.args.store.disk) (g.W.Sink.written c.args.sink) opening (c.in-Ok.ensures.1 ∙ ap (λ (n : ℕ). replicate n None) c.len.ensures) c.new.ensures.items c.requires.kept c.requires.nothing c.new-in-Ok.ensures.items may

@@ -1,4 +1,5 @@
-use Rattle.std.proofs.Common.{◌≡◌, ◌∙◌, sym, ap, subst, List, None, Option}
+use Rattle.std.proofs.Common.{◌≡◌, ◌∙◌, sym, ap, subst, List, Some, None, Option}
+use Rattle.std.specs.Option.{option_map}
 use Rattle.meta_model.specs.declared.event.Avail.{Avail}
 use Rattle.store_model.specs.declared.signature.EquivRow.{EquivRow}
 use Rattle.setscene_plan.specs.Replans.{IsCurrent}
@@ -34,13 +35,15 @@ invariant_of-self g c =
 pub returns-in-Ok-clause-run : goal.returns-in-Ok-clause-run
 returns-in-Ok-clause-run g c tells o run =
     let V : Type 0 = RunView g.row.D.Denot g.row.W.Denot in
+    let i = c.self.inside in
+    let was : V = record { plan = i.plan; options = i.options; store = i.store; sink = i.sink; sink_failed = i.sink_failed; fault = i.fault; tale = i.tale.items; begun = i.begun.items; restoring = i.restoring.items; ends_wait = i.ends_wait; known = option_map known_in i.replan } in
     let run' = subst (λ (v : V). IsRun o (seen g.D.Disk.story g.W.Sink.written v)) (sym c.self.view_is) run in
     let faultless : c.self.inside.fault ≡ None = ap (λ v. v.fault) c.self.view_is ∙ c.requires.faultless in
     let sound = g.met.D.Disk.sound c.self.inside.store.disk tells in
     let old = c.self.inside.store in
     let current = subst (λ (b : List (Option Avail)). IsCurrent (meant g.D.Disk.tells (g.D.Disk.story old.disk).held old.rows c.self.inside.options.setscene c.self.inside.plan.tasks b) (record { plan = c.self.inside.plan; rows = old.rows }) c.in-Ok.replan) c.as_slice.ensures.value c.in-Ok.ensures.current in
     let there = known_there o _ run' sound g.D.Disk.tells tells faultless c.in-Ok.replan current in
-    passed_view g.D.Disk.story g.W.Sink.written o _ c.known_of.new.store c.self.inside.fault c.in-Ok.ensures.same (c.in-Ok.ensures.images tells) (λ e. e) (known_run o _ (known_in c.in-Ok.replan) run' there)
+    passed_view g.D.Disk.story g.W.Sink.written o (record was { known = Some (known_in c.in-Ok.replan) }) c.known_of.new.store c.self.inside.fault c.in-Ok.ensures.same (c.in-Ok.ensures.images tells) (λ e. e) (known_run o _ (known_in c.in-Ok.replan) run' there)
 
 pub returns-in-Ok-clause-remembers : goal.returns-in-Ok-clause-remembers
 returns-in-Ok-clause-remembers g c unknown =
@@ -52,12 +55,16 @@ returns-in-Ok-clause-remembers g c unknown =
 pub returns-in-Err-Memory-clause-run : goal.returns-in-Err-Memory-clause-run
 returns-in-Err-Memory-clause-run g c tells o run =
     let V : Type 0 = RunView g.row.D.Denot g.row.W.Denot in
+    let i = c.self.inside in
+    let was : V = record { plan = i.plan; options = i.options; store = i.store; sink = i.sink; sink_failed = i.sink_failed; fault = i.fault; tale = i.tale.items; begun = i.begun.items; restoring = i.restoring.items; ends_wait = i.ends_wait; known = option_map known_in i.replan } in
     let run' = subst (λ (v : V). IsRun o (seen g.D.Disk.story g.W.Sink.written v)) (sym c.self.view_is) run in
-    passed_view g.D.Disk.story g.W.Sink.written o _ c.known_of.new.store c.self.inside.fault c.in-Err-Memory.ensures.same (c.in-Err-Memory.ensures.images tells) (λ e. e) run'
+    passed_view g.D.Disk.story g.W.Sink.written o was c.known_of.new.store c.self.inside.fault c.in-Err-Memory.ensures.same (c.in-Err-Memory.ensures.images tells) (λ e. e) run'
 
 pub returns-in-Err-clause-run : goal.returns-in-Err-clause-run
 returns-in-Err-clause-run g c tells o run =
     let V : Type 0 = RunView g.row.D.Denot g.row.W.Denot in
+    let i = c.self.inside in
+    let was : V = record { plan = i.plan; options = i.options; store = i.store; sink = i.sink; sink_failed = i.sink_failed; fault = i.fault; tale = i.tale.items; begun = i.begun.items; restoring = i.restoring.items; ends_wait = i.ends_wait; known = option_map known_in i.replan } in
     let run' = subst (λ (v : V). IsRun o (seen g.D.Disk.story g.W.Sink.written v)) (sym c.self.view_is) run in
     let faultless : c.self.inside.fault ≡ None = ap (λ v. v.fault) c.self.view_is ∙ c.requires.faultless in
-    passed_view g.D.Disk.story g.W.Sink.written o _ c.known_of.new.store c.keep.new.kept c.in-Err.ensures.same (c.in-Err.ensures.images tells) (λ e. faultless) run'
+    passed_view g.D.Disk.story g.W.Sink.written o was c.known_of.new.store c.keep.new.kept c.in-Err.ensures.same (c.in-Err.ensures.images tells) (λ e. faultless) run'

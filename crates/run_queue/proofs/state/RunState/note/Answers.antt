@@ -42,6 +42,8 @@ invariant_of-self g c =
         fault = c.self.inside.fault;
         tale = l;
         begun = c.self.inside.begun.items;
+        restoring = c.self.inside.restoring.items;
+        ends_wait = c.self.inside.ends_wait;
         known = Rattle.std.specs.Option.option_map Rattle.run_queue.specs.Seen.known_in c.self.inside.replan;
       })) (sym c.push_reserved.ensures.items)
           (noted_state (g.D.Disk.faults c.self.inside.store.disk) _ entry c.self.invariant.3 order (λ none. subst (λ (v : V). v.fault ≡ None → is_fault_break c.args.event ≡ false) (sym c.self.view_is) c.requires.unbroken none)),

@@ -41,6 +41,8 @@ invariant_of-self-2 g c =
         fault = c.self.inside.fault;
         tale = l;
         begun = c.self.inside.begun.items;
+        restoring = c.self.inside.restoring.items;
+        ends_wait = c.self.inside.ends_wait;
         known = Rattle.std.specs.Option.option_map Rattle.run_queue.specs.Seen.known_in c.self.inside.replan;
       })) (sym pushed)
           (noted_state (g.D.Disk.faults c.self.inside.store.disk) _ entry c.self.invariant.3 order (λ none. waiting_unbroken (fates_told (length tasks) tale) c.args.event order.can rests)),

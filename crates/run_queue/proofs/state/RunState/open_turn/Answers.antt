@@ -46,7 +46,7 @@ pub invariant_of-self : goal.invariant_of-self
 invariant_of-self g c =
     let V : Type 0 = RunView g.row.D.Denot g.row.W.Denot in
     let i = c.self.inside in
-    let old : V = record { plan = i.plan; options = i.options; store = i.store; sink = i.sink; sink_failed = i.sink_failed; fault = i.fault; tale = i.tale.items; begun = i.begun.items; known = option_map known_in i.replan } in
+    let old : V = record { plan = i.plan; options = i.options; store = i.store; sink = i.sink; sink_failed = i.sink_failed; fault = i.fault; tale = i.tale.items; begun = i.begun.items; restoring = i.restoring.items; ends_wait = i.ends_wait; known = option_map known_in i.replan } in
     let store = c.open_in.new.store in
     let none = subst (λ (v : V). v.fault ≡ None) (sym c.self.view_is) c.requires.faultless in
     let runs = subst (λ (v : V). fate_at (fates_of v) c.args.task ≡ Running c.args.number) (sym c.self.view_is) c.requires.runs in
@@ -65,7 +65,7 @@ pub returns-in-Ok-clause-run : goal.returns-in-Ok-clause-run
 returns-in-Ok-clause-run g c tells o run output =
     let V : Type 0 = RunView g.row.D.Denot g.row.W.Denot in
     let i = c.self.inside in
-    let old : V = record { plan = i.plan; options = i.options; store = i.store; sink = i.sink; sink_failed = i.sink_failed; fault = i.fault; tale = i.tale.items; begun = i.begun.items; known = option_map known_in i.replan } in
+    let old : V = record { plan = i.plan; options = i.options; store = i.store; sink = i.sink; sink_failed = i.sink_failed; fault = i.fault; tale = i.tale.items; begun = i.begun.items; restoring = i.restoring.items; ends_wait = i.ends_wait; known = option_map known_in i.replan } in
     let store = c.open_in.new.store in
     let begun = slice_set i.begun.items c.args.task (Some Missing) in
     let at = sym c.self.view_is in
@@ -88,7 +88,7 @@ pub returns-in-Err-Memory-clause-run : goal.returns-in-Err-Memory-clause-run
 returns-in-Err-Memory-clause-run g c tells o run output =
     let V : Type 0 = RunView g.row.D.Denot g.row.W.Denot in
     let i = c.self.inside in
-    let old : V = record { plan = i.plan; options = i.options; store = i.store; sink = i.sink; sink_failed = i.sink_failed; fault = i.fault; tale = i.tale.items; begun = i.begun.items; known = option_map known_in i.replan } in
+    let old : V = record { plan = i.plan; options = i.options; store = i.store; sink = i.sink; sink_failed = i.sink_failed; fault = i.fault; tale = i.tale.items; begun = i.begun.items; restoring = i.restoring.items; ends_wait = i.ends_wait; known = option_map known_in i.replan } in
     let store = c.open_in.new.store in
     let begun = slice_set i.begun.items c.args.task (Some Missing) in
     let at = sym c.self.view_is in
@@ -117,7 +117,7 @@ pub returns-in-Err-clause-run : goal.returns-in-Err-clause-run
 returns-in-Err-clause-run g c tells o run output =
     let V : Type 0 = RunView g.row.D.Denot g.row.W.Denot in
     let i = c.self.inside in
-    let old : V = record { plan = i.plan; options = i.options; store = i.store; sink = i.sink; sink_failed = i.sink_failed; fault = i.fault; tale = i.tale.items; begun = i.begun.items; known = option_map known_in i.replan } in
+    let old : V = record { plan = i.plan; options = i.options; store = i.store; sink = i.sink; sink_failed = i.sink_failed; fault = i.fault; tale = i.tale.items; begun = i.begun.items; restoring = i.restoring.items; ends_wait = i.ends_wait; known = option_map known_in i.replan } in
     let store = c.open_in.new.store in
     let begun = slice_set i.begun.items c.args.task (Some Missing) in
     let at = sym c.self.view_is in
@@ -146,7 +146,7 @@ pub returns-in-Err-clause-steady : goal.returns-in-Err-clause-steady
 returns-in-Err-clause-steady g c tells o run output =
     let V : Type 0 = RunView g.row.D.Denot g.row.W.Denot in
     let i = c.self.inside in
-    let old : V = record { plan = i.plan; options = i.options; store = i.store; sink = i.sink; sink_failed = i.sink_failed; fault = i.fault; tale = i.tale.items; begun = i.begun.items; known = option_map known_in i.replan } in
+    let old : V = record { plan = i.plan; options = i.options; store = i.store; sink = i.sink; sink_failed = i.sink_failed; fault = i.fault; tale = i.tale.items; begun = i.begun.items; restoring = i.restoring.items; ends_wait = i.ends_wait; known = option_map known_in i.replan } in
     let store = c.open_in.new.store in
     let begun = slice_set i.begun.items c.args.task (Some Missing) in
     let at = sym c.self.view_is in

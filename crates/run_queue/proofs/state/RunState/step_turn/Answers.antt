@@ -1,4 +1,4 @@
-use Rattle.std.proofs.Common.{◌≡◌, ◌∙◌, sym, ap, subst, refl, ℕ, ◌<◌, List, length, Option, None}
+use Rattle.std.proofs.Common.{◌≡◌, ◌∙◌, sym, ap, subst, refl, ℕ, ◌<◌, Bool, List, length, Option, None}
 use Rattle.std.specs.Prelude.{IfSome, IsSome}
 use Rattle.std.specs.Option.{option_map}
 use Rattle.std.proofs.lemmas.Option.{same_Some}
@@ -35,23 +35,23 @@ pub step_in-requires-clause-task : goal.step_in-requires-clause-task
 step_in-requires-clause-task g c =
     let V : Type 0 = RunView g.row.D.Denot g.row.W.Denot in
     let i = c.self.inside in
-    let runs = subst (λ (v : V). fate_at (fates_of v) c.args.task ≡ Running c.args.number) (sym c.self.view_is) c.requires.runs in
+    let runs = subst (λ (v : V). fate_at (fates_of v) c.args.task ≡ Running c.args.number) (sym (c.self.view_is ∙ c.end_waits.ensures.same)) c.requires.runs in
     subst (λ (n : ℕ). c.args.task < n) (count_told (length i.plan.tasks) i.tale.items) (running_within (fates_told (length i.plan.tasks) i.tale.items) c.args.task c.args.number runs)
 
 pub resettle-requires-clause-task : goal.resettle-requires-clause-task
 resettle-requires-clause-task g c =
     let V : Type 0 = RunView g.row.D.Denot g.row.W.Denot in
     let i = c.self.inside in
-    let runs = subst (λ (v : V). fate_at (fates_of v) c.args.task ≡ Running c.args.number) (sym c.self.view_is) c.requires.runs in
+    let runs = subst (λ (v : V). fate_at (fates_of v) c.args.task ≡ Running c.args.number) (sym (c.self.view_is ∙ c.end_waits.ensures.same)) c.requires.runs in
     subst (λ (n : ℕ). c.args.task < n) (count_told (length i.plan.tasks) i.tale.items) (running_within (fates_told (length i.plan.tasks) i.tale.items) c.args.task c.args.number runs)
 
 pub resettle-requires-clause-settled : goal.resettle-requires-clause-settled
 resettle-requires-clause-settled g c =
     let V : Type 0 = RunView g.row.D.Denot g.row.W.Denot in
     let i = c.self.inside in
-    let old : V = record { plan = i.plan; options = i.options; store = i.store; sink = i.sink; sink_failed = i.sink_failed; fault = i.fault; tale = i.tale.items; begun = i.begun.items; known = option_map known_in i.replan } in
+    let old : V = record { plan = i.plan; options = i.options; store = i.store; sink = i.sink; sink_failed = i.sink_failed; fault = i.fault; tale = i.tale.items; begun = i.begun.items; restoring = i.restoring.items; ends_wait = i.ends_wait; known = option_map known_in i.replan } in
     let store = c.step_in.new.store in
-    let at = sym c.self.view_is in
+    let at = sym (c.self.view_is ∙ c.end_waits.ensures.same) in
     let runs = subst (λ (v : V). fate_at (fates_of v) c.args.task ≡ Running c.args.number) at c.requires.runs in
     let lt = subst (λ (n : ℕ). c.args.task < n) (count_told (length i.plan.tasks) i.tale.items) (running_within (fates_told (length i.plan.tasks) i.tale.items) c.args.task c.args.number runs) in
     let none = subst (λ (v : V). v.fault ≡ None) at c.requires.faultless in
@@ -67,9 +67,9 @@ pub invariant_of-self : goal.invariant_of-self
 invariant_of-self g c =
     let V : Type 0 = RunView g.row.D.Denot g.row.W.Denot in
     let i = c.self.inside in
-    let old : V = record { plan = i.plan; options = i.options; store = i.store; sink = i.sink; sink_failed = i.sink_failed; fault = i.fault; tale = i.tale.items; begun = i.begun.items; known = option_map known_in i.replan } in
+    let old : V = record { plan = i.plan; options = i.options; store = i.store; sink = i.sink; sink_failed = i.sink_failed; fault = i.fault; tale = i.tale.items; begun = i.begun.items; restoring = i.restoring.items; ends_wait = i.ends_wait; known = option_map known_in i.replan } in
     let store = c.step_in.new.store in
-    let at = sym c.self.view_is in
+    let at = sym (c.self.view_is ∙ c.end_waits.ensures.same) in
     let runs = subst (λ (v : V). fate_at (fates_of v) c.args.task ≡ Running c.args.number) at c.requires.runs in
     let lt = subst (λ (n : ℕ). c.args.task < n) (count_told (length i.plan.tasks) i.tale.items) (running_within (fates_told (length i.plan.tasks) i.tale.items) c.args.task c.args.number runs) in
     let none = subst (λ (v : V). v.fault ≡ None) at c.requires.faultless in
@@ -86,9 +86,9 @@ pub invariant_of-self-in-Ok-More : goal.invariant_of-self-in-Ok-More
 invariant_of-self-in-Ok-More g c =
     let V : Type 0 = RunView g.row.D.Denot g.row.W.Denot in
     let i = c.self.inside in
-    let old : V = record { plan = i.plan; options = i.options; store = i.store; sink = i.sink; sink_failed = i.sink_failed; fault = i.fault; tale = i.tale.items; begun = i.begun.items; known = option_map known_in i.replan } in
+    let old : V = record { plan = i.plan; options = i.options; store = i.store; sink = i.sink; sink_failed = i.sink_failed; fault = i.fault; tale = i.tale.items; begun = i.begun.items; restoring = i.restoring.items; ends_wait = i.ends_wait; known = option_map known_in i.replan } in
     let store = c.step_in.new.store in
-    let at = sym c.self.view_is in
+    let at = sym (c.self.view_is ∙ c.end_waits.ensures.same) in
     let runs = subst (λ (v : V). fate_at (fates_of v) c.args.task ≡ Running c.args.number) at c.requires.runs in
     let lt = subst (λ (n : ℕ). c.args.task < n) (count_told (length i.plan.tasks) i.tale.items) (running_within (fates_told (length i.plan.tasks) i.tale.items) c.args.task c.args.number runs) in
     let none = subst (λ (v : V). v.fault ≡ None) at c.requires.faultless in
@@ -107,9 +107,9 @@ pub invariant_of-self-in-Ok-Wait : goal.invariant_of-self-in-Ok-Wait
 invariant_of-self-in-Ok-Wait g c =
     let V : Type 0 = RunView g.row.D.Denot g.row.W.Denot in
     let i = c.self.inside in
-    let old : V = record { plan = i.plan; options = i.options; store = i.store; sink = i.sink; sink_failed = i.sink_failed; fault = i.fault; tale = i.tale.items; begun = i.begun.items; known = option_map known_in i.replan } in
+    let old : V = record { plan = i.plan; options = i.options; store = i.store; sink = i.sink; sink_failed = i.sink_failed; fault = i.fault; tale = i.tale.items; begun = i.begun.items; restoring = i.restoring.items; ends_wait = i.ends_wait; known = option_map known_in i.replan } in
     let store = c.step_in.new.store in
-    let at = sym c.self.view_is in
+    let at = sym (c.self.view_is ∙ c.end_waits.ensures.same) in
     let runs = subst (λ (v : V). fate_at (fates_of v) c.args.task ≡ Running c.args.number) at c.requires.runs in
     let lt = subst (λ (n : ℕ). c.args.task < n) (count_told (length i.plan.tasks) i.tale.items) (running_within (fates_told (length i.plan.tasks) i.tale.items) c.args.task c.args.number runs) in
     let none = subst (λ (v : V). v.fault ≡ None) at c.requires.faultless in
@@ -128,9 +128,9 @@ pub invariant_of-self-in-Ok-Done : goal.invariant_of-self-in-Ok-Done
 invariant_of-self-in-Ok-Done g c =
     let V : Type 0 = RunView g.row.D.Denot g.row.W.Denot in
     let i = c.self.inside in
-    let old : V = record { plan = i.plan; options = i.options; store = i.store; sink = i.sink; sink_failed = i.sink_failed; fault = i.fault; tale = i.tale.items; begun = i.begun.items; known = option_map known_in i.replan } in
+    let old : V = record { plan = i.plan; options = i.options; store = i.store; sink = i.sink; sink_failed = i.sink_failed; fault = i.fault; tale = i.tale.items; begun = i.begun.items; restoring = i.restoring.items; ends_wait = i.ends_wait; known = option_map known_in i.replan } in
     let store = c.step_in.new.store in
-    let at = sym c.self.view_is in
+    let at = sym (c.self.view_is ∙ c.end_waits.ensures.same) in
     let runs = subst (λ (v : V). fate_at (fates_of v) c.args.task ≡ Running c.args.number) at c.requires.runs in
     let lt = subst (λ (n : ℕ). c.args.task < n) (count_told (length i.plan.tasks) i.tale.items) (running_within (fates_told (length i.plan.tasks) i.tale.items) c.args.task c.args.number runs) in
     let none = subst (λ (v : V). v.fault ≡ None) at c.requires.faultless in
@@ -155,29 +155,29 @@ pub returns-in-Ok-NotOpen-clause-ends : goal.returns-in-Ok-NotOpen-clause-ends
 returns-in-Ok-NotOpen-clause-ends g c =
     let V : Type 0 = RunView g.row.D.Denot g.row.W.Denot in
     let i = c.self.inside in
-    let old : V = record { plan = i.plan; options = i.options; store = i.store; sink = i.sink; sink_failed = i.sink_failed; fault = i.fault; tale = i.tale.items; begun = i.begun.items; known = option_map known_in i.replan } in
+    let old : V = record { plan = i.plan; options = i.options; store = i.store; sink = i.sink; sink_failed = i.sink_failed; fault = i.fault; tale = i.tale.items; begun = i.begun.items; restoring = i.restoring.items; ends_wait = i.ends_wait; known = option_map known_in i.replan } in
     let store = c.step_in.new.store in
-    let at = sym c.self.view_is in
+    let at = sym (c.self.view_is ∙ c.end_waits.ensures.same) in
     let runs = subst (λ (v : V). fate_at (fates_of v) c.args.task ≡ Running c.args.number) at c.requires.runs in
     let lt = subst (λ (n : ℕ). c.args.task < n) (count_told (length i.plan.tasks) i.tale.items) (running_within (fates_told (length i.plan.tasks) i.tale.items) c.args.task c.args.number runs) in
     let none = subst (λ (v : V). v.fault ≡ None) at c.requires.faultless in
     let x = signed_at i.store.rows i.plan.tasks c.args.task lt in
     let steps = subst (λ (st : Step). (s : Signed) → IsSignedAt i.store.rows i.plan.tasks c.args.task s → StepsTo i.store store s st) c.in-Ok-NotOpen.field-0-is c.in-Ok-NotOpen.ensures.steps in
-    ap (λ (v : View g.row.D.Denot). record old { store = v }) (steps x.0 x.1).0 ∙ c.self.view_is
+    ap (λ (v : View g.row.D.Denot). record old { store = v }) (steps x.0 x.1).0 ∙ c.self.view_is ∙ c.end_waits.ensures.same ∙ ap (λ (b : Bool). record c.args.self.now { ends_wait = b }) (sym (ap (λ (v : V). v.ends_wait) c.self.view_is))
 
 pub returns-in-Ok-NotOpen-clause-run : goal.returns-in-Ok-NotOpen-clause-run
 returns-in-Ok-NotOpen-clause-run g c tells o run =
     let V : Type 0 = RunView g.row.D.Denot g.row.W.Denot in
     let i = c.self.inside in
-    let old : V = record { plan = i.plan; options = i.options; store = i.store; sink = i.sink; sink_failed = i.sink_failed; fault = i.fault; tale = i.tale.items; begun = i.begun.items; known = option_map known_in i.replan } in
+    let old : V = record { plan = i.plan; options = i.options; store = i.store; sink = i.sink; sink_failed = i.sink_failed; fault = i.fault; tale = i.tale.items; begun = i.begun.items; restoring = i.restoring.items; ends_wait = i.ends_wait; known = option_map known_in i.replan } in
     let store = c.step_in.new.store in
-    let at = sym c.self.view_is in
+    let at = sym (c.self.view_is ∙ c.end_waits.ensures.same) in
     let runs = subst (λ (v : V). fate_at (fates_of v) c.args.task ≡ Running c.args.number) at c.requires.runs in
     let lt = subst (λ (n : ℕ). c.args.task < n) (count_told (length i.plan.tasks) i.tale.items) (running_within (fates_told (length i.plan.tasks) i.tale.items) c.args.task c.args.number runs) in
     let none = subst (λ (v : V). v.fault ≡ None) at c.requires.faultless in
     let x = signed_at i.store.rows i.plan.tasks c.args.task lt in
     let steps = subst (λ (st : Step). (s : Signed) → IsSignedAt i.store.rows i.plan.tasks c.args.task s → StepsTo i.store store s st) c.in-Ok-NotOpen.field-0-is c.in-Ok-NotOpen.ensures.steps in
-    subst (λ (v : V). IsRun o (seen g.D.Disk.story g.W.Sink.written v)) (sym (ap (λ (v : View g.row.D.Denot). record old { store = v }) (steps x.0 x.1).0 ∙ c.self.view_is)) run
+    subst (λ (v : V). IsRun o (seen g.D.Disk.story g.W.Sink.written v)) (sym (ap (λ (v : View g.row.D.Denot). record old { store = v }) (steps x.0 x.1).0 ∙ c.self.view_is ∙ c.end_waits.ensures.same)) run
 
 -- ---- more is left
 
@@ -185,9 +185,9 @@ pub returns-in-Ok-More-clause-run : goal.returns-in-Ok-More-clause-run
 returns-in-Ok-More-clause-run g c tells o run =
     let V : Type 0 = RunView g.row.D.Denot g.row.W.Denot in
     let i = c.self.inside in
-    let old : V = record { plan = i.plan; options = i.options; store = i.store; sink = i.sink; sink_failed = i.sink_failed; fault = i.fault; tale = i.tale.items; begun = i.begun.items; known = option_map known_in i.replan } in
+    let old : V = record { plan = i.plan; options = i.options; store = i.store; sink = i.sink; sink_failed = i.sink_failed; fault = i.fault; tale = i.tale.items; begun = i.begun.items; restoring = i.restoring.items; ends_wait = i.ends_wait; known = option_map known_in i.replan } in
     let store = c.step_in.new.store in
-    let at = sym c.self.view_is in
+    let at = sym (c.self.view_is ∙ c.end_waits.ensures.same) in
     let runs = subst (λ (v : V). fate_at (fates_of v) c.args.task ≡ Running c.args.number) at c.requires.runs in
     let lt = subst (λ (n : ℕ). c.args.task < n) (count_told (length i.plan.tasks) i.tale.items) (running_within (fates_told (length i.plan.tasks) i.tale.items) c.args.task c.args.number runs) in
     let none = subst (λ (v : V). v.fault ≡ None) at c.requires.faultless in
@@ -203,9 +203,9 @@ pub returns-in-Ok-Wait-clause-run : goal.returns-in-Ok-Wait-clause-run
 returns-in-Ok-Wait-clause-run g c tells o run =
     let V : Type 0 = RunView g.row.D.Denot g.row.W.Denot in
     let i = c.self.inside in
-    let old : V = record { plan = i.plan; options = i.options; store = i.store; sink = i.sink; sink_failed = i.sink_failed; fault = i.fault; tale = i.tale.items; begun = i.begun.items; known = option_map known_in i.replan } in
+    let old : V = record { plan = i.plan; options = i.options; store = i.store; sink = i.sink; sink_failed = i.sink_failed; fault = i.fault; tale = i.tale.items; begun = i.begun.items; restoring = i.restoring.items; ends_wait = i.ends_wait; known = option_map known_in i.replan } in
     let store = c.step_in.new.store in
-    let at = sym c.self.view_is in
+    let at = sym (c.self.view_is ∙ c.end_waits.ensures.same) in
     let runs = subst (λ (v : V). fate_at (fates_of v) c.args.task ≡ Running c.args.number) at c.requires.runs in
     let lt = subst (λ (n : ℕ). c.args.task < n) (count_told (length i.plan.tasks) i.tale.items) (running_within (fates_told (length i.plan.tasks) i.tale.items) c.args.task c.args.number runs) in
     let none = subst (λ (v : V). v.fault ≡ None) at c.requires.faultless in
@@ -223,9 +223,9 @@ pub returns-in-Ok-Done-clause-run : goal.returns-in-Ok-Done-clause-run
 returns-in-Ok-Done-clause-run g c tells o run =
     let V : Type 0 = RunView g.row.D.Denot g.row.W.Denot in
     let i = c.self.inside in
-    let old : V = record { plan = i.plan; options = i.options; store = i.store; sink = i.sink; sink_failed = i.sink_failed; fault = i.fault; tale = i.tale.items; begun = i.begun.items; known = option_map known_in i.replan } in
+    let old : V = record { plan = i.plan; options = i.options; store = i.store; sink = i.sink; sink_failed = i.sink_failed; fault = i.fault; tale = i.tale.items; begun = i.begun.items; restoring = i.restoring.items; ends_wait = i.ends_wait; known = option_map known_in i.replan } in
     let store = c.step_in.new.store in
-    let at = sym c.self.view_is in
+    let at = sym (c.self.view_is ∙ c.end_waits.ensures.same) in
     let runs = subst (λ (v : V). fate_at (fates_of v) c.args.task ≡ Running c.args.number) at c.requires.runs in
     let lt = subst (λ (n : ℕ). c.args.task < n) (count_told (length i.plan.tasks) i.tale.items) (running_within (fates_told (length i.plan.tasks) i.tale.items) c.args.task c.args.number runs) in
     let none = subst (λ (v : V). v.fault ≡ None) at c.requires.faultless in
@@ -252,9 +252,9 @@ pub returns-in-Err-Memory-clause-run : goal.returns-in-Err-Memory-clause-run
 returns-in-Err-Memory-clause-run g c tells o run =
     let V : Type 0 = RunView g.row.D.Denot g.row.W.Denot in
     let i = c.self.inside in
-    let old : V = record { plan = i.plan; options = i.options; store = i.store; sink = i.sink; sink_failed = i.sink_failed; fault = i.fault; tale = i.tale.items; begun = i.begun.items; known = option_map known_in i.replan } in
+    let old : V = record { plan = i.plan; options = i.options; store = i.store; sink = i.sink; sink_failed = i.sink_failed; fault = i.fault; tale = i.tale.items; begun = i.begun.items; restoring = i.restoring.items; ends_wait = i.ends_wait; known = option_map known_in i.replan } in
     let store = c.step_in.new.store in
-    let at = sym c.self.view_is in
+    let at = sym (c.self.view_is ∙ c.end_waits.ensures.same) in
     let runs = subst (λ (v : V). fate_at (fates_of v) c.args.task ≡ Running c.args.number) at c.requires.runs in
     let lt = subst (λ (n : ℕ). c.args.task < n) (count_told (length i.plan.tasks) i.tale.items) (running_within (fates_told (length i.plan.tasks) i.tale.items) c.args.task c.args.number runs) in
     let none = subst (λ (v : V). v.fault ≡ None) at c.requires.faultless in
@@ -274,9 +274,9 @@ pub returns-in-Err-clause-run : goal.returns-in-Err-clause-run
 returns-in-Err-clause-run g c tells o run =
     let V : Type 0 = RunView g.row.D.Denot g.row.W.Denot in
     let i = c.self.inside in
-    let old : V = record { plan = i.plan; options = i.options; store = i.store; sink = i.sink; sink_failed = i.sink_failed; fault = i.fault; tale = i.tale.items; begun = i.begun.items; known = option_map known_in i.replan } in
+    let old : V = record { plan = i.plan; options = i.options; store = i.store; sink = i.sink; sink_failed = i.sink_failed; fault = i.fault; tale = i.tale.items; begun = i.begun.items; restoring = i.restoring.items; ends_wait = i.ends_wait; known = option_map known_in i.replan } in
     let store = c.step_in.new.store in
-    let at = sym c.self.view_is in
+    let at = sym (c.self.view_is ∙ c.end_waits.ensures.same) in
     let runs = subst (λ (v : V). fate_at (fates_of v) c.args.task ≡ Running c.args.number) at c.requires.runs in
     let lt = subst (λ (n : ℕ). c.args.task < n) (count_told (length i.plan.tasks) i.tale.items) (running_within (fates_told (length i.plan.tasks) i.tale.items) c.args.task c.args.number runs) in
     let none = subst (λ (v : V). v.fault ≡ None) at c.requires.faultless in
@@ -291,3 +291,19 @@ returns-in-Err-clause-run g c tells o run =
     broken_seen g.D.Disk.story g.W.Sink.written o mid c.note-in-Err.new.self c.args.task c.args.number cuts.Fault c.note-in-Err.ensures.notes (c.note-in-Err.ensures.moment tells) c.note-in-Err.ensures.fault runs
     (spared_by (seen g.D.Disk.story g.W.Sink.written mid) c.args.number c.args.task cuts.Fault (λ e. cc) some)
     (subst (λ (f : Option RunFault). IsRun o (seen g.D.Disk.story g.W.Sink.written (record old { store = store; fault = f }))) (sym kept) made)
+
+-- ---- the end waits
+
+pub returns-then-end_waits-clause-ends : goal.returns-then-end_waits-clause-ends
+returns-then-end_waits-clause-ends g c =
+    let V : Type 0 = RunView g.row.D.Denot g.row.W.Denot in
+    let same = c.end_waits.ensures.same in
+    record { tale = ap (λ (v : V). v.tale) same; sound = c.requires.faultless; fault = ap (λ (v : V). v.fault) same ∙ c.requires.faultless }
+
+pub returns-then-end_waits-clause-run : goal.returns-then-end_waits-clause-run
+returns-then-end_waits-clause-run g c tells o run = c.end_waits.ensures.run tells o run
+
+pub end_waits-requires : goal.end_waits-requires
+end_waits-requires g c =
+    let v = c.args.self.now in
+    record { task = subst (λ (n : ℕ). c.args.task < n) (count_told (length v.plan.tasks) v.tale) (running_within (fates_told (length v.plan.tasks) v.tale) c.args.task c.args.number c.requires.runs) }

@@ -17,7 +17,7 @@ pub returns-clause-run : goal.returns-clause-run
 returns-clause-run g c tells o run =
     let V : Type 0 = RunView g.row.D.Denot g.row.W.Denot in
     let i = c.self.inside in
-    let old : V = record { plan = i.plan; options = i.options; store = i.store; sink = i.sink; sink_failed = i.sink_failed; fault = i.fault; tale = i.tale.items; begun = i.begun.items; known = option_map known_in i.replan } in
+    let old : V = record { plan = i.plan; options = i.options; store = i.store; sink = i.sink; sink_failed = i.sink_failed; fault = i.fault; tale = i.tale.items; begun = i.begun.items; restoring = i.restoring.items; ends_wait = i.ends_wait; known = option_map known_in i.replan } in
     let mid : V = record old { fault = c.keep.new.kept } in
     let at = sym c.self.view_is in
     let none = subst (λ (v : V). v.fault ≡ None) at c.requires.faultless in

@@ -80,5 +80,5 @@ returns-in_err-claim-clause-says g c =
 pub returns-clause-clean : goal.returns-clause-clean
 returns-clause-clean g c t u o is run =
     let old = seen g.D.Disk.story g.W.Sink.written c.self.inside.state in
-    hands o old g.K.Began.first c.in_ok-claim.field-0 (sym c.self.invariant.since.plan)
-    (subst (λ (r : Result Claim Mem). ClaimsClean o old r) (c.in_ok-claim.was) (c.claim-claim.ensures.clean t o (c.self.invariant.since.run t u o is run)))
+    hands o old g.K.Began.first c.in_ok-claim.field-0 (sym c.self.invariant.since.plan) c.self.inside.state.ends_wait
+    (subst (λ (r : Result Claim Mem). ClaimsClean o c.self.inside.state.ends_wait old r) (c.in_ok-claim.was) (c.claim-claim.ensures.clean t o (c.self.invariant.since.run t u o is run)))

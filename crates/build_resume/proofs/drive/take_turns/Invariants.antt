@@ -9,7 +9,7 @@ use Rattle.run_queue.specs.Keeps.{IsRun, IsSteady, Prints}
 use Rattle.run_queue.specs.Turns.{SameRun, fates_of}
 use Rattle.run_model.specs.Runs.{Runs}
 use Rattle.build_resume.specs.Drive.{Broken, Drove, Grows, RanSaid, left_over}
-use Rattle.build_resume.proofs.drive.drive.Given as goal
+use Rattle.build_resume.proofs.drive.take_turns.Given as goal
 
 abbrev pub invariant-loop-halt : goal.invariant-loop-halt
 invariant-loop-halt g l = record {

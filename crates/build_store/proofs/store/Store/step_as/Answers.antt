@@ -1,10 +1,11 @@
 use Rattle.std.proofs.Common.{refl}
 use Rattle.std.proofs.lemmas.Bool.{false≢true}
 use Rattle.build_store.specs.Publication.{publication}
-use Rattle.build_store.specs.View.{signed_by}
+use Rattle.build_store.specs.View.{signed_as}
 use Rattle.build_store.proofs.Invariant.{keys_published}
 use Rattle.build_store.proofs.KnownKeys.{open_held}
-use Rattle.build_store.proofs.store.Store.publish_step.Goals as goal
+use Rattle.build_store.proofs.Shared.{named_as}
+use Rattle.build_store.proofs.store.Store.step_as.Goals as goal
 
 pub returns-in-Ok-clause-steps : goal.returns-in-Ok-clause-steps
 returns-in-Ok-clause-steps g c = rw (← c.self.view_is) (c.in-Ok.ensures.steps c.self.inside.keys c.self.inside.faultless)
@@ -27,7 +28,7 @@ invariant_of-self g c =
       λ told faultless. c.in-Ok.ensures.tidy told (c.self.invariant.4 told faultless),
       known.0,
       known.1,
-      λ told. keys_published c.self.inside.keys (publication c.self.inside.index (signed_by c.args.task.now c.args.sig.now) open_one.0) (g.D.Disk.story c.self.inside.disk) (g.D.Disk.story c.step_at-done.new.disk) refl
+      λ told. keys_published c.self.inside.keys (publication c.self.inside.index (signed_as c.args.shared c.args.task.now c.args.sig.now) open_one.0) (g.D.Disk.story c.self.inside.disk) (g.D.Disk.story c.step_at-done.new.disk) refl
           (c.step_at-done.ensures.publishing told open_one.0 open_one.1) (c.self.invariant.7 told),
     )
 
@@ -42,6 +43,9 @@ invariant_of-self-in-Err g c =
       λ told faultless. absurd (false≢true faultless),
       known.0,
       known.1,
-      λ told. keys_published c.self.inside.keys (publication c.self.inside.index (signed_by c.args.task.now c.args.sig.now) open_one.0) (g.D.Disk.story c.self.inside.disk) (g.D.Disk.story c.step_at-done.new.disk) refl
+      λ told. keys_published c.self.inside.keys (publication c.self.inside.index (signed_as c.args.shared c.args.task.now c.args.sig.now) open_one.0) (g.D.Disk.story c.self.inside.disk) (g.D.Disk.story c.step_at-done.new.disk) refl
           (c.step_at-done.ensures.publishing told open_one.0 open_one.1) (c.self.invariant.7 told),
     )
+
+pub step_at-done-requires-clause-named : goal.step_at-done-requires-clause-named
+step_at-done-requires-clause-named g c = named_as c.args.shared c.args.task.now c.args.sig.now c.requires.named
