@@ -133,5 +133,6 @@ pub fn fault_text(alloc: Global, status: &Status) -> Result<Text, Mem>
         Status::Unsteady { pn, task, .. } => unsteady_line(alloc, pn.as_str(), task.as_str()),
         Status::Limit { kind } => limit_line(alloc, kind.as_str()),
         Status::OutOfMemory => Text::from_str(alloc, "fault 11 memory\n"),
+        Status::MirrorFault => Text::from_str(alloc, "fault 12 mirror\n"),
     }
 }

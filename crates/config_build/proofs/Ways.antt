@@ -91,6 +91,7 @@ wider_disk mine now start bench sink (status.Collision name held given) since en
 wider_disk mine now start bench sink (status.Unsteady pn task held given) since ends = ends
 wider_disk mine now start bench sink (status.Limit kind) since ends = ends
 wider_disk mine now start bench sink status.OutOfMemory since ends = ends
+wider_disk mine now start bench sink status.MirrorFault since ends = ends
 
 pub went_on : (prefix : List ℕ) (start now sub : Story) (P : Story → Type 0) → GoesOn prefix start now sub → P sub → WentOn prefix start now P
 went_on prefix start now sub P goes kept = record { sub = sub; goes_on = goes; kept = kept }

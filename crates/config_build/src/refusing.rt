@@ -1,11 +1,13 @@
-// How a run ends whose store can't be brought to the present format of records.
-ghost use Rattle.std.specs.Prelude.{◌≡◌, ◌≢◌, ◌↔◌, IfOk, true};
+// How a run ends whose store can't be brought to the present format of records, or to which records of a mirror can't come.
+ghost use Rattle.std.specs.Prelude.{◌≡◌, ◌≢◌, ◌↔◌, ◌⊎◌, IfOk, true};
 ghost use Rattle.build_resume.specs.Build.{is_collision};
 ghost use Rattle.store_upgrade.specs.Faults.{is_the_disks};
+ghost use Rattle.config_build.specs.Bringing.{IsStatusOf};
 
 use meta_model::Status;
 use outside_traits::DiskFault;
 use record_move::MoveFault;
+use sstate_mirror::BringFault;
 use std::alloc::Global;
 use store_model::SigText;
 use store_opening::same_bytes;
@@ -52,5 +54,39 @@ pub fn status_of_upgrade(alloc: Global, fault: UpgradeFault) -> Status
                 Err(_) => Status::OutOfMemory,
             }
         }
+    }
+}
+
+/// The status of two signatures of one name, or that memory was wanting to tell them apart.
+fn status_apart(alloc: Global, name: Hash, held: &SigText, given: &SigText) -> Status
+    ensures { (is_collision result ≡ true) ⊎ (result ≡ Status.OutOfMemory) }
+{
+    match told_apart(alloc, name, held, given) {
+        Ok(status) => status,
+        Err(_) => Status::OutOfMemory,
+    }
+}
+
+/// The status of a run to whose store the records of a mirror can't come.
+pub fn status_of_bringing(alloc: Global, fault: BringFault) -> Status
+    ensures { IsStatusOf fault result }
+{
+    match fault {
+        BringFault::Mirror => Status::MirrorFault,
+        BringFault::Disk => Status::DiskFault,
+        BringFault::Collision { name, held, given } => status_apart(alloc, name, &held, &given),
+        BringFault::KeyCollision { name, held, given } => Status::Collision { name, held, given },
+        BringFault::Differs {
+            pn,
+            task,
+            held,
+            given,
+        } => Status::Unsteady {
+            pn,
+            task,
+            held,
+            given,
+        },
+        BringFault::Memory => Status::OutOfMemory,
     }
 }

@@ -106,6 +106,8 @@ pub enum Status {
     },
     /// Memory was wanting.
     OutOfMemory,
+    /// The mirror of shared state failed.
+    MirrorFault,
 }
 
 impl Status {
@@ -129,6 +131,7 @@ impl Status {
             Status::Unsteady { .. } => 9,
             Status::Limit { .. } => 10,
             Status::OutOfMemory => 11,
+            Status::MirrorFault => 12,
         }
     }
 }

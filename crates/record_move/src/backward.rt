@@ -28,7 +28,7 @@ fn note_deps(noted: &mut IndexMap<[u8; 32], bool>, deps: &[DepLine]) -> Result<(
 }
 
 /// Notes the names that a record has.
-fn note_names(noted: &mut IndexMap<[u8; 32], bool>, stored: &StoredSig) -> Result<(), Mem>
+pub fn note_names(noted: &mut IndexMap<[u8; 32], bool>, stored: &StoredSig) -> Result<(), Mem>
     ensures { OnOk result ((q : AHash) → is_some (value_at noted.new.entries q)
         ≡ (is_some (value_at noted.old.entries q) || names q stored.now)) }
 {

@@ -33,7 +33,7 @@ mod records;
 mod renaming;
 mod rounds;
 
-pub use backward::wanted;
+pub use backward::{note_names, wanted};
 pub use examples::example_of_a_move;
 pub use fault::MoveFault;
 pub use keys::KnownKeys;

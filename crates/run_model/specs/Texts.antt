@@ -5,7 +5,7 @@ use Rattle.std.specs.Fmt.{decimal}
 use Rattle.tree_model.specs.Hash.{hash_text}
 use Rattle.tree_model.specs.declared.hash.Hash.{Hash}
 use Rattle.meta_model.specs.declared.event.Status.{Status}
-use Rattle.meta_model.specs.declared.event.Status.TheVariants.{Ok, TaskFailed, Usage, Metadata, DiskFault, BenchFault, ReadFault, WriteFault, Collision, Unsteady, Limit, OutOfMemory}
+use Rattle.meta_model.specs.declared.event.Status.TheVariants.{Ok, TaskFailed, Usage, Metadata, DiskFault, BenchFault, ReadFault, WriteFault, Collision, Unsteady, Limit, OutOfMemory, MirrorFault}
 use Rattle.meta_model.specs.declared.facts.RecipeFacts.{RecipeFacts}
 use Rattle.meta_model.specs.declared.facts.TaskId.{TaskId}
 use Rattle.meta_model.specs.declared.plan.Plan.{Plan}
@@ -113,3 +113,4 @@ fault_text (Collision name held given) = collision_line name
 fault_text (Unsteady pn task held given) = unsteady_line pn task
 fault_text (Limit kind) = limit_line kind
 fault_text OutOfMemory = codes "fault 11 memory\n"
+fault_text MirrorFault = codes "fault 12 mirror\n"

@@ -16,13 +16,13 @@ use store_opening::remove_all;
 use tree_model::{Entry, Text};
 
 /// A digest that is held has 32 bytes.
-pub(crate) fn known(bytes: [u8; 32])
+pub fn known(bytes: [u8; 32])
     ensures size { length bytes ≡ 32 }
     ensures bytes { IsBytes bytes }
 {}
 
 /// Makes all that is held durable.
-pub(crate) fn sync<D: Disk>(disk: &mut D) -> Result<(), DiskFault>
+pub fn sync<D: Disk>(disk: &mut D) -> Result<(), DiskFault>
     ensures durable { D.tells → OnOk result (EachNow (D.story disk.new) (λ image. image ≡ (D.story disk.new).held)) }
     ensures same { D.tells → Passes (D.story disk.old) (D.story disk.new) Same }
     ensures cause { Counts (D.faults disk.old) (D.faults disk.new) (disk_failed result) }
@@ -31,7 +31,7 @@ pub(crate) fn sync<D: Disk>(disk: &mut D) -> Result<(), DiskFault>
 }
 
 /// Writes an entry to a path.
-pub(crate) fn write<D: Disk>(disk: &mut D, path: &str, entry: &Entry) -> Result<(), DiskFault>
+pub fn write<D: Disk>(disk: &mut D, path: &str, entry: &Entry) -> Result<(), DiskFault>
     requires clean { IsClean path.now }
     requires within_reach { length path.now ≤ D.reach }
     requires free { D.tells → IsFree (D.story disk.old).held path.now }
@@ -43,7 +43,7 @@ pub(crate) fn write<D: Disk>(disk: &mut D, path: &str, entry: &Entry) -> Result<
 }
 
 /// Renames what a path holds, where it holds something.
-pub(crate) fn put_staged<D: Disk>(
+pub fn put_staged<D: Disk>(
     alloc: Global,
     disk: &mut D,
     from: &str,

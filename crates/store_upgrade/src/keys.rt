@@ -71,7 +71,7 @@ fn put_key<D: Disk>(alloc: Global, disk: &mut D, added: &AddedRecord) -> Result<
 }
 
 /// Writes the keys of these records to their places, but for those that are held there.
-pub(crate) fn put_keys<D: Disk>(
+pub fn put_keys<D: Disk>(
     alloc: Global,
     disk: &mut D,
     added: &[AddedRecord],

@@ -12,7 +12,7 @@
 //! Where `format` says so, nothing of the first format counts any more: what is at `rec` and under it goes, and nothing else is touched.
 //!
 //! A move that was stopped goes on: what stands in the present format already is the start of the next one, and objects and keys that are right aren't
-//! written again. Old objects stay. (Own rules: no part of the BitBake User Manual.)
+//! written again. Old objects stay. The steps that write keys and records are public: a mirror brings records by them, too. (Own rules: no part of the BitBake User Manual.)
 #![tactic(auto)]
 
 mod calls;
@@ -28,6 +28,9 @@ mod records;
 mod stamps;
 mod text;
 
+pub use calls::{known, put_staged, sync, write};
 pub use fault::UpgradeFault;
+pub use keys::put_keys;
 pub use laws::upgraded_is_available;
 pub use moving::upgrade;
+pub use records::{put_rounds, stage_records};

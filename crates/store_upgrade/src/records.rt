@@ -47,7 +47,7 @@ fn stage_record<D: Disk>(alloc: Global, disk: &mut D, added: &AddedRecord) -> Re
 }
 
 /// Writes records where they are written first. They are to be synced before they are put.
-pub(crate) fn stage_records<D: Disk>(
+pub fn stage_records<D: Disk>(
     alloc: Global,
     disk: &mut D,
     added: &[AddedRecord],
@@ -165,7 +165,7 @@ fn last_round(added: &[AddedRecord]) -> usize
 }
 
 /// Renames records to their places round by round, and syncs behind each. They are synced where they were written first.
-pub(crate) fn put_rounds<D: Disk>(
+pub fn put_rounds<D: Disk>(
     alloc: Global,
     disk: &mut D,
     added: &[AddedRecord],

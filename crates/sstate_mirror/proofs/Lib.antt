@@ -1,0 +1,12 @@
+pub mod Gathered
+pub mod Titled
+pub mod Copied
+pub mod Written
+pub mod Judged
+pub mod Paired
+pub mod Ready
+pub mod Moments
+pub mod Done
+pub mod Refused
+pub mod Counted
+pub mod Coming

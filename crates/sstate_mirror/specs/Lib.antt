@@ -1,0 +1,9 @@
+pub mod Faults
+pub mod Wanted
+pub mod Titles
+pub mod Brought
+pub mod Copying
+pub mod Steps
+pub mod Refusals
+pub mod Laws
+pub mod OnTheWay
